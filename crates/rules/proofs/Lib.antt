@@ -1,0 +1,5 @@
+-- The laws of the rules.
+pub mod Bools
+pub mod Bits
+pub mod Blocks
+pub mod Starred

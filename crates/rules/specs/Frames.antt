@@ -1,0 +1,86 @@
+-- 01, Frames: the table, a row for each opcode, and the addresses.
+use Prim.Native.Nat.{ℕ, _+_, _*_, _%_, _^_}
+use mathlib.Core.Bool.{Bool, true, false, not, _&&_, _||_}
+use mathlib.Core.List.{List, [], _∷_}
+use lib.Dec.{eqb, ltb}
+use lib.ListN.{getD}
+use Rattle.rules.specs.declared.Source.{Source}
+use Rattle.rules.specs.declared.Long.{Long}
+use Rattle.rules.specs.declared.Kind.{Kind}
+use Rattle.rules.specs.declared.Kind.the-variants.{Nothing, EnableReset, Reset, ToSqi, ToSpi, Show, SetWel, ClearWel, Begin, WriteProtection, LockDown, ClearLocks, Suspend, Resume}
+use Rattle.rules.specs.declared.Form.{Form}
+use Rattle.rules.specs.Words.{pick}
+use Rattle.rules.specs.Blocks.{arraySize, securitySize}
+
+pub record Row : Type 0 where
+  pub opcode : ℕ
+  pub form : Form
+
+-- opcode, kind, length in SPI, length in SQI; 0: not in this protocol
+abbrev pub row : ℕ → Kind → ℕ → ℕ → Row
+row o k p q = record { opcode = o; form = record { kind = k; spi = p; sqi = q; more = false } }
+
+-- the same, with "or more"
+abbrev pub rowOrMore : ℕ → Kind → ℕ → ℕ → Row
+rowOrMore o k p q = record { opcode = o; form = record { kind = k; spi = p; sqi = q; more = true } }
+
+unfoldable pub frames : List Row
+frames =
+    row 0x00 Nothing 1 1
+    ∷ row 0x66 EnableReset 1 1 ∷ row 0x99 Reset 1 1
+    ∷ row 0x38 ToSqi 1 0
+    ∷ row 0xFF ToSpi 1 1
+    ∷ row 0x05 (Show Source.Status) 1 2 ∷ row 0x35 (Show Source.Configuration) 1 2 ∷ row 0x72 (Show Source.Protection) 1 2
+    ∷ row 0x9F (Show Source.Identity) 1 0
+    ∷ row 0xAF (Show Source.Identity) 0 2
+    ∷ row 0x03 (Show Source.Array) 4 0
+    ∷ row 0x0B (Show Source.Array) 5 7
+    ∷ row 0x6B (Show Source.Array) 5 0
+    ∷ row 0x88 (Show Source.Security) 4 6
+    ∷ row 0x06 SetWel 1 1 ∷ row 0x04 ClearWel 1 1
+    ∷ row 0x20 (Begin Long.Sector) 4 4 ∷ row 0xD8 (Begin Long.Block) 4 4
+    ∷ row 0xC7 (Begin Long.Array) 1 1
+    ∷ rowOrMore 0x02 (Begin Long.Page) 5 5
+    ∷ rowOrMore 0x32 (Begin Long.Page) 5 0
+    ∷ rowOrMore 0xA5 (Begin Long.SecurityPage) 4 4
+    ∷ row 0x85 (Begin Long.SecurityLock) 1 1
+    ∷ row 0x01 (Begin Long.Configuration) 3 3
+    ∷ row 0x42 WriteProtection 7 7 ∷ row 0xE8 (Begin Long.Permanent) 7 7
+    ∷ row 0x8D LockDown 1 1 ∷ row 0x98 ClearLocks 1 1
+    ∷ row 0xB0 Suspend 1 1 ∷ row 0x30 Resume 1 1
+    ∷ []
+
+-- the form of an opcode; in no protocol where it is not listed
+unfoldable pub find : List Row → ℕ → Form
+find [] o = record { kind = Nothing; spi = 0; sqi = 0; more = false }
+find (r ∷ rs) o = pick (eqb o (r .opcode)) (r .form) (find rs o)
+
+unfoldable pub formOf : ℕ → Form
+formOf o = find frames o
+
+-- the length in the protocol in force, 0 where the opcode is not in it
+abbrev pub leastLength : Bool → Form → ℕ
+leastLength true f = f .sqi
+leastLength false f = f .spi
+
+abbrev pub listed : Bool → Form → Bool
+listed q f = not (eqb (leastLength q f) 0)
+
+abbrev pub lengthRight : Bool → Form → ℕ → Bool
+lengthRight q f n = eqb n (leastLength q f) || (f .more && ltb (leastLength q f) n)
+
+-- the first byte
+abbrev pub opcode : List ℕ → ℕ
+opcode sent = getD sent 0 0
+
+abbrev pub address : List ℕ → ℕ
+address sent = (getD sent 1 0 * 0x10000 + getD sent 2 0 * 0x100 + getD sent 3 0) % arraySize
+
+abbrev pub securityAddress : List ℕ → ℕ
+securityAddress sent = (getD sent 1 0 * 0x100 + getD sent 2 0) % securitySize
+
+-- a register's six bytes, highest first
+abbrev pub six : List ℕ → ℕ
+six sent =
+    getD sent 1 0 * 2 ^ 40 + getD sent 2 0 * 2 ^ 32 + getD sent 3 0 * 2 ^ 24 + getD sent 4 0 * 2 ^ 16 + getD sent 5 0 * 2 ^ 8
+    + getD sent 6 0

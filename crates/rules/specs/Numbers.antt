@@ -1,0 +1,157 @@
+-- 01, Numbers the bench gives back: the conditions, each from its row, and the order in which they are tested.
+use Prim.Native.Nat.{ℕ, _+_, _*_, _/_}
+use mathlib.Core.Bool.{Bool, true, false, not, _&&_, _||_}
+use mathlib.Core.List.{List, [], _∷_}
+use lib.Dec.{eqb, ltb, leb}
+use lib.ListN.{length}
+use lib.Bits.{bitAnd}
+use Rattle.rules.specs.declared.Chip.{Chip}
+use Rattle.rules.specs.declared.Refusal.{Refusal}
+use Rattle.rules.specs.declared.Answer.{Answer}
+use Rattle.rules.specs.Words.{pick, oneOf, range, holds, Lent}
+use Rattle.rules.specs.Blocks.{arraySize, securitySize, blockOf, blockAt, span, writeLocked, writeLocks}
+use Rattle.rules.specs.Works.{isNothing, canSuspend, arrayRange}
+use Rattle.rules.specs.Registers.{busy, wse, wsp}
+use Rattle.rules.specs.Frames.{formOf, listed, lengthRight, opcode, address}
+use Rattle.rules.specs.Programs.{reachesFirst}
+use Rattle.rules.specs.WellFormed.{wellFormed}
+
+-- ---- the answer's number
+
+abbrev pub refusalNumber : Refusal → ℕ
+refusalNumber Refusal.Malformed = 1
+refusalNumber Refusal.Empty = 2
+refusalNumber Refusal.NotListed = 3
+refusalNumber Refusal.WrongLength = 4
+refusalNumber Refusal.Busy = 5
+refusalNumber Refusal.NoEnable = 6
+refusalNumber Refusal.NoIoc = 7
+refusalNumber Refusal.Suspension = 8
+refusalNumber Refusal.NoWel = 9
+refusalNumber Refusal.Closed = 10
+refusalNumber Refusal.WriteLocked = 11
+refusalNumber Refusal.NothingRuns = 12
+
+abbrev pub answerNumber : Answer → ℕ
+answerNumber Answer.Done = 0
+answerNumber (Answer.Refused r) = refusalNumber r
+
+-- ---- what an event finds, and what a frame carries
+
+pub record State : Type 0 where
+  pub chip : Chip
+  pub array : Lent
+  pub security : Lent
+
+pub record Frame : Type 0 where
+  pub sent : List ℕ
+  pub reply : Lent
+  pub marks : Lent
+
+-- ---- the conditions, those of a frame by its opcode o
+
+-- 1: record not well-formed, or a length outside "Sizes"
+abbrev pub stateRight : State → Bool
+stateRight s = wellFormed (s .chip) && eqb (s .array .size) arraySize && eqb (s .security .size) securitySize
+
+abbrev pub frameRight : Frame → Bool
+frameRight f = leb (length (f .sent)) 65536 && leb (f .reply .size) 65536 && eqb (f .reply .size) (f .marks .size)
+
+abbrev pub malformed : State → Frame → Bool
+malformed s f = not (stateRight s && frameRight f)
+
+-- 2: frame empty
+abbrev pub emptyFrame : List ℕ → Bool
+emptyFrame sent = eqb (length sent) 0
+
+-- 3: opcode not listed, or not in this protocol
+abbrev pub notListed : Chip → ℕ → Bool
+notListed c o = not (listed (c .sqi) (formOf o))
+
+-- 4: length not as listed
+abbrev pub wrongLength : Chip → ℕ → List ℕ → Bool
+wrongLength c o sent = not (lengthRight (c .sqi) (formOf o) (length sent))
+
+-- 5: BUSY, and opcode not 05, 66, 99, B0
+abbrev pub whileBusy : Chip → ℕ → Bool
+whileBusy c o = busy c && not (oneOf o (0x05 ∷ 0x66 ∷ 0x99 ∷ 0xB0 ∷ []))
+
+-- 6: 99 with no enable
+abbrev pub noEnable : Chip → ℕ → Bool
+noEnable c o = oneOf o (0x99 ∷ []) && not (c .enable)
+
+-- 7: 6B or 32 with IOC 0
+abbrev pub noIoc : Chip → ℕ → Bool
+noIoc c o = oneOf o (0x6B ∷ 0x32 ∷ []) && not (c .ioc)
+
+-- 8, its five parts in their order
+abbrev pub suspension : Chip → ℕ → List ℕ → Bool
+suspension c o sent =
+    oneOf o (0xB0 ∷ []) && not (canSuspend (c .running) && isNothing (c .suspended))
+    || oneOf o (0x30 ∷ []) && isNothing (c .suspended)
+    || oneOf o (0xC7 ∷ 0x01 ∷ 0x42 ∷ 0x8D ∷ 0xE8 ∷ 0x98 ∷ 0xA5 ∷ 0x85 ∷ []) && not (isNothing (c .suspended))
+    || wse c
+       && (oneOf o (0x20 ∷ 0xD8 ∷ [])
+           || oneOf o (0x02 ∷ 0x32 ∷ []) && holds (arrayRange (c .suspended)) (address sent))
+    || wsp c
+       && (oneOf o (0x02 ∷ 0x32 ∷ [])
+           || oneOf o (0x20 ∷ []) && holds (range (address sent / 4096 * 4096) 4096) (arrayRange (c .suspended) .start)
+           || oneOf o (0xD8 ∷ []) && holds (span (blockAt (blockOf (address sent)))) (arrayRange (c .suspended) .start))
+
+-- 9: WEL needed and 0
+abbrev pub noWel : Chip → ℕ → Bool
+noWel c o =
+    oneOf o (0x20 ∷ 0xD8 ∷ 0xC7 ∷ 0x02 ∷ 0x32 ∷ 0xA5 ∷ 0x85 ∷ 0x01 ∷ 0xE8 ∷ 0x42 ∷ 0x8D ∷ 0x98 ∷ []) && not (c .wel)
+
+-- 10: 42 or 98 with WPLD 1; A5 or 85 with SEC 1; A5 that sends a byte to places 0 to 7
+abbrev pub closed : Chip → ℕ → List ℕ → Bool
+closed c o sent =
+    oneOf o (0x42 ∷ 0x98 ∷ []) && c .wpld
+    || oneOf o (0xA5 ∷ 0x85 ∷ []) && c .sec
+    || oneOf o (0xA5 ∷ []) && reachesFirst sent
+
+-- 11: 20, D8, 02, 32 in a write-locked block; C7 with a write lock set
+abbrev pub lockedTarget : Chip → ℕ → List ℕ → Bool
+lockedTarget c o sent =
+    oneOf o (0x20 ∷ 0xD8 ∷ 0x02 ∷ 0x32 ∷ []) && writeLocked (c .protection) (address sent)
+    || oneOf o (0xC7 ∷ []) && not (eqb (bitAnd (c .protection) writeLocks) 0)
+
+-- 12: completion with nothing running
+abbrev pub nothingRuns : Chip → Bool
+nothingRuns c = isNothing (c .running)
+
+-- ---- the order
+
+-- a number and its condition
+pub record Test : Type 0 where
+  pub number : ℕ
+  pub applies : Bool
+
+abbrev pub test : ℕ → Bool → Test
+test n b = record { number = n; applies = b }
+
+-- the number of the first test whose condition holds, 0 where none does
+abbrev pub first : List Test → ℕ
+first [] = 0
+first (t ∷ ts) = pick (t .applies) (t .number) (first ts)
+
+unfoldable pub frameTests : State → Frame → List Test
+frameTests s f =
+    test 1 (malformed s f)
+    ∷ test 2 (emptyFrame (f .sent))
+    ∷ test 3 (notListed (s .chip) (opcode (f .sent)))
+    ∷ test 4 (wrongLength (s .chip) (opcode (f .sent)) (f .sent))
+    ∷ test 5 (whileBusy (s .chip) (opcode (f .sent)))
+    ∷ test 6 (noEnable (s .chip) (opcode (f .sent)))
+    ∷ test 7 (noIoc (s .chip) (opcode (f .sent)))
+    ∷ test 8 (suspension (s .chip) (opcode (f .sent)) (f .sent))
+    ∷ test 9 (noWel (s .chip) (opcode (f .sent)))
+    ∷ test 10 (closed (s .chip) (opcode (f .sent)) (f .sent))
+    ∷ test 11 (lockedTarget (s .chip) (opcode (f .sent)) (f .sent))
+    ∷ []
+
+unfoldable pub completionTests : State → List Test
+completionTests s = test 1 (not (stateRight s)) ∷ test 12 (nothingRuns (s .chip)) ∷ []
+
+unfoldable pub cutTests : State → List Test
+cutTests s = test 1 (not (stateRight s)) ∷ []

@@ -1,0 +1,123 @@
+// The declared types of the bench chip: what every crate of the repository uses. Their meaning is in specs/.
+
+// An internal operation that runs or is suspended, with what it needs until it ends.
+// Sectors, blocks and pages are given by number: a block by its place in document 01's table, counted from 0.
+pub enum Work {
+    Nothing,
+    EraseSector(usize),
+    EraseBlock(usize),
+    EraseArray,
+    ProgramPage(usize),
+    ProgramSecurity(usize),
+    LockSecurity,
+    // IOC and WPEN
+    WriteConfiguration(bool, bool),
+    // the 48 bits that E8 sent
+    AddPermanent(u64),
+}
+
+// The chip record.
+pub struct Chip {
+    pub buffer: [u8; 256],
+    pub protection: u64,
+    pub permanent: u64,
+    pub running: Work,
+    pub suspended: Work,
+    pub sqi: bool,
+    pub wel: bool,
+    pub ioc: bool,
+    pub wpen: bool,
+    pub wpld: bool,
+    pub sec: bool,
+    // a 99 is taken next
+    pub enable: bool,
+}
+
+// Why an event is refused: document 01's list, in its order.
+pub enum Refusal {
+    Malformed,
+    Empty,
+    NotListed,
+    WrongLength,
+    Busy,
+    NoEnable,
+    NoIoc,
+    Suspension,
+    NoWel,
+    Closed,
+    WriteLocked,
+    NothingRuns,
+}
+
+pub enum Answer {
+    Done,
+    Refused(Refusal),
+}
+
+// What a reading frame gives.
+pub enum Source {
+    Status,
+    Configuration,
+    Protection,
+    Identity,
+    Array,
+    Security,
+}
+
+// A command that runs until completion.
+pub enum Long {
+    Sector,
+    Block,
+    Array,
+    Page,
+    SecurityPage,
+    SecurityLock,
+    Configuration,
+    Permanent,
+}
+
+// What an opcode asks for.
+pub enum Kind {
+    Nothing,
+    EnableReset,
+    Reset,
+    ToSqi,
+    ToSpi,
+    Show(Source),
+    SetWel,
+    ClearWel,
+    Begin(Long),
+    WriteProtection,
+    LockDown,
+    ClearLocks,
+    Suspend,
+    Resume,
+}
+
+// The form of an opcode's frames: its length in each protocol (0: not in that protocol), and whether more bytes may follow.
+pub struct Form {
+    pub kind: Kind,
+    pub spi: usize,
+    pub sqi: usize,
+    pub more: bool,
+}
+
+// A protection block: its places, its write-lock bit, and whether the bit above that is its read lock.
+pub struct Block {
+    pub start: usize,
+    pub size: usize,
+    pub write: u32,
+    pub paired: bool,
+}
+
+// Places from start on.
+pub struct Range {
+    pub start: usize,
+    pub size: usize,
+}
+
+// A byte of a reply and its mark.
+pub struct Cell {
+    pub byte: u8,
+    pub mark: u8,
+}
