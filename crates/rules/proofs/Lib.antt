@@ -2,4 +2,5 @@
 pub mod Bools
 pub mod Bits
 pub mod Blocks
+pub mod Numbers
 pub mod Starred

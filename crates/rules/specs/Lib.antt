@@ -9,5 +9,6 @@ pub mod Programs
 pub mod Commands
 pub mod WellFormed
 pub mod Numbers
+pub mod Given
 pub mod Machine
 pub mod Starred
