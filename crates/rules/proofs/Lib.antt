@@ -3,4 +3,7 @@ pub mod Bools
 pub mod Bits
 pub mod Blocks
 pub mod Numbers
+pub mod Rows
+pub mod Locks
+pub mod WellFormed
 pub mod Starred

@@ -1,0 +1,30 @@
+-- What holds of each row of the table of frames holds of each listed opcode. Assumes nothing.
+use Prim.Native.Nat.{ℕ}
+use mathlib.Core.Path.{_≡_, refl, sym, subst}
+use mathlib.Core.Bool.{Bool, true, false, false≢true}
+use mathlib.Core.List.{List, [], _∷_}
+use lib.Dec.{eqb}
+use borrow.Author.Tests.{eqb-true}
+use Rattle.rules.specs.declared.Form.{Form}
+use Rattle.rules.specs.declared.Kind.{Kind}
+use Rattle.rules.specs.Words.{pick}
+use Rattle.rules.specs.Frames.{Row, frames, find, formOf, listed}
+
+abbrev pub EachRow : (ℕ → Kind → Type 0) → List Row → Type 0
+EachRow P [] = Unit {0}
+EachRow P (r ∷ rs) = P (r .opcode) (r .form .kind) × EachRow P rs
+
+by-find : (P : ℕ → Kind → Type 0) (rs : List Row) → EachRow P rs → (q : Bool) (o : ℕ) → listed q (find rs o) ≡ true → P o (find rs o .kind)
+unfolding find
+by-find P [] h true o e = absurd (false≢true e)
+by-find P [] h false o e = absurd (false≢true e)
+by-find P (r ∷ rs) h q o e = go (eqb o (r .opcode)) refl e (by-find P rs (h .1) q o)
+  where
+    go : (b : Bool) → eqb o (r .opcode) ≡ b → listed q (pick b (r .form) (find rs o)) ≡ true → (listed q (find rs o) ≡ true → P o (find rs o .kind))
+        → P o (pick b (r .form) (find rs o) .kind)
+    go true t k ih = subst (λ (x : ℕ). P x (r .form .kind)) (sym (eqb-true o (r .opcode) t)) (h .0)
+    go false t k ih = ih k
+
+pub by-rows : (P : ℕ → Kind → Type 0) → EachRow P frames → (q : Bool) (o : ℕ) → listed q (formOf o) ≡ true → P o (formOf o .kind)
+unfolding formOf
+by-rows P h q o e = by-find P frames h q o e

@@ -1,0 +1,462 @@
+-- Every event keeps a record well-formed. Assumes nothing.
+use Prim.Native.Nat.{ℕ, zero, suc, _+_, _*_, _/_, _%_, _^_, _≤_, _<_, min, max}
+use mathlib.Core.Path.{_≡_, refl, sym, ap, _∙_, subst}
+use mathlib.Core.Bool.{Bool, true, false, not, _&&_, _||_, true≢false, false≢true}
+use mathlib.Core.List.{List, [], _∷_}
+use native.Mathlib.Omega.{arith}
+use lib.Dec.{eqb, ltb, leb}
+use lib.ListN.{length, getD, take, drop, set}
+use lib.Seq.{take-set-le}
+use lib.Bits.{bitAnd, bitOr}
+use borrow.Author.Tests.{eqb-true, ltb-true, ltb-false, lt-ltb, not-true, not-false}
+use Rattle.rules.specs.declared.Chip.{Chip}
+use Rattle.rules.specs.declared.Kind.{Kind}
+use Rattle.rules.specs.declared.Long.{Long}
+use Rattle.rules.specs.declared.Range.{Range}
+use Rattle.rules.specs.declared.Work.{Work}
+use Rattle.rules.specs.declared.Work.the-variants.{Nothing, EraseSector, EraseBlock, EraseArray, ProgramPage, ProgramSecurity, LockSecurity, WriteConfiguration, AddPermanent}
+use Rattle.rules.specs.Words.{bit, pick, every, range, holds, overlap}
+use Rattle.rules.specs.Blocks.{arraySize, span, blockOf, blockAt, writeLocked, unlocked, readLocks, allLocks, writeLocks, powerUpLocks}
+use Rattle.rules.specs.Works.{isNothing, isErase, isProgram, canSuspend, arrayRange}
+use Rattle.rules.specs.Registers.{busy}
+use Rattle.rules.specs.Frames.{frames, formOf, opcode, address, securityAddress, six}
+use Rattle.rules.specs.Programs.{blank, fill, securityBuffer, reaches, reachesFirst}
+use Rattle.rules.specs.Commands.{withEnable, act, workOf, bufferOf, settled, settledFirst, rested, poweredUp, afterCut}
+use Rattle.rules.specs.WellFormed.{numbersRight, registersRight, suspendedRight, besideRight, allFF, securityRight, bufferRight, worksRight, wellFormed}
+use Rattle.rules.specs.Numbers.{State, Frame, whileBusy, suspension, closed, lockedTarget, first, frameTests, completionTests, cutTests}
+use Rattle.rules.specs.Machine.{Outcome, frameChip, frame, completedChip, completion, cutChip, powerCut, Event, sends, completes, cuts, step}
+use Rattle.rules.proofs.Bools.{and-split, and-both, or-split, or-left, or-right, not-intro, never}
+use Rattle.rules.proofs.Blocks.{blockOf-lt, block-placed, holds-at, holds-intro, overlap-at, unlocked-inside, sector-inside, page-inside, block-inside, array-unlocked, unlocked-nowhere}
+use Rattle.rules.proofs.Locks.{Registers, registers-of, registers-right, registers-or, masked-low, read-locks-low, registers-more, registers-powered}
+use Rattle.rules.proofs.Numbers.{Accepted, accepted}
+use Rattle.rules.proofs.Rows.{EachRow, by-rows}
+
+-- ---- the test taken apart
+
+pub record Works (p : ℕ) (sec : Bool) (b : List ℕ) (r s : Work) : Type 0 where
+  pub running : numbersRight r ≡ true
+  pub suspended : numbersRight s ≡ true
+  pub kind : suspendedRight s ≡ true
+  pub beside : besideRight r s ≡ true
+  pub running-open : unlocked p (arrayRange r) ≡ true
+  pub suspended-open : unlocked p (arrayRange s) ≡ true
+  pub security : securityRight r sec b ≡ true
+  pub clean : bufferRight r s b ≡ true
+
+pub works-of : (p : ℕ) (sec : Bool) (b : List ℕ) (r s : Work) → worksRight p sec b r s ≡ true → Works p sec b r s
+unfolding worksRight
+works-of p sec b r s e =
+    let h₇ = and-split _ (bufferRight r s b) e in
+    let h₆ = and-split _ (securityRight r sec b) (h₇ .0) in
+    let h₅ = and-split _ (unlocked p (arrayRange s)) (h₆ .0) in
+    let h₄ = and-split _ (unlocked p (arrayRange r)) (h₅ .0) in
+    let h₃ = and-split _ (besideRight r s) (h₄ .0) in
+    let h₂ = and-split _ (suspendedRight s) (h₃ .0) in
+    let h₁ = and-split (numbersRight r) (numbersRight s) (h₂ .0) in
+    record { running = h₁ .0; suspended = h₁ .1; kind = h₂ .1; beside = h₃ .1; running-open = h₄ .1; suspended-open = h₅ .1; security = h₆ .1; clean = h₇ .1 }
+
+pub works-right : {p : ℕ} {sec : Bool} {b : List ℕ} {r s : Work} → Works p sec b r s → worksRight p sec b r s ≡ true
+unfolding worksRight
+works-right w = rw (w .running, w .suspended, w .kind, w .beside, w .running-open, w .suspended-open, w .security, w .clean)
+
+pub record Well (c : Chip) : Type 0 where
+  pub registers : Registers (c .protection) (c .permanent)
+  pub works : Works (c .protection) (c .sec) (c .buffer) (c .running) (c .suspended)
+
+pub well-of : (c : Chip) → wellFormed c ≡ true → Well c
+unfolding wellFormed
+well-of c e =
+    let h = and-split (registersRight (c .protection) (c .permanent)) (worksRight (c .protection) (c .sec) (c .buffer) (c .running) (c .suspended)) e in
+    record { registers = registers-of _ _ (h .0); works = works-of _ _ _ _ _ (h .1) }
+
+pub well-right : (c : Chip) → Well c → wellFormed c ≡ true
+unfolding wellFormed
+well-right c h = and-both (registers-right _ _ (h .registers)) (works-right (h .works))
+
+-- ---- work
+
+pub nothing : (w : Work) → isNothing w ≡ true → w ≡ Nothing
+nothing Nothing e = refl
+nothing (EraseSector n) e = absurd (false≢true e)
+nothing (EraseBlock n) e = absurd (false≢true e)
+nothing EraseArray e = absurd (false≢true e)
+nothing (ProgramPage n) e = absurd (false≢true e)
+nothing (ProgramSecurity n) e = absurd (false≢true e)
+nothing LockSecurity e = absurd (false≢true e)
+nothing (WriteConfiguration i w) e = absurd (false≢true e)
+nothing (AddPermanent v) e = absurd (false≢true e)
+
+-- suspended work is nothing, a sector or block erase, or a page program
+pub by-suspended : (P : Work → Type 0) → P Nothing → ((n : ℕ) → P (EraseSector n)) → ((n : ℕ) → P (EraseBlock n)) → ((n : ℕ) → P (ProgramPage n))
+    → (s : Work) → suspendedRight s ≡ true → P s
+by-suspended P none sector block page Nothing e = none
+by-suspended P none sector block page (EraseSector n) e = sector n
+by-suspended P none sector block page (EraseBlock n) e = block n
+by-suspended P none sector block page EraseArray e = absurd (false≢true e)
+by-suspended P none sector block page (ProgramPage n) e = page n
+by-suspended P none sector block page (ProgramSecurity n) e = absurd (false≢true e)
+by-suspended P none sector block page LockSecurity e = absurd (false≢true e)
+by-suspended P none sector block page (WriteConfiguration i w) e = absurd (false≢true e)
+by-suspended P none sector block page (AddPermanent v) e = absurd (false≢true e)
+
+-- nothing runs and nothing is suspended
+at-rest : (p : ℕ) (sec : Bool) (b : List ℕ) → allFF b ≡ true → Works p sec b Nothing Nothing
+at-rest p sec b e =
+    record { running = refl; suspended = refl; kind = refl; beside = refl; running-open = unlocked-nowhere p; suspended-open = unlocked-nowhere p; security = refl; clean = e }
+
+blank-clean : allFF blank ≡ true
+unfolding blank
+blank-clean = refl
+
+-- ---- what a done frame of each opcode says
+
+-- a command that is refused while busy
+idle : (b : Bool) → (not b && true) ≡ false → b ≡ true
+idle true e = refl
+idle false e = absurd (true≢false e)
+
+-- a command that is refused while anything is suspended
+alone : (a x y : Bool) → (not a || x || y) ≡ false → a ≡ true
+alone true x y e = refl
+alone false x y e = absurd (true≢false e)
+
+no-more : (a b x : Bool) → (a || b && (x || false)) ≡ false → (a || b && x) ≡ false
+no-more a b true e = e
+no-more a b false e = e
+
+-- a page that does not begin in a range of whole pages lies outside it
+page-apart : (st sz q : ℕ) → st % 256 ≡ 0 → sz % 256 ≡ 0 → holds (range st sz) (q * 256) ≡ false → overlap (range st sz) (range (q * 256) 256) ≡ false
+page-apart st sz q hs hz e =
+    never (overlap (range st sz) (range (q * 256) 256))
+    (λ o. let g = overlap-at (range st sz) (range (q * 256) 256) o in
+      true≢false (sym (holds-intro (range st sz) (q * 256) (omega arith) (omega arith)) ∙ e))
+
+overlap-swap : (r s : Range) → overlap r s ≡ false → overlap s r ≡ false
+overlap-swap r s e =
+    never (overlap s r)
+    (λ o. let g = overlap-at s r o in
+      let x : ℕ = max (s .start) (r .start) in
+      true≢false (sym (Rattle.rules.proofs.Blocks.overlap-intro r s x (holds-intro r x (omega arith) (omega arith)) (holds-intro s x (omega arith) (omega arith))) ∙ e))
+
+-- an erase of a range of whole pages beside suspended work, as 8 allows it
+erase-beside : (st sz : ℕ) (s : Work) → st % 256 ≡ 0 → sz % 256 ≡ 0 → suspendedRight s ≡ true
+    → (isErase s && true || isProgram s && holds (range st sz) (arrayRange s .start)) ≡ false
+    → (isNothing s || (not (overlap (range st sz) (arrayRange s)) && (isProgram s || false))) ≡ true
+erase-beside st sz s hs hz k =
+    by-suspended
+    (λ s. (isErase s && true || isProgram s && holds (range st sz) (arrayRange s .start)) ≡ false
+      → (isNothing s || (not (overlap (range st sz) (arrayRange s)) && (isProgram s || false))) ≡ true)
+    (λ e. refl)
+    (λ n e. absurd (true≢false e))
+    (λ n e. absurd (true≢false e))
+    (λ n e. and-both (not-intro _ (page-apart st sz n hs hz e)) refl)
+    s k
+
+-- a program of page n beside suspended work, as 8 allows it
+program-beside : (a : ℕ) (s : Work) → numbersRight s ≡ true → suspendedRight s ≡ true
+    → (isErase s && holds (arrayRange s) a || isProgram s && true) ≡ false
+    → (isNothing s || (not (overlap (range (a / 256 * 256) 256) (arrayRange s)) && isErase s)) ≡ true
+program-beside a s right k =
+    by-suspended
+    (λ s. numbersRight s ≡ true → (isErase s && holds (arrayRange s) a || isProgram s && true) ≡ false
+      → (isNothing s || (not (overlap (range (a / 256 * 256) 256) (arrayRange s)) && isErase s)) ≡ true)
+    (λ r e. refl)
+    (λ n r e. and-both (not-intro _ (outside (n * 4096) 4096 (omega arith) refl (or-split _ false e .0))) refl)
+    (λ n r e.
+      let f = block-placed n (ltb-true n 40 r) in
+      let hs = f .start-aligned in
+      let hz = f .size-aligned in
+      and-both (not-intro _ (outside (blockAt n .start) (blockAt n .size) (omega arith) (omega arith) (or-split _ false e .0))) refl)
+    (λ n r e. absurd (true≢false e))
+    s k right
+  where
+    outside : (st sz : ℕ) → st % 256 ≡ 0 → sz % 256 ≡ 0 → holds (range st sz) a ≡ false → overlap (range (a / 256 * 256) 256) (range st sz) ≡ false
+    outside st sz hs hz e =
+        overlap-swap (range st sz) (range (a / 256 * 256) 256)
+        (page-apart st sz (a / 256) hs hz
+          (never (holds (range st sz) (a / 256 * 256))
+            (λ h. let g = holds-at (range st sz) (a / 256 * 256) h in true≢false (sym (holds-intro (range st sz) a (omega arith) (omega arith)) ∙ e))))
+
+-- ---- the buffer of A5
+
+-- a program that reaches no place below 8 leaves the first eight
+fill-front : (ds b : List ℕ) (p : ℕ) → reaches 0 p ds ≡ false → take 8 (fill b p ds) ≡ take 8 b
+unfolding fill reaches
+fill-front [] b p e = refl
+fill-front (d ∷ ds) b p e =
+    let h = or-split (ltb (0 + p % 256) 8) (reaches 0 (p + 1) ds) e in
+    let k : 8 ≤ p % 256 = (let l = ltb-false (0 + p % 256) 8 (h .0) in omega arith) in
+    fill-front ds (set b (p % 256) d) (p + 1) (h .1) ∙ take-set-le 8 b (p % 256) d k
+
+front : allFF (take 8 blank) ≡ true
+unfolding blank
+front = refl
+
+security-start : (sent : List ℕ) (sec : Bool) → (sec || reachesFirst sent) ≡ false
+    → (not sec && (not (eqb (securityAddress sent / 256) 0) || allFF (take 8 (securityBuffer sent)))) ≡ true
+unfolding reachesFirst securityBuffer
+security-start sent sec e = and-both (ap not (h .0)) (go (eqb (securityAddress sent / 256) 0) refl)
+  where
+    a : ℕ
+    a = securityAddress sent
+    h : (sec ≡ false) × (reaches (a / 256 * 256) (a % 256) (drop 3 sent) ≡ false)
+    h = or-split sec (reaches (a / 256 * 256) (a % 256) (drop 3 sent)) e
+    go : (x : Bool) → eqb (a / 256) 0 ≡ x → (not x || allFF (take 8 (fill blank (a % 256) (drop 3 sent)))) ≡ true
+    go false q = refl
+    go true q =
+        let z : a / 256 * 256 ≡ 0 = (let y = eqb-true (a / 256) 0 q in omega arith) in
+        ap allFF (fill-front (drop 3 sent) blank (a % 256) (subst (λ (n : ℕ). reaches n (a % 256) (drop 3 sent) ≡ false) z (h .1))) ∙ front
+
+-- ---- the chip after a done frame
+
+-- the buffer where nothing runs
+still-clean : (c : Chip) → Well c → isNothing (c .running) ≡ true → (isProgram (c .suspended) || allFF (c .buffer)) ≡ true
+still-clean c h i = subst (λ (r : Work). bufferRight r (c .suspended) (c .buffer) ≡ true) (nothing (c .running) i) (h .works .clean)
+
+record Starts (c : Chip) (w : Work) (b : List ℕ) : Type 0 where
+  numbers : numbersRight w ≡ true
+  beside : besideRight w (c .suspended) ≡ true
+  bare : unlocked (c .protection) (arrayRange w) ≡ true
+  security : securityRight w (c .sec) b ≡ true
+  clean : bufferRight w (c .suspended) b ≡ true
+
+started : (c : Chip) (w : Work) (b : List ℕ) → Well c → Starts c w b → Works (c .protection) (c .sec) b w (c .suspended)
+started c w b h s =
+    record {
+      running = s .numbers; suspended = h .works .suspended; kind = h .works .kind; beside = s .beside;
+      running-open = s .bare; suspended-open = h .works .suspended-open; security = s .security; clean = s .clean }
+
+-- work that is no range of the array, beside nothing
+beside-nothing : (w s : Work) → isNothing s ≡ true → besideRight w s ≡ true
+beside-nothing w s e = or-left (isNothing w || isNothing s) _ (or-right (isNothing w) (isNothing s) e)
+
+sector-starts : (c : Chip) (sent : List ℕ) → Well c → Accepted c 0x20 sent → Starts c (EraseSector (address sent / 4096)) (c .buffer)
+unfolding writeLocked
+sector-starts c sent h a =
+    let below : address sent < arraySize = omega arith in
+    record {
+      numbers = lt-ltb (address sent / 4096) 512 (omega arith);
+      beside = erase-beside (address sent / 4096 * 4096) 4096 (c .suspended) (omega arith) refl (h .works .kind) (no-more (isErase (c .suspended) && true) (isProgram (c .suspended)) _ (a .apart));
+      bare = unlocked-inside (c .protection) (blockOf (address sent)) _ (blockOf-lt (address sent) below) (sector-inside (address sent) below) (omega arith)
+        ∙ not-intro (writeLocked (c .protection) (address sent)) (or-split (writeLocked (c .protection) (address sent)) false (a .bare) .0);
+      security = refl;
+      clean = still-clean c h (idle (isNothing (c .running)) (a .calm)) }
+
+block-starts : (c : Chip) (sent : List ℕ) → Well c → Accepted c 0xD8 sent → Starts c (EraseBlock (blockOf (address sent))) (c .buffer)
+unfolding writeLocked
+block-starts c sent h a =
+    let below : address sent < arraySize = omega arith in
+    let n : blockOf (address sent) < 40 = blockOf-lt (address sent) below in
+    let f = block-placed (blockOf (address sent)) n in
+    let hs = f .start-aligned in
+    let hz = f .size-aligned in
+    record {
+      numbers = lt-ltb (blockOf (address sent)) 40 n;
+      beside = erase-beside (blockAt (blockOf (address sent)) .start) (blockAt (blockOf (address sent)) .size) (c .suspended) (omega arith) (omega arith) (h .works .kind) (a .apart);
+      bare = unlocked-inside (c .protection) (blockOf (address sent)) _ n (block-inside (blockOf (address sent))) (f .some)
+        ∙ not-intro (writeLocked (c .protection) (address sent)) (or-split (writeLocked (c .protection) (address sent)) false (a .bare) .0);
+      security = refl;
+      clean = still-clean c h (idle (isNothing (c .running)) (a .calm)) }
+
+array-starts : (c : Chip) (sent : List ℕ) → Well c → Accepted c 0xC7 sent → Starts c EraseArray (c .buffer)
+array-starts c sent h a =
+    record {
+      numbers = refl;
+      beside = beside-nothing EraseArray (c .suspended) (alone (isNothing (c .suspended)) _ _ (a .apart));
+      bare = array-unlocked (c .protection) (h .registers .low) ∙ not-false _ (a .bare);
+      security = refl;
+      clean = still-clean c h (idle (isNothing (c .running)) (a .calm)) }
+
+-- 02 and 32
+page-starts : (c : Chip) (sent b : List ℕ) → Well c
+    → (isErase (c .suspended) && holds (arrayRange (c .suspended)) (address sent) || isProgram (c .suspended) && true) ≡ false
+    → writeLocked (c .protection) (address sent) ≡ false
+    → Starts c (ProgramPage (address sent / 256)) b
+unfolding writeLocked
+page-starts c sent b h apart bare =
+    let below : address sent < arraySize = omega arith in
+    record {
+      numbers = lt-ltb (address sent / 256) 8192 (omega arith);
+      beside = program-beside (address sent) (c .suspended) (h .works .suspended) (h .works .kind) apart;
+      bare = unlocked-inside (c .protection) (blockOf (address sent)) _ (blockOf-lt (address sent) below) (page-inside (address sent) below) (omega arith)
+        ∙ not-intro _ bare;
+      security = refl;
+      clean = refl }
+
+security-starts : (c : Chip) (sent : List ℕ) → Well c → Accepted c 0xA5 sent → Starts c (ProgramSecurity (securityAddress sent / 256)) (securityBuffer sent)
+security-starts c sent h a =
+    record {
+      numbers = lt-ltb (securityAddress sent / 256) 8 (omega arith);
+      beside = beside-nothing (ProgramSecurity (securityAddress sent / 256)) (c .suspended) (alone (isNothing (c .suspended)) _ _ (a .apart));
+      bare = unlocked-nowhere (c .protection);
+      security = security-start sent (c .sec) (a .opened);
+      clean = refl }
+
+-- 85, 01, E8: no range in the array
+lone-starts : (c : Chip) (w : Work) → Well c → isNothing (c .running) ≡ true → isNothing (c .suspended) ≡ true
+    → numbersRight w ≡ true → unlocked (c .protection) (arrayRange w) ≡ true → securityRight w (c .sec) (c .buffer) ≡ true → isProgram w ≡ false
+    → Starts c w (c .buffer)
+lone-starts c w h i j numbers bare security p =
+    record {
+      numbers = numbers; beside = beside-nothing w (c .suspended) j; bare = bare; security = security;
+      clean = subst (λ (x : Bool). (x || isProgram (c .suspended) || allFF (c .buffer)) ≡ true) (sym p) (still-clean c h i) }
+
+-- 42, 98: the protection register changes where nothing runs or is suspended
+relocked : (p : ℕ) (c : Chip) → Well c → isNothing (c .running) ≡ true → isNothing (c .suspended) ≡ true → Works p (c .sec) (c .buffer) (c .running) (c .suspended)
+relocked p c h i j =
+    record {
+      running = h .works .running; suspended = h .works .suspended; kind = h .works .kind; beside = h .works .beside;
+      running-open = ap (λ (w : Work). unlocked p (arrayRange w)) (nothing (c .running) i) ∙ unlocked-nowhere p;
+      suspended-open = ap (λ (w : Work). unlocked p (arrayRange w)) (nothing (c .suspended) j) ∙ unlocked-nowhere p;
+      security = h .works .security; clean = h .works .clean }
+
+-- work that can be suspended uses the buffer exactly where it programs, and no Security ID
+put-aside : (p : ℕ) (sec : Bool) (b : List ℕ) (r s : Work) → Works p sec b r s → canSuspend r ≡ true → isNothing s ≡ true → Works p sec b Nothing r
+put-aside p sec b r s h k j =
+    record {
+      running = refl; suspended = h .running; kind = or-right (isNothing r) (canSuspend r) k; beside = refl;
+      running-open = unlocked-nowhere p; suspended-open = h .running-open; security = refl;
+      clean = subst (λ (s : Work). (isProgram r || isProgram s || allFF b) ≡ true → (isProgram r || allFF b) ≡ true) (sym (nothing s j)) (shorter (isProgram r) (allFF b)) (h .clean) }
+  where
+    shorter : (x y : Bool) → (x || false || y) ≡ true → (x || y) ≡ true
+    shorter true y e = refl
+    shorter false y e = e
+
+run-again : (p : ℕ) (sec : Bool) (b : List ℕ) (r s : Work) → Works p sec b r s → isNothing r ≡ true → Works p sec b s Nothing
+run-again p sec b r s h i =
+    record {
+      running = h .suspended; suspended = refl; kind = refl; beside = or-left (isNothing s || true) _ (or-right (isNothing s) true refl);
+      running-open = h .suspended-open; suspended-open = unlocked-nowhere p;
+      security = by-suspended (λ s. securityRight s sec b ≡ true) refl (λ n. refl) (λ n. refl) (λ n. refl) s (h .kind);
+      clean = longer (isProgram s) (allFF b) (subst (λ (r : Work). bufferRight r s b ≡ true) (nothing r i) (h .clean)) }
+  where
+    longer : (x y : Bool) → (x || y) ≡ true → (x || false || y) ≡ true
+    longer true y e = refl
+    longer false y e = e
+
+After : ℕ → Kind → Type 0
+After o k = (c : Chip) (sent : List ℕ) → Well c → Accepted c o sent → Well (act k sent (withEnable false c))
+
+rows-well : EachRow After frames
+unfolding After frames
+rows-well =
+    (λ c sent h a. record { registers = h .registers; works = h .works },
+    (λ c sent h a. record { registers = h .registers; works = h .works },
+    (λ c sent h a. record { registers = h .registers; works = at-rest (c .protection) (c .sec) blank blank-clean },
+    (λ c sent h a. record { registers = h .registers; works = h .works },
+    (λ c sent h a. record { registers = h .registers; works = h .works },
+    (λ c sent h a. record { registers = h .registers; works = h .works },
+    (λ c sent h a. record { registers = h .registers; works = h .works },
+    (λ c sent h a. record { registers = h .registers; works = h .works },
+    (λ c sent h a. record { registers = h .registers; works = h .works },
+    (λ c sent h a. record { registers = h .registers; works = h .works },
+    (λ c sent h a. record { registers = h .registers; works = h .works },
+    (λ c sent h a. record { registers = h .registers; works = h .works },
+    (λ c sent h a. record { registers = h .registers; works = h .works },
+    (λ c sent h a. record { registers = h .registers; works = h .works },
+    (λ c sent h a. record { registers = h .registers; works = h .works },
+    (λ c sent h a. record { registers = h .registers; works = h .works },
+    (λ c sent h a. record { registers = h .registers; works = started c _ _ h (sector-starts c sent h a) },
+    (λ c sent h a. record { registers = h .registers; works = started c _ _ h (block-starts c sent h a) },
+    (λ c sent h a. record { registers = h .registers; works = started c _ _ h (array-starts c sent h a) },
+    (λ c sent h a. record { registers = h .registers; works = started c _ _ h (page-starts c sent _ h (a .apart) (or-split (writeLocked (c .protection) (address sent)) false (a .bare) .0)) },
+    (λ c sent h a. record { registers = h .registers; works = started c _ _ h (page-starts c sent _ h (a .apart) (or-split (writeLocked (c .protection) (address sent)) false (a .bare) .0)) },
+    (λ c sent h a. record { registers = h .registers; works = started c _ _ h (security-starts c sent h a) },
+    (λ c sent h a. record { registers = h .registers; works = started c _ _ h (lone-starts c LockSecurity h (idle (isNothing (c .running)) (a .calm)) (alone (isNothing (c .suspended)) _ _ (a .apart)) refl (unlocked-nowhere (c .protection)) (ap not (or-split (c .sec) false (a .opened) .0)) refl) },
+    (λ c sent h a. record { registers = h .registers; works = started c _ _ h (lone-starts c _ h (idle (isNothing (c .running)) (a .calm)) (alone (isNothing (c .suspended)) _ _ (a .apart)) refl (unlocked-nowhere (c .protection)) refl refl) },
+    (λ c sent h a. record {
+      registers = registers-or (c .protection) (c .permanent) _ (h .registers) (masked-low (six sent));
+      works = relocked _ c h (idle (isNothing (c .running)) (a .calm)) (alone (isNothing (c .suspended)) _ _ (a .apart)) },
+    (λ c sent h a. record { registers = h .registers; works = started c _ _ h (lone-starts c _ h (idle (isNothing (c .running)) (a .calm)) (alone (isNothing (c .suspended)) _ _ (a .apart)) refl (unlocked-nowhere (c .protection)) refl refl) },
+    (λ c sent h a. record { registers = h .registers; works = h .works },
+    (λ c sent h a. record {
+      registers = registers-or (c .protection) (c .permanent) _ (h .registers) (read-locks-low (c .protection) (c .permanent) (h .registers));
+      works = relocked _ c h (idle (isNothing (c .running)) (a .calm)) (alone (isNothing (c .suspended)) _ _ (a .apart)) },
+    (λ c sent h a.
+      let k = and-split (canSuspend (c .running)) (isNothing (c .suspended)) (not-false _ (first-of _ _ _ _ _ (a .apart))) in
+      record { registers = h .registers; works = put-aside (c .protection) (c .sec) (c .buffer) (c .running) (c .suspended) (h .works) (k .0) (k .1) },
+    (λ c sent h a. record { registers = h .registers; works = run-again (c .protection) (c .sec) (c .buffer) (c .running) (c .suspended) (h .works) (idle (isNothing (c .running)) (a .calm)) },
+    tt))))))))))))))))))))))))))))))
+  where
+    first-of : (a b c d e : Bool) → (a || b || c || d || e) ≡ false → a ≡ false
+    first-of true b c d e q = absurd (true≢false q)
+    first-of false b c d e q = refl
+
+done-well : (c : Chip) (sent : List ℕ) → Well c → Accepted c (opcode sent) sent → Well (act (formOf (opcode sent) .kind) sent (withEnable false c))
+unfolding After
+done-well c sent h a = by-rows After rows-well (c .sqi) (opcode sent) (a .known) c sent h a
+
+frame-well : (n : ℕ) (c : Chip) (sent : List ℕ) → Well c → (n ≡ 0 → Accepted c (opcode sent) sent) → Well (frameChip n c sent)
+unfolding frameChip
+frame-well zero c sent h a = done-well c sent h (a refl)
+frame-well (suc zero) c sent h a = h
+frame-well (suc (suc zero)) c sent h a = h
+frame-well (suc (suc (suc n))) c sent h a = record { registers = h .registers; works = h .works }
+
+-- ---- completion and power cut
+
+-- the work ends, and what is suspended stays
+ended : (p : ℕ) (sec sec′ : Bool) (b : List ℕ) (r s : Work) → Works p sec b r s → Works p sec′ (pick (isProgram s) b blank) Nothing s
+ended p sec sec′ b r s h =
+    record {
+      running = refl; suspended = h .suspended; kind = h .kind; beside = refl;
+      running-open = unlocked-nowhere p; suspended-open = h .suspended-open; security = refl; clean = go (isProgram s) }
+  where
+    go : (x : Bool) → (x || allFF (pick x b blank)) ≡ true
+    go true = refl
+    go false = blank-clean
+
+-- nothing is suspended beside an E8
+lone-permanent : (v : ℕ) (s : Work) → besideRight (AddPermanent v) s ≡ true → isNothing s ≡ true
+lone-permanent v s e = go (isNothing s) (not (overlap (range 0 0) (arrayRange s))) e
+  where
+    go : (x y : Bool) → (x || (y && false)) ≡ true → x ≡ true
+    go true y q = refl
+    go false true q = q
+    go false false q = q
+
+module _ (c : Chip) (h : Well c) where
+  ends : (w : Work) → c .running ≡ w → Well (rested (settled w c))
+  ends Nothing e = record { registers = h .registers; works = ended (c .protection) (c .sec) _ (c .buffer) (c .running) (c .suspended) (h .works) }
+  ends (EraseSector n) e = record { registers = h .registers; works = ended (c .protection) (c .sec) _ (c .buffer) (c .running) (c .suspended) (h .works) }
+  ends (EraseBlock n) e = record { registers = h .registers; works = ended (c .protection) (c .sec) _ (c .buffer) (c .running) (c .suspended) (h .works) }
+  ends EraseArray e = record { registers = h .registers; works = ended (c .protection) (c .sec) _ (c .buffer) (c .running) (c .suspended) (h .works) }
+  ends (ProgramPage n) e = record { registers = h .registers; works = ended (c .protection) (c .sec) _ (c .buffer) (c .running) (c .suspended) (h .works) }
+  ends (ProgramSecurity n) e = record { registers = h .registers; works = ended (c .protection) (c .sec) _ (c .buffer) (c .running) (c .suspended) (h .works) }
+  ends LockSecurity e = record { registers = h .registers; works = ended (c .protection) (c .sec) _ (c .buffer) (c .running) (c .suspended) (h .works) }
+  ends (WriteConfiguration i w) e = record { registers = h .registers; works = ended (c .protection) (c .sec) _ (c .buffer) (c .running) (c .suspended) (h .works) }
+  ends (AddPermanent v) e =
+      let j = lone-permanent v (c .suspended) (subst (λ (w : Work). besideRight w (c .suspended) ≡ true) e (h .works .beside)) in
+      let p : ℕ = bitOr (c .protection) (bitAnd v writeLocks) in
+      let w = ended (c .protection) (c .sec) (c .sec) (c .buffer) (c .running) (c .suspended) (h .works) in
+      record {
+        registers = registers-more (c .protection) (c .permanent) v (h .registers);
+        works = record {
+          running = refl; suspended = w .suspended; kind = w .kind; beside = refl; running-open = unlocked-nowhere p;
+          suspended-open = ap (λ (w : Work). unlocked p (arrayRange w)) (nothing (c .suspended) j) ∙ unlocked-nowhere p;
+          security = refl; clean = w .clean } }
+
+  completed-well : (n : ℕ) → Well (completedChip n c)
+  unfolding completedChip
+  completed-well zero = ends (c .running) refl
+  completed-well (suc n) = h
+
+  powered-well : (d : Chip) → Registers (d .protection) (d .permanent) → Well (afterCut d)
+  powered-well d r = record { registers = registers-powered (d .protection) (d .permanent) r; works = at-rest powerUpLocks (d .sec) blank blank-clean }
+
+  cut-well : (n k : ℕ) → Well (cutChip n k c)
+  unfolding cutChip
+  cut-well zero k = go (ltb 0 k)
+    where
+      go : (b : Bool) → Well (afterCut (pick b (settled (c .running) c) c))
+      go true = powered-well (settled (c .running) c) (ends (c .running) refl .registers)
+      go false = powered-well c (h .registers)
+  cut-well (suc n) k = h
+
+-- ---- the law
+
+pub step-well-formed : (s : State) (e : Event) → wellFormed (s .chip) ≡ true → wellFormed (step s e .chip) ≡ true
+unfolding step frame completion powerCut
+step-well-formed s (sends f) h = well-right _ (frame-well (first (frameTests s f)) (s .chip) (f .sent) (well-of (s .chip) h) (λ e. accepted s f e))
+step-well-formed s completes h = well-right _ (completed-well (s .chip) (well-of (s .chip) h) (first (completionTests s)))
+step-well-formed s (cuts k) h = well-right _ (cut-well (s .chip) (well-of (s .chip) h) (first (cutTests s)) k)
