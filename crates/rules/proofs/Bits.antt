@@ -25,18 +25,18 @@ unfolding bit
 bit-or n a b =
     ap (λ (x : ℕ). eqb (x % 2) 1) (or-shr a b n) ∙ ap (λ (x : ℕ). eqb x 1) (or-mod (a / 2 ^ n) (b / 2 ^ n) 1)
     ∙ digit (λ x. eqb (bitOr x (b / 2 ^ n % 2)) 1 ≡ (eqb x 1 || eqb (b / 2 ^ n % 2) 1))
-      (digit (λ y. eqb (bitOr 0 y) 1 ≡ (false || eqb y 1)) refl refl (b / 2 ^ n % 2) (two (b / 2 ^ n)))
-      (digit (λ y. eqb (bitOr 1 y) 1 ≡ (true || eqb y 1)) refl refl (b / 2 ^ n % 2) (two (b / 2 ^ n)))
-      (a / 2 ^ n % 2) (two (a / 2 ^ n))
+    (digit (λ y. eqb (bitOr 0 y) 1 ≡ (false || eqb y 1)) refl refl (b / 2 ^ n % 2) (two (b / 2 ^ n)))
+    (digit (λ y. eqb (bitOr 1 y) 1 ≡ (true || eqb y 1)) refl refl (b / 2 ^ n % 2) (two (b / 2 ^ n)))
+    (a / 2 ^ n % 2) (two (a / 2 ^ n))
 
 pub bit-and : (n a b : ℕ) → bit n (bitAnd a b) ≡ (bit n a && bit n b)
 unfolding bit
 bit-and n a b =
     ap (λ (x : ℕ). eqb (x % 2) 1) (and-shr a b n) ∙ ap (λ (x : ℕ). eqb x 1) (and-mod (a / 2 ^ n) (b / 2 ^ n) 1)
     ∙ digit (λ x. eqb (bitAnd x (b / 2 ^ n % 2)) 1 ≡ (eqb x 1 && eqb (b / 2 ^ n % 2) 1))
-      (digit (λ y. eqb (bitAnd 0 y) 1 ≡ (false && eqb y 1)) refl refl (b / 2 ^ n % 2) (two (b / 2 ^ n)))
-      (digit (λ y. eqb (bitAnd 1 y) 1 ≡ (true && eqb y 1)) refl refl (b / 2 ^ n % 2) (two (b / 2 ^ n)))
-      (a / 2 ^ n % 2) (two (a / 2 ^ n))
+    (digit (λ y. eqb (bitAnd 0 y) 1 ≡ (false && eqb y 1)) refl refl (b / 2 ^ n % 2) (two (b / 2 ^ n)))
+    (digit (λ y. eqb (bitAnd 1 y) 1 ≡ (true && eqb y 1)) refl refl (b / 2 ^ n % 2) (two (b / 2 ^ n)))
+    (a / 2 ^ n % 2) (two (a / 2 ^ n))
 
 pub bit-zero : (n : ℕ) → bit n 0 ≡ false
 unfolding bit

@@ -68,7 +68,8 @@ placed-at b e =
       size-aligned = eqb-true (b .size % 0x2000) 0 (h₁ .1);
       inside = leb-true (b .start + b .size) arraySize (h₂ .1);
       some = ltb-true 0 (b .size) (h₃ .1);
-      lock = ltb-true (b .write) 47 (h₄ .1) }
+      lock = ltb-true (b .write) 47 (h₄ .1);
+    }
 
 all-placed : every placed blocks ≡ true
 unfolding placed blocks wide
@@ -88,7 +89,7 @@ blocks-apart : (n m : ℕ) → n < 40 → m < n → overlap (span (blockAt n)) (
 blocks-apart n m h k =
     not-true (overlap (span (blockAt n)) (span (blockAt m)))
     (upto-at n (λ m. not (overlap (span (blockAt n)) (span (blockAt m))))
-      (upto-at 40 (λ n. upto n (λ m. not (overlap (span (blockAt n)) (span (blockAt m))))) apart n h) m k)
+    (upto-at 40 (λ n. upto n (λ m. not (overlap (span (blockAt n)) (span (blockAt m))))) apart n h) m k)
 
 -- two blocks with a place in common are one
 pub blocks-meet : (n m a : ℕ) → n < 40 → m < 40 → holds (span (blockAt n)) a ≡ true → holds (span (blockAt m)) a ≡ true → n ≡ m
@@ -96,9 +97,11 @@ blocks-meet n m a hn hm p q = go (ℕ-discrete n m)
   where
     lower : (x y : ℕ) → x < 40 → y < x → holds (span (blockAt x)) a ≡ true → holds (span (blockAt y)) a ≡ true → ⊥
     lower x y h k u v = true≢false (sym (overlap-intro (span (blockAt x)) (span (blockAt y)) a u v) ∙ blocks-apart x y h k)
+
     order : (n ≡ m → ⊥) → Dec (n < m) → ⊥
     order ne (yes below) = lower m n hm below q p
     order ne (no above) = lower n m hn (omega arith) p q
+
     go : Dec (n ≡ m) → n ≡ m
     go (yes e) = e
     go (no ne) = absurd (order ne (native.Mathlib.Decide.decLt n m))
@@ -146,7 +149,7 @@ unfolding blockOf blockAt seek blocks wide holds
 block-holds a h =
     holds-group (blockAt (blockOf a)) a (every-at placed (single 48 0 0) blocks all-placed (blockOf a) (let b = blockOf-lt a h in let e = forty in omega arith))
     ∙ subst (λ (k : ℕ). holds (span (blockAt k)) (group a) ≡ true) (sym (blockOf-group a))
-      (grouped (λ g. holds (span (blockAt (blockOf (g * 0x2000)))) (g * 0x2000)) refl a h)
+    (grouped (λ g. holds (span (blockAt (blockOf (g * 0x2000)))) (g * 0x2000)) refl a h)
 
 -- and in no other
 pub block-only : (n a : ℕ) → n < 40 → a < arraySize → holds (span (blockAt n)) a ≡ true → n ≡ blockOf a
@@ -198,7 +201,7 @@ unfolding blockOf blockAt seek blocks wide holds
 block-by-shifts a h =
     ap blockAt (blockOf-group a)
     ∙ row-ext (blockAt (blockOf (group a))) (shifted (a / 0x2000))
-      (grouped (λ g. same-row (blockAt (blockOf (g * 0x2000))) (shifted g)) refl a h)
+    (grouped (λ g. same-row (blockAt (blockOf (g * 0x2000))) (shifted g)) refl a h)
 
 -- each of the 48 bits is one lock: the write locks of the table are the mask, and so are the read locks
 abbrev pub bits-of : (Block → ℕ) → List Block → ℕ
@@ -254,8 +257,10 @@ unlocked-inside p n r h i z =
   where
     own : holds r (r .start) ≡ true
     own = holds-intro r (r .start) (omega arith) (omega arith)
+
     first : holds (span (blockAt n)) (r .start) ≡ true
     first = let f = i .from in let t = i .to in holds-intro (span (blockAt n)) (r .start) (omega arith) (omega arith)
+
     only : (m : ℕ) → m < 40 → overlap (span (blockAt m)) r ≡ true → n ≡ m
     only m below o =
         let g = overlap-at (span (blockAt m)) r o in
@@ -304,26 +309,27 @@ array-unlocked p h =
     same-test (unlocked p (range 0 arraySize)) (eqb (bitAnd p writeLocks) 0)
     (λ e. eq-eqb (bitAnd p writeLocks) 0 (apart-intro 48 p writeLocks h (λ k below o. never (bit k writeLocks) (λ w. true≢false (sym o ∙ off e k below w)))))
     (λ e. unlocked-from p (range 0 arraySize) (λ n below o.
-      never (bit (blockAt n .write) p)
-      (λ set. true≢false (sym (upto-at 40 (λ n. bit (blockAt n .write) writeLocks) lock-masked n below)
-        ∙ apart-at p writeLocks (eqb-true (bitAnd p writeLocks) 0 e) (blockAt n .write) set))))
+    never (bit (blockAt n .write) p)
+    (λ set. true≢false (sym (upto-at 40 (λ n. bit (blockAt n .write) writeLocks) lock-masked n below)
+    ∙ apart-at p writeLocks (eqb-true (bitAnd p writeLocks) 0 e) (blockAt n .write) set))))
   where
     after : (x y : Bool) → (not x || y) ≡ true → x ≡ true → y ≡ true
     after true y q w = q
     after false y q w = absurd (false≢true w)
+
     off : unlocked p (range 0 arraySize) ≡ true → (k : ℕ) → k < 48 → bit k writeLocks ≡ true → bit k p ≡ false
     off e k below w =
         let c = and-split (ltb (with-lock k) 40) (eqb (blockAt (with-lock k) .write) k)
-            (after (bit k writeLocks) _ (upto-at 48 (λ k. not (bit k writeLocks) || (ltb (with-lock k) 40 && eqb (blockAt (with-lock k) .write) k)) each-lock k below) w) in
+        (after (bit k writeLocks) _ (upto-at 48 (λ k. not (bit k writeLocks) || (ltb (with-lock k) 40 && eqb (blockAt (with-lock k) .write) k)) each-lock k below) w) in
         let n : with-lock k < 40 = ltb-true (with-lock k) 40 (c .0) in
         let f = block-placed (with-lock k) n in
         let i = f .inside in
         let z = f .some in
         subst (λ (j : ℕ). bit j p ≡ false) (eqb-true (blockAt (with-lock k) .write) k (c .1))
         (unlocked-at p (range 0 arraySize) e (with-lock k) n
-          (overlap-intro (span (blockAt (with-lock k))) (range 0 arraySize) (blockAt (with-lock k) .start)
-            (holds-intro (span (blockAt (with-lock k))) (blockAt (with-lock k) .start) (omega arith) (omega arith))
-            (holds-intro (range 0 arraySize) (blockAt (with-lock k) .start) (omega arith) (omega arith))))
+        (overlap-intro (span (blockAt (with-lock k))) (range 0 arraySize) (blockAt (with-lock k) .start)
+        (holds-intro (span (blockAt (with-lock k))) (blockAt (with-lock k) .start) (omega arith) (omega arith))
+        (holds-intro (range 0 arraySize) (blockAt (with-lock k) .start) (omega arith) (omega arith))))
 
 -- nothing is locked in a range without places
 pub unlocked-nowhere : (p : ℕ) → unlocked p (range 0 0) ≡ true

@@ -72,6 +72,7 @@ upto-at (suc k) f e n h = go (ℕ-discrete n k) (λ q. upto-at k f (p .1) n q)
   where
     p : (f k ≡ true) × (upto k f ≡ true)
     p = and-split (f k) (upto k f) e
+
     go : Dec (n ≡ k) → (n < k → f n ≡ true) → f n ≡ true
     go (yes q) r = ap f q ∙ p .0
     go (no q) r = r (omega arith)

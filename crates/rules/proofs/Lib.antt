@@ -6,4 +6,6 @@ pub mod Numbers
 pub mod Rows
 pub mod Locks
 pub mod WellFormed
+pub mod Refusals
+pub mod Effects
 pub mod Starred

@@ -29,7 +29,8 @@ registers-of p q e =
       low = ltb-true p (2 ^ 48) (h₁ .0);
       permanent-low = ltb-true q (2 ^ 48) (h₁ .1);
       no-read-lock = eqb-true (bitAnd q readLocks) 0 (h₂ .1);
-      among = eqb-true (bitAnd q p) q (h₃ .1) }
+      among = eqb-true (bitAnd q p) q (h₃ .1);
+    }
 
 pub registers-right : (p q : ℕ) → Registers p q → registersRight p q ≡ true
 unfolding registersRight
@@ -64,7 +65,8 @@ registers-or p q v h below =
       low = or-lt 48 v q below (h .permanent-low);
       permanent-low = h .permanent-low;
       no-read-lock = h .no-read-lock;
-      among = among-intro 48 q (bitOr v q) (h .permanent-low) (λ n k e. bit-or n v q ∙ ap (λ (x : Bool). bit n v || x) e ∙ right (bit n v)) }
+      among = among-intro 48 q (bitOr v q) (h .permanent-low) (λ n k e. bit-or n v q ∙ ap (λ (x : Bool). bit n v || x) e ∙ right (bit n v));
+    }
   where
     right : (a : Bool) → (a || true) ≡ true
     right true = refl
@@ -84,17 +86,21 @@ registers-more p q v h =
       permanent-low = or-lt 48 q w (h .permanent-low) below;
       no-read-lock = apart-intro 48 (bitOr q w) readLocks (or-lt 48 q w (h .permanent-low) below) apart;
       among = among-intro 48 (bitOr q w) (bitOr p w) (or-lt 48 q w (h .permanent-low) below)
-        (λ n k e. bit-or n p w ∙ held (bit n q) (bit n w) (bit n p) (sym (bit-or n q w) ∙ e) (among-at q p (h .among) n)) }
+          (λ n k e. bit-or n p w ∙ held (bit n q) (bit n w) (bit n p) (sym (bit-or n q w) ∙ e) (among-at q p (h .among) n));
+    }
   where
     w : ℕ
     w = bitAnd v writeLocks
+
     below : w < 2 ^ 48
     below = lt-of-le-of-lt (and-le-r v writeLocks) (lit< tt)
+
     held : (a b c : Bool) → (a || b) ≡ true → (a ≡ true → c ≡ true) → (c || b) ≡ true
     held a b true e k = refl
     held a true false e k = refl
     held true false false e k = k refl
     held false false false e k = e
+
     apart : (n : ℕ) → n < 48 → bit n (bitOr q w) ≡ true → bit n readLocks ≡ false
     apart n k e = go (bit n q) refl (sym (bit-or n q w) ∙ e)
       where
@@ -109,4 +115,5 @@ registers-powered p q h =
       low = lit< tt;
       permanent-low = h .permanent-low;
       no-read-lock = h .no-read-lock;
-      among = among-intro 48 q powerUpLocks (h .permanent-low) (λ n k e. write-or-read n k (apart-at q readLocks (h .no-read-lock) n e)) }
+      among = among-intro 48 q powerUpLocks (h .permanent-low) (λ n k e. write-or-read n k (apart-at q readLocks (h .no-read-lock) n e));
+    }

@@ -37,6 +37,7 @@ first-above n (t ∷ ts) e = go (t .applies) (first-above (t .number) ts (s .1))
   where
     s : (ltb n (t .number) ≡ true) × (rising (t .number) ts ≡ true)
     s = and-split (ltb n (t .number)) (rising (t .number) ts) e
+
     go : (b : Bool) → (first ts ≡ 0) ⊎ (t .number < first ts) → (pick b (t .number) (first ts) ≡ 0) ⊎ (n < pick b (t .number) (first ts))
     go true ih = inr (ltb-true n (t .number) (s .0))
     go false ih = ⊎-elim (λ z. inl z) (λ l. inr (let a = ltb-true n (t .number) (s .0) in omega arith)) ih
@@ -50,10 +51,12 @@ module _ (d : Test) where
     where
       s : (ltb n (t .number) ≡ true) × (rising (t .number) ts ≡ true)
       s = and-split (ltb n (t .number)) (rising (t .number) ts) e
+
       into : (b : Bool) → pick b (t .number) (first ts) ≡ t .number → b ≡ true
       into true q = refl
       into false q =
           absurd (⊎-elim (λ z. let a = ltb-true n (t .number) (s .0) in omega arith) (λ l. omega arith) (first-above (t .number) ts (s .1)))
+
       from : (b : Bool) → b ≡ true → pick b (t .number) (first ts) ≡ t .number
       from true q = refl
       from false q = absurd (false≢true q)
@@ -61,8 +64,10 @@ module _ (d : Test) where
     where
       s : (ltb n (t .number) ≡ true) × (rising (t .number) ts ≡ true)
       s = and-split (ltb n (t .number)) (rising (t .number) ts) e
+
       later : t .number < getD ts k d .number
       later = rising-at (t .number) ts d (s .1) k (omega arith)
+
       go : ((first ts ≡ getD ts k d .number) ↔ (Clear k ts × (getD ts k d .applies ≡ true)))
           → (pick (t .applies) (t .number) (first ts) ≡ getD ts k d .number) ↔ (((t .applies ≡ false) × Clear k ts) × (getD ts k d .applies ≡ true))
       go ih = (λ q. into (t .applies) q, λ p. from (t .applies) (p .0 .0) (p .0 .1, p .1))
@@ -70,6 +75,7 @@ module _ (d : Test) where
           into : (b : Bool) → pick b (t .number) (first ts) ≡ getD ts k d .number → ((b ≡ false) × Clear k ts) × (getD ts k d .applies ≡ true)
           into true q = let e : t .number ≡ getD ts k d .number = q in absurd (omega (arith, later))
           into false q = let r = ih .0 q in ((refl, r .0), r .1)
+
           from : (b : Bool) → b ≡ false → Clear k ts × (getD ts k d .applies ≡ true) → pick b (t .number) (first ts) ≡ getD ts k d .number
           from true q r = absurd (true≢false q)
           from false q r = ih .1 r
@@ -81,12 +87,14 @@ first-none n (t ∷ ts) e = go (first-none (t .number) ts (s .1))
   where
     s : (ltb n (t .number) ≡ true) × (rising (t .number) ts ≡ true)
     s = and-split (ltb n (t .number)) (rising (t .number) ts) e
+
     go : ((first ts ≡ 0) ↔ Clear (length ts) ts) → (pick (t .applies) (t .number) (first ts) ≡ 0) ↔ ((t .applies ≡ false) × Clear (length ts) ts)
     go ih = (λ q. into (t .applies) q, λ p. from (t .applies) (p .0) (p .1))
       where
         into : (b : Bool) → pick b (t .number) (first ts) ≡ 0 → (b ≡ false) × Clear (length ts) ts
         into true q = let a = ltb-true n (t .number) (s .0) in absurd (omega arith)
         into false q = (refl, ih .0 q)
+
         from : (b : Bool) → b ≡ false → Clear (length ts) ts → pick b (t .number) (first ts) ≡ 0
         from true q r = absurd (true≢false q)
         from false q r = ih .1 r
@@ -102,6 +110,7 @@ first-least n (t ∷ ts) d e (suc k) h a = go (t .applies) (first-least (t .numb
   where
     s : (ltb n (t .number) ≡ true) × (rising (t .number) ts ≡ true)
     s = and-split (ltb n (t .number)) (rising (t .number) ts) e
+
     go : (b : Bool) → (t .number < first ts) × (first ts ≤ getD ts k d .number)
         → (n < pick b (t .number) (first ts)) × (pick b (t .number) (first ts) ≤ getD ts k d .number)
     go true r = let l = ltb-true n (t .number) (s .0) in (l, omega arith)
@@ -143,7 +152,8 @@ frame-given s f =
       is-9 = at 8 (omega arith);
       is-10 = at 9 (omega arith);
       is-11 = at 10 (omega arith);
-      no-other = first-below 11 (frameTests s f) refl }
+      no-other = first-below 11 (frameTests s f) refl;
+    }
 
 -- ---- of a completion and of a power cut
 
@@ -153,10 +163,12 @@ completion-given s =
     record {
       is-0 = (λ q. let c = none .0 q in (not-false (stateRight s) (c .0), c .1 .0), λ p. none .1 (ap not (p .0), (p .1, tt)));
       is-1 = (λ q. not-true (stateRight s) (at 0 (omega arith) .0 q .1), λ p. at 0 (omega arith) .1 (tt, not-intro (stateRight s) p));
-      is-12 = (λ q. let c = at 1 (omega arith) .0 q in (not-false (stateRight s) (c .0 .0), c .1), λ p. at 1 (omega arith) .1 ((ap not (p .0), tt), p .1)) }
+      is-12 = (λ q. let c = at 1 (omega arith) .0 q in (not-false (stateRight s) (c .0 .0), c .1), λ p. at 1 (omega arith) .1 ((ap not (p .0), tt), p .1));
+    }
   where
     at : (k : ℕ) → k < 2 → (first (completionTests s) ≡ getD (completionTests s) k (test 0 false) .number) ↔ (Clear k (completionTests s) × (getD (completionTests s) k (test 0 false) .applies ≡ true))
     at = first-at (test 0 false) 0 (completionTests s) refl
+
     none : (first (completionTests s) ≡ 0) ↔ Clear 2 (completionTests s)
     none = first-none 0 (completionTests s) refl
 
@@ -167,6 +179,7 @@ cut-given s = record { is-0 = go₀ (stateRight s); is-1 = go₁ (stateRight s) 
     go₀ : (b : Bool) → (pick {A = ℕ} (not b) 1 0 ≡ 0) ↔ (b ≡ true)
     go₀ true = (λ q. refl, λ p. refl)
     go₀ false = (λ q. absurd (omega arith), λ p. absurd (false≢true p))
+
     go₁ : (b : Bool) → (pick {A = ℕ} (not b) 1 0 ≡ 1) ↔ (b ≡ false)
     go₁ true = (λ q. absurd (omega arith), λ p. absurd (true≢false p))
     go₁ false = (λ q. refl, λ p. refl)
@@ -197,7 +210,8 @@ accepted s f e =
       apart = c .1 .1 .1 .1 .1 .1 .1 .0;
       latched = c .1 .1 .1 .1 .1 .1 .1 .1 .0;
       opened = c .1 .1 .1 .1 .1 .1 .1 .1 .1 .0;
-      bare = c .1 .1 .1 .1 .1 .1 .1 .1 .1 .1 .0 }
+      bare = c .1 .1 .1 .1 .1 .1 .1 .1 .1 .1 .0;
+    }
 
 -- the record and the lengths were right
 pub accepted-right : (s : State) (f : Frame) → first (frameTests s f) ≡ 0 → (stateRight s ≡ true) × (frameRight f ≡ true)

@@ -21,7 +21,8 @@ use Rattle.rules.specs.Works.{isNothing, isErase, isProgram, canSuspend,
 use Rattle.rules.specs.Registers.{busy}
 use Rattle.rules.specs.Frames.{frames, formOf, opcode, address, securityAddress, six}
 use Rattle.rules.specs.Programs.{blank, fill, securityBuffer, reaches, reachesFirst}
-use Rattle.rules.specs.Commands.{withEnable, act, workOf, bufferOf, settled, settledFirst, rested, poweredUp, afterCut}
+use Rattle.rules.specs.Fields.{withEnable}
+use Rattle.rules.specs.Commands.{newChip, act, workOf, bufferOf, settled, settledFirst, rested, poweredUp, afterCut}
 use Rattle.rules.specs.WellFormed.{numbersRight, registersRight, suspendedRight, besideRight, allFF, securityRight, bufferRight, worksRight, wellFormed}
 use Rattle.rules.specs.Numbers.{State, Frame, whileBusy, suspension, closed, lockedTarget, first, frameTests, completionTests, cutTests}
 use Rattle.rules.specs.Machine.{Outcome, frameChip, frame, completedChip, completion, cutChip, powerCut, Event, sends, completes, cuts, step}
@@ -129,14 +130,14 @@ page-apart : (st sz q : ℕ) → st % 256 ≡ 0 → sz % 256 ≡ 0 → holds (ra
 page-apart st sz q hs hz e =
     never (overlap (range st sz) (range (q * 256) 256))
     (λ o. let g = overlap-at (range st sz) (range (q * 256) 256) o in
-      true≢false (sym (holds-intro (range st sz) (q * 256) (omega arith) (omega arith)) ∙ e))
+    true≢false (sym (holds-intro (range st sz) (q * 256) (omega arith) (omega arith)) ∙ e))
 
 overlap-swap : (r s : Range) → overlap r s ≡ false → overlap s r ≡ false
 overlap-swap r s e =
     never (overlap s r)
     (λ o. let g = overlap-at s r o in
-      let x : ℕ = max (s .start) (r .start) in
-      true≢false (sym (Rattle.rules.proofs.Blocks.overlap-intro r s x (holds-intro r x (omega arith) (omega arith)) (holds-intro s x (omega arith) (omega arith))) ∙ e))
+    let x : ℕ = max (s .start) (r .start) in
+    true≢false (sym (Rattle.rules.proofs.Blocks.overlap-intro r s x (holds-intro r x (omega arith) (omega arith)) (holds-intro s x (omega arith) (omega arith))) ∙ e))
 
 -- an erase of a range of whole pages beside suspended work, as 8 allows it
 erase-beside : (st sz : ℕ) (s : Work) → st % 256 ≡ 0 → sz % 256 ≡ 0 → suspendedRight s ≡ true
@@ -145,7 +146,7 @@ erase-beside : (st sz : ℕ) (s : Work) → st % 256 ≡ 0 → sz % 256 ≡ 0 �
 erase-beside st sz s hs hz k =
     by-suspended
     (λ s. (isErase s && true || isProgram s && holds (range st sz) (arrayRange s .start)) ≡ false
-      → (isNothing s || (not (overlap (range st sz) (arrayRange s)) && (isProgram s || false))) ≡ true)
+    → (isNothing s || (not (overlap (range st sz) (arrayRange s)) && (isProgram s || false))) ≡ true)
     (λ e. refl)
     (λ n e. absurd (true≢false e))
     (λ n e. absurd (true≢false e))
@@ -159,14 +160,14 @@ program-beside : (a : ℕ) (s : Work) → numbersRight s ≡ true → suspendedR
 program-beside a s right k =
     by-suspended
     (λ s. numbersRight s ≡ true → (isErase s && holds (arrayRange s) a || isProgram s && true) ≡ false
-      → (isNothing s || (not (overlap (range (a / 256 * 256) 256) (arrayRange s)) && isErase s)) ≡ true)
+    → (isNothing s || (not (overlap (range (a / 256 * 256) 256) (arrayRange s)) && isErase s)) ≡ true)
     (λ r e. refl)
     (λ n r e. and-both (not-intro _ (outside (n * 4096) 4096 (omega arith) refl (or-split _ false e .0))) refl)
     (λ n r e.
-      let f = block-placed n (ltb-true n 40 r) in
-      let hs = f .start-aligned in
-      let hz = f .size-aligned in
-      and-both (not-intro _ (outside (blockAt n .start) (blockAt n .size) (omega arith) (omega arith) (or-split _ false e .0))) refl)
+    let f = block-placed n (ltb-true n 40 r) in
+    let hs = f .start-aligned in
+    let hz = f .size-aligned in
+    and-both (not-intro _ (outside (blockAt n .start) (blockAt n .size) (omega arith) (omega arith) (or-split _ false e .0))) refl)
     (λ n r e. absurd (true≢false e))
     s k right
   where
@@ -174,8 +175,8 @@ program-beside a s right k =
     outside st sz hs hz e =
         overlap-swap (range st sz) (range (a / 256 * 256) 256)
         (page-apart st sz (a / 256) hs hz
-          (never (holds (range st sz) (a / 256 * 256))
-            (λ h. let g = holds-at (range st sz) (a / 256 * 256) h in true≢false (sym (holds-intro (range st sz) a (omega arith) (omega arith)) ∙ e))))
+        (never (holds (range st sz) (a / 256 * 256))
+        (λ h. let g = holds-at (range st sz) (a / 256 * 256) h in true≢false (sym (holds-intro (range st sz) a (omega arith) (omega arith)) ∙ e))))
 
 -- ---- the buffer of A5
 
@@ -199,8 +200,10 @@ security-start sent sec e = and-both (ap not (h .0)) (go (eqb (securityAddress s
   where
     a : ℕ
     a = securityAddress sent
+
     h : (sec ≡ false) × (reaches (a / 256 * 256) (a % 256) (drop 3 sent) ≡ false)
     h = or-split sec (reaches (a / 256 * 256) (a % 256) (drop 3 sent)) e
+
     go : (x : Bool) → eqb (a / 256) 0 ≡ x → (not x || allFF (take 8 (fill blank (a % 256) (drop 3 sent)))) ≡ true
     go false q = refl
     go true q =
@@ -223,8 +226,15 @@ record Starts (c : Chip) (w : Work) (b : List ℕ) : Type 0 where
 started : (c : Chip) (w : Work) (b : List ℕ) → Well c → Starts c w b → Works (c .protection) (c .sec) b w (c .suspended)
 started c w b h s =
     record {
-      running = s .numbers; suspended = h .works .suspended; kind = h .works .kind; beside = s .beside;
-      running-open = s .bare; suspended-open = h .works .suspended-open; security = s .security; clean = s .clean }
+      running = s .numbers;
+      suspended = h .works .suspended;
+      kind = h .works .kind;
+      beside = s .beside;
+      running-open = s .bare;
+      suspended-open = h .works .suspended-open;
+      security = s .security;
+      clean = s .clean;
+    }
 
 -- work that is no range of the array, beside nothing
 beside-nothing : (w s : Work) → isNothing s ≡ true → besideRight w s ≡ true
@@ -238,9 +248,10 @@ sector-starts c sent h a =
       numbers = lt-ltb (address sent / 4096) 512 (omega arith);
       beside = erase-beside (address sent / 4096 * 4096) 4096 (c .suspended) (omega arith) refl (h .works .kind) (no-more (isErase (c .suspended) && true) (isProgram (c .suspended)) _ (a .apart));
       bare = unlocked-inside (c .protection) (blockOf (address sent)) _ (blockOf-lt (address sent) below) (sector-inside (address sent) below) (omega arith)
-        ∙ not-intro (writeLocked (c .protection) (address sent)) (or-split (writeLocked (c .protection) (address sent)) false (a .bare) .0);
+          ∙ not-intro (writeLocked (c .protection) (address sent)) (or-split (writeLocked (c .protection) (address sent)) false (a .bare) .0);
       security = refl;
-      clean = still-clean c h (idle (isNothing (c .running)) (a .calm)) }
+      clean = still-clean c h (idle (isNothing (c .running)) (a .calm));
+    }
 
 block-starts : (c : Chip) (sent : List ℕ) → Well c → Accepted c 0xD8 sent → Starts c (EraseBlock (blockOf (address sent))) (c .buffer)
 unfolding writeLocked
@@ -254,9 +265,10 @@ block-starts c sent h a =
       numbers = lt-ltb (blockOf (address sent)) 40 n;
       beside = erase-beside (blockAt (blockOf (address sent)) .start) (blockAt (blockOf (address sent)) .size) (c .suspended) (omega arith) (omega arith) (h .works .kind) (a .apart);
       bare = unlocked-inside (c .protection) (blockOf (address sent)) _ n (block-inside (blockOf (address sent))) (f .some)
-        ∙ not-intro (writeLocked (c .protection) (address sent)) (or-split (writeLocked (c .protection) (address sent)) false (a .bare) .0);
+          ∙ not-intro (writeLocked (c .protection) (address sent)) (or-split (writeLocked (c .protection) (address sent)) false (a .bare) .0);
       security = refl;
-      clean = still-clean c h (idle (isNothing (c .running)) (a .calm)) }
+      clean = still-clean c h (idle (isNothing (c .running)) (a .calm));
+    }
 
 array-starts : (c : Chip) (sent : List ℕ) → Well c → Accepted c 0xC7 sent → Starts c EraseArray (c .buffer)
 array-starts c sent h a =
@@ -265,7 +277,8 @@ array-starts c sent h a =
       beside = beside-nothing EraseArray (c .suspended) (alone (isNothing (c .suspended)) _ _ (a .apart));
       bare = array-unlocked (c .protection) (h .registers .low) ∙ not-false _ (a .bare);
       security = refl;
-      clean = still-clean c h (idle (isNothing (c .running)) (a .calm)) }
+      clean = still-clean c h (idle (isNothing (c .running)) (a .calm));
+    }
 
 -- 02 and 32
 page-starts : (c : Chip) (sent b : List ℕ) → Well c
@@ -279,9 +292,10 @@ page-starts c sent b h apart bare =
       numbers = lt-ltb (address sent / 256) 8192 (omega arith);
       beside = program-beside (address sent) (c .suspended) (h .works .suspended) (h .works .kind) apart;
       bare = unlocked-inside (c .protection) (blockOf (address sent)) _ (blockOf-lt (address sent) below) (page-inside (address sent) below) (omega arith)
-        ∙ not-intro _ bare;
+          ∙ not-intro _ bare;
       security = refl;
-      clean = refl }
+      clean = refl;
+    }
 
 security-starts : (c : Chip) (sent : List ℕ) → Well c → Accepted c 0xA5 sent → Starts c (ProgramSecurity (securityAddress sent / 256)) (securityBuffer sent)
 security-starts c sent h a =
@@ -290,7 +304,8 @@ security-starts c sent h a =
       beside = beside-nothing (ProgramSecurity (securityAddress sent / 256)) (c .suspended) (alone (isNothing (c .suspended)) _ _ (a .apart));
       bare = unlocked-nowhere (c .protection);
       security = security-start sent (c .sec) (a .opened);
-      clean = refl }
+      clean = refl;
+    }
 
 -- 85, 01, E8: no range in the array
 lone-starts : (c : Chip) (w : Work) → Well c → isNothing (c .running) ≡ true → isNothing (c .suspended) ≡ true
@@ -298,25 +313,40 @@ lone-starts : (c : Chip) (w : Work) → Well c → isNothing (c .running) ≡ tr
     → Starts c w (c .buffer)
 lone-starts c w h i j numbers bare security p =
     record {
-      numbers = numbers; beside = beside-nothing w (c .suspended) j; bare = bare; security = security;
-      clean = subst (λ (x : Bool). (x || isProgram (c .suspended) || allFF (c .buffer)) ≡ true) (sym p) (still-clean c h i) }
+      numbers = numbers;
+      beside = beside-nothing w (c .suspended) j;
+      bare = bare;
+      security = security;
+      clean = subst (λ (x : Bool). (x || isProgram (c .suspended) || allFF (c .buffer)) ≡ true) (sym p) (still-clean c h i);
+    }
 
 -- 42, 98: the protection register changes where nothing runs or is suspended
 relocked : (p : ℕ) (c : Chip) → Well c → isNothing (c .running) ≡ true → isNothing (c .suspended) ≡ true → Works p (c .sec) (c .buffer) (c .running) (c .suspended)
 relocked p c h i j =
     record {
-      running = h .works .running; suspended = h .works .suspended; kind = h .works .kind; beside = h .works .beside;
+      running = h .works .running;
+      suspended = h .works .suspended;
+      kind = h .works .kind;
+      beside = h .works .beside;
       running-open = ap (λ (w : Work). unlocked p (arrayRange w)) (nothing (c .running) i) ∙ unlocked-nowhere p;
       suspended-open = ap (λ (w : Work). unlocked p (arrayRange w)) (nothing (c .suspended) j) ∙ unlocked-nowhere p;
-      security = h .works .security; clean = h .works .clean }
+      security = h .works .security;
+      clean = h .works .clean;
+    }
 
 -- work that can be suspended uses the buffer exactly where it programs, and no Security ID
 put-aside : (p : ℕ) (sec : Bool) (b : List ℕ) (r s : Work) → Works p sec b r s → canSuspend r ≡ true → isNothing s ≡ true → Works p sec b Nothing r
 put-aside p sec b r s h k j =
     record {
-      running = refl; suspended = h .running; kind = or-right (isNothing r) (canSuspend r) k; beside = refl;
-      running-open = unlocked-nowhere p; suspended-open = h .running-open; security = refl;
-      clean = subst (λ (s : Work). (isProgram r || isProgram s || allFF b) ≡ true → (isProgram r || allFF b) ≡ true) (sym (nothing s j)) (shorter (isProgram r) (allFF b)) (h .clean) }
+      running = refl;
+      suspended = h .running;
+      kind = or-right (isNothing r) (canSuspend r) k;
+      beside = refl;
+      running-open = unlocked-nowhere p;
+      suspended-open = h .running-open;
+      security = refl;
+      clean = subst (λ (s : Work). (isProgram r || isProgram s || allFF b) ≡ true → (isProgram r || allFF b) ≡ true) (sym (nothing s j)) (shorter (isProgram r) (allFF b)) (h .clean);
+    }
   where
     shorter : (x y : Bool) → (x || false || y) ≡ true → (x || y) ≡ true
     shorter true y e = refl
@@ -325,10 +355,15 @@ put-aside p sec b r s h k j =
 run-again : (p : ℕ) (sec : Bool) (b : List ℕ) (r s : Work) → Works p sec b r s → isNothing r ≡ true → Works p sec b s Nothing
 run-again p sec b r s h i =
     record {
-      running = h .suspended; suspended = refl; kind = refl; beside = or-left (isNothing s || true) _ (or-right (isNothing s) true refl);
-      running-open = h .suspended-open; suspended-open = unlocked-nowhere p;
+      running = h .suspended;
+      suspended = refl;
+      kind = refl;
+      beside = or-left (isNothing s || true) _ (or-right (isNothing s) true refl);
+      running-open = h .suspended-open;
+      suspended-open = unlocked-nowhere p;
       security = by-suspended (λ s. securityRight s sec b ≡ true) refl (λ n. refl) (λ n. refl) (λ n. refl) s (h .kind);
-      clean = longer (isProgram s) (allFF b) (subst (λ (r : Work). bufferRight r s b ≡ true) (nothing r i) (h .clean)) }
+      clean = longer (isProgram s) (allFF b) (subst (λ (r : Work). bufferRight r s b ≡ true) (nothing r i) (h .clean));
+    }
   where
     longer : (x y : Bool) → (x || y) ≡ true → (x || false || y) ≡ true
     longer true y e = refl
@@ -339,44 +374,105 @@ After o k = (c : Chip) (sent : List ℕ) → Well c → Accepted c o sent → We
 
 rows-well : EachRow After frames
 unfolding After frames
-rows-well =
-    (λ c sent h a. record { registers = h .registers; works = h .works },
-    (λ c sent h a. record { registers = h .registers; works = h .works },
-    (λ c sent h a. record { registers = h .registers; works = at-rest (c .protection) (c .sec) blank blank-clean },
-    (λ c sent h a. record { registers = h .registers; works = h .works },
-    (λ c sent h a. record { registers = h .registers; works = h .works },
-    (λ c sent h a. record { registers = h .registers; works = h .works },
-    (λ c sent h a. record { registers = h .registers; works = h .works },
-    (λ c sent h a. record { registers = h .registers; works = h .works },
-    (λ c sent h a. record { registers = h .registers; works = h .works },
-    (λ c sent h a. record { registers = h .registers; works = h .works },
-    (λ c sent h a. record { registers = h .registers; works = h .works },
-    (λ c sent h a. record { registers = h .registers; works = h .works },
-    (λ c sent h a. record { registers = h .registers; works = h .works },
-    (λ c sent h a. record { registers = h .registers; works = h .works },
-    (λ c sent h a. record { registers = h .registers; works = h .works },
-    (λ c sent h a. record { registers = h .registers; works = h .works },
-    (λ c sent h a. record { registers = h .registers; works = started c _ _ h (sector-starts c sent h a) },
-    (λ c sent h a. record { registers = h .registers; works = started c _ _ h (block-starts c sent h a) },
-    (λ c sent h a. record { registers = h .registers; works = started c _ _ h (array-starts c sent h a) },
-    (λ c sent h a. record { registers = h .registers; works = started c _ _ h (page-starts c sent _ h (a .apart) (or-split (writeLocked (c .protection) (address sent)) false (a .bare) .0)) },
-    (λ c sent h a. record { registers = h .registers; works = started c _ _ h (page-starts c sent _ h (a .apart) (or-split (writeLocked (c .protection) (address sent)) false (a .bare) .0)) },
-    (λ c sent h a. record { registers = h .registers; works = started c _ _ h (security-starts c sent h a) },
-    (λ c sent h a. record { registers = h .registers; works = started c _ _ h (lone-starts c LockSecurity h (idle (isNothing (c .running)) (a .calm)) (alone (isNothing (c .suspended)) _ _ (a .apart)) refl (unlocked-nowhere (c .protection)) (ap not (or-split (c .sec) false (a .opened) .0)) refl) },
-    (λ c sent h a. record { registers = h .registers; works = started c _ _ h (lone-starts c _ h (idle (isNothing (c .running)) (a .calm)) (alone (isNothing (c .suspended)) _ _ (a .apart)) refl (unlocked-nowhere (c .protection)) refl refl) },
-    (λ c sent h a. record {
-      registers = registers-or (c .protection) (c .permanent) _ (h .registers) (masked-low (six sent));
-      works = relocked _ c h (idle (isNothing (c .running)) (a .calm)) (alone (isNothing (c .suspended)) _ _ (a .apart)) },
-    (λ c sent h a. record { registers = h .registers; works = started c _ _ h (lone-starts c _ h (idle (isNothing (c .running)) (a .calm)) (alone (isNothing (c .suspended)) _ _ (a .apart)) refl (unlocked-nowhere (c .protection)) refl refl) },
-    (λ c sent h a. record { registers = h .registers; works = h .works },
-    (λ c sent h a. record {
-      registers = registers-or (c .protection) (c .permanent) _ (h .registers) (read-locks-low (c .protection) (c .permanent) (h .registers));
-      works = relocked _ c h (idle (isNothing (c .running)) (a .calm)) (alone (isNothing (c .suspended)) _ _ (a .apart)) },
-    (λ c sent h a.
-      let k = and-split (canSuspend (c .running)) (isNothing (c .suspended)) (not-false _ (first-of _ _ _ _ _ (a .apart))) in
-      record { registers = h .registers; works = put-aside (c .protection) (c .sec) (c .buffer) (c .running) (c .suspended) (h .works) (k .0) (k .1) },
-    (λ c sent h a. record { registers = h .registers; works = run-again (c .protection) (c .sec) (c .buffer) (c .running) (c .suspended) (h .works) (idle (isNothing (c .running)) (a .calm)) },
-    tt))))))))))))))))))))))))))))))
+rows-well = (
+  λ c sent h a. record { registers = h .registers; works = h .works },
+  (
+    λ c sent h a. record { registers = h .registers; works = h .works },
+    (
+      λ c sent h a. record { registers = h .registers; works = at-rest (c .protection) (c .sec) blank blank-clean },
+      (
+        λ c sent h a. record { registers = h .registers; works = h .works },
+        (
+          λ c sent h a. record { registers = h .registers; works = h .works },
+          (
+            λ c sent h a. record { registers = h .registers; works = h .works },
+            (
+              λ c sent h a. record { registers = h .registers; works = h .works },
+              (
+                λ c sent h a. record { registers = h .registers; works = h .works },
+                (
+                  λ c sent h a. record { registers = h .registers; works = h .works },
+                  (
+                    λ c sent h a. record { registers = h .registers; works = h .works },
+                    (
+                      λ c sent h a. record { registers = h .registers; works = h .works },
+                      (
+                        λ c sent h a. record { registers = h .registers; works = h .works },
+                        (
+                          λ c sent h a. record { registers = h .registers; works = h .works },
+                          (
+                            λ c sent h a. record { registers = h .registers; works = h .works },
+                            (
+                              λ c sent h a. record { registers = h .registers; works = h .works },
+                              (
+                                λ c sent h a. record { registers = h .registers; works = h .works },
+                                (
+                                  λ c sent h a. record { registers = h .registers; works = started c _ _ h (sector-starts c sent h a) },
+                                  (
+                                    λ c sent h a. record { registers = h .registers; works = started c _ _ h (block-starts c sent h a) },
+                                    (
+                                      λ c sent h a. record { registers = h .registers; works = started c _ _ h (array-starts c sent h a) },
+                                      (
+                                        λ c sent h a. record { registers = h .registers; works = started c _ _ h (page-starts c sent _ h (a .apart) (or-split (writeLocked (c .protection) (address sent)) false (a .bare) .0)) },
+                                        (
+                                          λ c sent h a. record { registers = h .registers; works = started c _ _ h (page-starts c sent _ h (a .apart) (or-split (writeLocked (c .protection) (address sent)) false (a .bare) .0)) },
+                                          (
+                                            λ c sent h a. record { registers = h .registers; works = started c _ _ h (security-starts c sent h a) },
+                                            (
+                                              λ c sent h a. record { registers = h .registers; works = started c _ _ h (lone-starts c LockSecurity h (idle (isNothing (c .running)) (a .calm)) (alone (isNothing (c .suspended)) _ _ (a .apart)) refl (unlocked-nowhere (c .protection)) (ap not (or-split (c .sec) false (a .opened) .0)) refl) },
+                                              (
+                                                λ c sent h a. record { registers = h .registers; works = started c _ _ h (lone-starts c _ h (idle (isNothing (c .running)) (a .calm)) (alone (isNothing (c .suspended)) _ _ (a .apart)) refl (unlocked-nowhere (c .protection)) refl refl) },
+                                                (
+                                                  λ c sent h a. record {
+                                                    registers = registers-or (c .protection) (c .permanent) _ (h .registers) (masked-low (six sent));
+                                                    works = relocked _ c h (idle (isNothing (c .running)) (a .calm)) (alone (isNothing (c .suspended)) _ _ (a .apart));
+                                                  },
+                                                  (
+                                                    λ c sent h a. record { registers = h .registers; works = started c _ _ h (lone-starts c _ h (idle (isNothing (c .running)) (a .calm)) (alone (isNothing (c .suspended)) _ _ (a .apart)) refl (unlocked-nowhere (c .protection)) refl refl) },
+                                                    (
+                                                      λ c sent h a. record { registers = h .registers; works = h .works },
+                                                      (
+                                                        λ c sent h a. record {
+                                                          registers = registers-or (c .protection) (c .permanent) _ (h .registers) (read-locks-low (c .protection) (c .permanent) (h .registers));
+                                                          works = relocked _ c h (idle (isNothing (c .running)) (a .calm)) (alone (isNothing (c .suspended)) _ _ (a .apart));
+                                                        },
+                                                        (
+                                                          λ c sent h a.
+                                                              let k = and-split (canSuspend (c .running)) (isNothing (c .suspended)) (not-false _ (first-of _ _ _ _ _ (a .apart))) in
+                                                              record { registers = h .registers; works = put-aside (c .protection) (c .sec) (c .buffer) (c .running) (c .suspended) (h .works) (k .0) (k .1) },
+                                                          (
+                                                            λ c sent h a. record { registers = h .registers; works = run-again (c .protection) (c .sec) (c .buffer) (c .running) (c .suspended) (h .works) (idle (isNothing (c .running)) (a .calm)) },
+                                                            tt,
+                                                          ),
+                                                        ),
+                                                      ),
+                                                    ),
+                                                  ),
+                                                ),
+                                              ),
+                                            ),
+                                          ),
+                                        ),
+                                      ),
+                                    ),
+                                  ),
+                                ),
+                              ),
+                            ),
+                          ),
+                        ),
+                      ),
+                    ),
+                  ),
+                ),
+              ),
+            ),
+          ),
+        ),
+      ),
+    ),
+  ),
+)
   where
     first-of : (a b c d e : Bool) → (a || b || c || d || e) ≡ false → a ≡ false
     first-of true b c d e q = absurd (true≢false q)
@@ -399,8 +495,15 @@ frame-well (suc (suc (suc n))) c sent h a = record { registers = h .registers; w
 ended : (p : ℕ) (sec sec′ : Bool) (b : List ℕ) (r s : Work) → Works p sec b r s → Works p sec′ (pick (isProgram s) b blank) Nothing s
 ended p sec sec′ b r s h =
     record {
-      running = refl; suspended = h .suspended; kind = h .kind; beside = refl;
-      running-open = unlocked-nowhere p; suspended-open = h .suspended-open; security = refl; clean = go (isProgram s) }
+      running = refl;
+      suspended = h .suspended;
+      kind = h .kind;
+      beside = refl;
+      running-open = unlocked-nowhere p;
+      suspended-open = h .suspended-open;
+      security = refl;
+      clean = go (isProgram s);
+    }
   where
     go : (x : Bool) → (x || allFF (pick x b blank)) ≡ true
     go true = refl
@@ -432,9 +535,16 @@ module _ (c : Chip) (h : Well c) where
       record {
         registers = registers-more (c .protection) (c .permanent) v (h .registers);
         works = record {
-          running = refl; suspended = w .suspended; kind = w .kind; beside = refl; running-open = unlocked-nowhere p;
+          running = refl;
+          suspended = w .suspended;
+          kind = w .kind;
+          beside = refl;
+          running-open = unlocked-nowhere p;
           suspended-open = ap (λ (w : Work). unlocked p (arrayRange w)) (nothing (c .suspended) j) ∙ unlocked-nowhere p;
-          security = refl; clean = w .clean } }
+          security = refl;
+          clean = w .clean;
+        };
+      }
 
   completed-well : (n : ℕ) → Well (completedChip n c)
   unfolding completedChip
@@ -460,3 +570,11 @@ unfolding step frame completion powerCut
 step-well-formed s (sends f) h = well-right _ (frame-well (first (frameTests s f)) (s .chip) (f .sent) (well-of (s .chip) h) (λ e. accepted s f e))
 step-well-formed s completes h = well-right _ (completed-well (s .chip) (well-of (s .chip) h) (first (completionTests s)))
 step-well-formed s (cuts k) h = well-right _ (cut-well (s .chip) (well-of (s .chip) h) (first (cutTests s)) k)
+
+-- a new chip is well-formed
+pub new-well-formed : wellFormed newChip ≡ true
+unfolding registersRight
+new-well-formed = well-right newChip record { registers = registers-of powerUpLocks 0 start; works = at-rest powerUpLocks false blank blank-clean }
+  where
+    start : registersRight powerUpLocks 0 ≡ true
+    start = refl

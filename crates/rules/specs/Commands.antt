@@ -13,81 +13,8 @@ use Rattle.rules.specs.Words.{bit, pick}
 use Rattle.rules.specs.Blocks.{blockOf, writeLocks, readLocks, allLocks, powerUpLocks}
 use Rattle.rules.specs.Works.{isProgram}
 use Rattle.rules.specs.Frames.{address, securityAddress, six}
+use Rattle.rules.specs.Fields.{withBuffer, withProtection, withPermanent, withRunning, withSuspended, withSqi, withWel, withIoc, withWpen, withWpld, withSec, withEnable}
 use Rattle.rules.specs.Programs.{blank, pageBuffer, securityBuffer}
-
--- ---- one field set
-
-abbrev pub withBuffer : List ℕ → Chip → Chip
-withBuffer b c =
-    record {
-      buffer = b; protection = c .protection; permanent = c .permanent; running = c .running; suspended = c .suspended;
-      sqi = c .sqi; wel = c .wel; ioc = c .ioc; wpen = c .wpen; wpld = c .wpld; sec = c .sec; enable = c .enable }
-
-abbrev pub withProtection : ℕ → Chip → Chip
-withProtection p c =
-    record {
-      buffer = c .buffer; protection = p; permanent = c .permanent; running = c .running; suspended = c .suspended;
-      sqi = c .sqi; wel = c .wel; ioc = c .ioc; wpen = c .wpen; wpld = c .wpld; sec = c .sec; enable = c .enable }
-
-abbrev pub withPermanent : ℕ → Chip → Chip
-withPermanent p c =
-    record {
-      buffer = c .buffer; protection = c .protection; permanent = p; running = c .running; suspended = c .suspended;
-      sqi = c .sqi; wel = c .wel; ioc = c .ioc; wpen = c .wpen; wpld = c .wpld; sec = c .sec; enable = c .enable }
-
-abbrev pub withRunning : Work → Chip → Chip
-withRunning w c =
-    record {
-      buffer = c .buffer; protection = c .protection; permanent = c .permanent; running = w; suspended = c .suspended;
-      sqi = c .sqi; wel = c .wel; ioc = c .ioc; wpen = c .wpen; wpld = c .wpld; sec = c .sec; enable = c .enable }
-
-abbrev pub withSuspended : Work → Chip → Chip
-withSuspended w c =
-    record {
-      buffer = c .buffer; protection = c .protection; permanent = c .permanent; running = c .running; suspended = w;
-      sqi = c .sqi; wel = c .wel; ioc = c .ioc; wpen = c .wpen; wpld = c .wpld; sec = c .sec; enable = c .enable }
-
-abbrev pub withSqi : Bool → Chip → Chip
-withSqi b c =
-    record {
-      buffer = c .buffer; protection = c .protection; permanent = c .permanent; running = c .running; suspended = c .suspended;
-      sqi = b; wel = c .wel; ioc = c .ioc; wpen = c .wpen; wpld = c .wpld; sec = c .sec; enable = c .enable }
-
-abbrev pub withWel : Bool → Chip → Chip
-withWel b c =
-    record {
-      buffer = c .buffer; protection = c .protection; permanent = c .permanent; running = c .running; suspended = c .suspended;
-      sqi = c .sqi; wel = b; ioc = c .ioc; wpen = c .wpen; wpld = c .wpld; sec = c .sec; enable = c .enable }
-
-abbrev pub withIoc : Bool → Chip → Chip
-withIoc b c =
-    record {
-      buffer = c .buffer; protection = c .protection; permanent = c .permanent; running = c .running; suspended = c .suspended;
-      sqi = c .sqi; wel = c .wel; ioc = b; wpen = c .wpen; wpld = c .wpld; sec = c .sec; enable = c .enable }
-
-abbrev pub withWpen : Bool → Chip → Chip
-withWpen b c =
-    record {
-      buffer = c .buffer; protection = c .protection; permanent = c .permanent; running = c .running; suspended = c .suspended;
-      sqi = c .sqi; wel = c .wel; ioc = c .ioc; wpen = b; wpld = c .wpld; sec = c .sec; enable = c .enable }
-
-abbrev pub withWpld : Bool → Chip → Chip
-withWpld b c =
-    record {
-      buffer = c .buffer; protection = c .protection; permanent = c .permanent; running = c .running; suspended = c .suspended;
-      sqi = c .sqi; wel = c .wel; ioc = c .ioc; wpen = c .wpen; wpld = b; sec = c .sec; enable = c .enable }
-
-abbrev pub withSec : Bool → Chip → Chip
-withSec b c =
-    record {
-      buffer = c .buffer; protection = c .protection; permanent = c .permanent; running = c .running; suspended = c .suspended;
-      sqi = c .sqi; wel = c .wel; ioc = c .ioc; wpen = c .wpen; wpld = c .wpld; sec = b; enable = c .enable }
-
-abbrev pub withEnable : Bool → Chip → Chip
-withEnable b c =
-    record {
-      buffer = c .buffer; protection = c .protection; permanent = c .permanent; running = c .running; suspended = c .suspended;
-      sqi = c .sqi; wel = c .wel; ioc = c .ioc; wpen = c .wpen; wpld = c .wpld; sec = c .sec; enable = b }
 
 -- ---- power-up and reset
 
@@ -98,8 +25,19 @@ powerUpIoc = false
 abbrev pub poweredUp : Bool → Bool → ℕ → Chip
 poweredUp sec wpen permanent =
     record {
-      buffer = blank; protection = powerUpLocks; permanent = permanent; running = Work.Nothing; suspended = Work.Nothing;
-      sqi = false; wel = false; ioc = powerUpIoc; wpen = wpen; wpld = false; sec = sec; enable = false }
+      buffer = blank;
+      protection = powerUpLocks;
+      permanent = permanent;
+      running = Work.Nothing;
+      suspended = Work.Nothing;
+      sqi = false;
+      wel = false;
+      ioc = powerUpIoc;
+      wpen = wpen;
+      wpld = false;
+      sec = sec;
+      enable = false;
+    }
 
 abbrev pub newChip : Chip
 newChip = poweredUp false false 0
@@ -107,9 +45,7 @@ newChip = poweredUp false false 0
 -- running and suspended work dropped; WPLD, SEC, WPEN and both protection registers stay
 abbrev pub afterReset : Chip → Chip
 afterReset c =
-    record {
-      buffer = blank; protection = c .protection; permanent = c .permanent; running = Work.Nothing; suspended = Work.Nothing;
-      sqi = false; wel = false; ioc = powerUpIoc; wpen = c .wpen; wpld = c .wpld; sec = c .sec; enable = c .enable }
+    withBuffer blank (withRunning Work.Nothing (withSuspended Work.Nothing (withSqi false (withWel false (withIoc powerUpIoc c)))))
 
 -- ---- long commands
 

@@ -6,6 +6,7 @@ pub mod Registers
 pub mod Frames
 pub mod Reading
 pub mod Programs
+pub mod Fields
 pub mod Commands
 pub mod WellFormed
 pub mod Numbers

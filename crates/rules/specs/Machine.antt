@@ -10,7 +10,8 @@ use Rattle.rules.specs.Blocks.{arraySize}
 use Rattle.rules.specs.Works.{isErase, arrayRange, securityRange, finish}
 use Rattle.rules.specs.Frames.{formOf, opcode}
 use Rattle.rules.specs.Reading.{silent, reply}
-use Rattle.rules.specs.Commands.{withEnable, act, settledFirst, rested, afterCut}
+use Rattle.rules.specs.Fields.{withEnable}
+use Rattle.rules.specs.Commands.{act, settledFirst, rested, afterCut}
 use Rattle.rules.specs.Numbers.{State, Frame, first, frameTests, completionTests, cutTests}
 
 -- the whole of what an event gives back and leaves
@@ -53,8 +54,13 @@ unfoldable pub frame : State → Frame → Outcome
 frame s f =
     let n = frameNumber s f in
     record {
-      number = n; chip = frameChip n (s .chip) (f .sent); array = s .array; security = s .security;
-      reply = frameReply n s f; marks = frameMarks n s f }
+      number = n;
+      chip = frameChip n (s .chip) (f .sent);
+      array = s .array;
+      security = s .security;
+      reply = frameReply n s f;
+      marks = frameMarks n s f;
+    }
 
 -- ---- the running work with its first k bytes finished, where the number is 0
 
@@ -76,8 +82,13 @@ unfoldable pub completion : State → Outcome
 completion s =
     let n = first (completionTests s) in
     record {
-      number = n; chip = completedChip n (s .chip); array = workedArray n arraySize s; security = workedSecurity n arraySize s;
-      reply = unlent; marks = unlent }
+      number = n;
+      chip = completedChip n (s .chip);
+      array = workedArray n arraySize s;
+      security = workedSecurity n arraySize s;
+      reply = unlent;
+      marks = unlent;
+    }
 
 -- ---- power cut k
 
@@ -89,8 +100,13 @@ unfoldable pub powerCut : State → ℕ → Outcome
 powerCut s k =
     let n = first (cutTests s) in
     record {
-      number = n; chip = cutChip n k (s .chip); array = workedArray n k s; security = workedSecurity n k s;
-      reply = unlent; marks = unlent }
+      number = n;
+      chip = cutChip n k (s .chip);
+      array = workedArray n k s;
+      security = workedSecurity n k s;
+      reply = unlent;
+      marks = unlent;
+    }
 
 -- ---- events and runs
 

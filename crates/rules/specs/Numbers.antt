@@ -91,12 +91,12 @@ suspension c o sent =
     || oneOf o (0x30 ∷ []) && isNothing (c .suspended)
     || oneOf o (0xC7 ∷ 0x01 ∷ 0x42 ∷ 0x8D ∷ 0xE8 ∷ 0x98 ∷ 0xA5 ∷ 0x85 ∷ []) && not (isNothing (c .suspended))
     || wse c
-       && (oneOf o (0x20 ∷ 0xD8 ∷ [])
-           || oneOf o (0x02 ∷ 0x32 ∷ []) && holds (arrayRange (c .suspended)) (address sent))
+    && (oneOf o (0x20 ∷ 0xD8 ∷ [])
+    || oneOf o (0x02 ∷ 0x32 ∷ []) && holds (arrayRange (c .suspended)) (address sent))
     || wsp c
-       && (oneOf o (0x02 ∷ 0x32 ∷ [])
-           || oneOf o (0x20 ∷ []) && holds (range (address sent / 4096 * 4096) 4096) (arrayRange (c .suspended) .start)
-           || oneOf o (0xD8 ∷ []) && holds (span (blockAt (blockOf (address sent)))) (arrayRange (c .suspended) .start))
+    && (oneOf o (0x02 ∷ 0x32 ∷ [])
+    || oneOf o (0x20 ∷ []) && holds (range (address sent / 4096 * 4096) 4096) (arrayRange (c .suspended) .start)
+    || oneOf o (0xD8 ∷ []) && holds (span (blockAt (blockOf (address sent)))) (arrayRange (c .suspended) .start))
 
 -- 9: WEL needed and 0
 abbrev pub noWel : Chip → ℕ → Bool

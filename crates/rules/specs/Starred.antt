@@ -55,18 +55,18 @@ starred =
     ∷ ((send (0x35 ∷ []) ∷ []) gives (byte 0 is 0x08 ∷ []))
     -- 72 gives 55 55 FF FF FF FF; open, six 00.
     ∷ ((send (0x72 ∷ []) ∷ [])
-       gives (byte 0 is 0x55 ∷ byte 1 is 0x55 ∷ byte 2 is 0xFF ∷ byte 3 is 0xFF ∷ byte 4 is 0xFF ∷ byte 5 is 0xFF ∷ []))
+    gives (byte 0 is 0x55 ∷ byte 1 is 0x55 ∷ byte 2 is 0xFF ∷ byte 3 is 0xFF ∷ byte 4 is 0xFF ∷ byte 5 is 0xFF ∷ []))
     ∷ ((opened ++ send (0x72 ∷ []) ∷ [])
-       gives (byte 0 is 0x00 ∷ byte 1 is 0x00 ∷ byte 2 is 0x00 ∷ byte 3 is 0x00 ∷ byte 4 is 0x00 ∷ byte 5 is 0x00 ∷ []))
+    gives (byte 0 is 0x00 ∷ byte 1 is 0x00 ∷ byte 2 is 0x00 ∷ byte 3 is 0x00 ∷ byte 4 is 0x00 ∷ byte 5 is 0x00 ∷ []))
     -- 06, then 02 00 00 00 00: refused 11, WEL still 1.
     ∷ ((send (0x06 ∷ []) ∷ send (0x02 ∷ 0x00 ∷ 0x00 ∷ 0x00 ∷ 0x00 ∷ []) ∷ []) gives (number is 11 ∷ []))
     ∷ ((send (0x06 ∷ []) ∷ send (0x02 ∷ 0x00 ∷ 0x00 ∷ 0x00 ∷ 0x00 ∷ []) ∷ send (0x05 ∷ []) ∷ []) gives (byte 0 is 0x02 ∷ []))
     -- Open, 06, 02 00 01 FE 11 22 33, completion: 1FE is 11, 1FF is 22, 100 is 33, 200 stays FF. Again with 0F at 100: 03.
     ∷ ((opened ++ send (0x06 ∷ []) ∷ send (0x02 ∷ 0x00 ∷ 0x01 ∷ 0xFE ∷ 0x11 ∷ 0x22 ∷ 0x33 ∷ []) ∷ completes ∷ [])
-       gives (place 0x1FE is 0x11 ∷ place 0x1FF is 0x22 ∷ place 0x100 is 0x33 ∷ place 0x200 is 0xFF ∷ []))
+    gives (place 0x1FE is 0x11 ∷ place 0x1FF is 0x22 ∷ place 0x100 is 0x33 ∷ place 0x200 is 0xFF ∷ []))
     ∷ ((opened ++ send (0x06 ∷ []) ∷ send (0x02 ∷ 0x00 ∷ 0x01 ∷ 0xFE ∷ 0x11 ∷ 0x22 ∷ 0x33 ∷ []) ∷ completes
-        ∷ send (0x06 ∷ []) ∷ send (0x02 ∷ 0x00 ∷ 0x01 ∷ 0x00 ∷ 0x0F ∷ []) ∷ completes ∷ [])
-       gives (place 0x100 is 0x03 ∷ []))
+    ∷ send (0x06 ∷ []) ∷ send (0x02 ∷ 0x00 ∷ 0x01 ∷ 0x00 ∷ 0x0F ∷ []) ∷ completes ∷ [])
+    gives (place 0x100 is 0x03 ∷ []))
     -- D8 range: 007FFF gives 006000 to 007FFF; 008000 gives 008000 to 00FFFF; 1F7FFF gives 1F0000 to 1F7FFF; 1F8000 gives 1F8000 to 1F9FFF.
     ∷ ((opened ++ send (0x06 ∷ []) ∷ send (0xD8 ∷ 0x00 ∷ 0x7F ∷ 0xFF ∷ []) ∷ []) gives (from is 0x006000 ∷ to is 0x007FFF ∷ []))
     ∷ ((opened ++ send (0x06 ∷ []) ∷ send (0xD8 ∷ 0x00 ∷ 0x80 ∷ 0x00 ∷ []) ∷ []) gives (from is 0x008000 ∷ to is 0x00FFFF ∷ []))
@@ -75,16 +75,16 @@ starred =
     -- Open, 06, 20 00 10 00: status 83; B0: status 06. Place 000FFF has mark 1, 001000 mark 0.
     ∷ ((opened ++ send (0x06 ∷ []) ∷ send (0x20 ∷ 0x00 ∷ 0x10 ∷ 0x00 ∷ []) ∷ send (0x05 ∷ []) ∷ []) gives (byte 0 is 0x83 ∷ []))
     ∷ ((opened ++ send (0x06 ∷ []) ∷ send (0x20 ∷ 0x00 ∷ 0x10 ∷ 0x00 ∷ []) ∷ send (0xB0 ∷ []) ∷ send (0x05 ∷ []) ∷ [])
-       gives (byte 0 is 0x06 ∷ []))
+    gives (byte 0 is 0x06 ∷ []))
     ∷ ((opened ++ send (0x06 ∷ []) ∷ send (0x20 ∷ 0x00 ∷ 0x10 ∷ 0x00 ∷ []) ∷ send (0xB0 ∷ [])
-        ∷ send (0x03 ∷ 0x00 ∷ 0x0F ∷ 0xFF ∷ []) ∷ [])
-       gives (mark 0 is 1 ∷ mark 1 is 0 ∷ []))
+    ∷ send (0x03 ∷ 0x00 ∷ 0x0F ∷ 0xFF ∷ []) ∷ [])
+    gives (mark 0 is 1 ∷ mark 1 is 0 ∷ []))
     -- 06, 42 00 02 00 00 00 00: place 001FFF reads 00, 002000 reads FF.
     ∷ ((send (0x06 ∷ []) ∷ send (0x42 ∷ 0x00 ∷ 0x02 ∷ 0x00 ∷ 0x00 ∷ 0x00 ∷ 0x00 ∷ []) ∷ send (0x03 ∷ 0x00 ∷ 0x1F ∷ 0xFF ∷ []) ∷ [])
-       gives (byte 0 is 0x00 ∷ byte 1 is 0xFF ∷ []))
+    gives (byte 0 is 0x00 ∷ byte 1 is 0xFF ∷ []))
     -- Only bit 0 set, 06, C7: refused 11.
     ∷ ((send (0x06 ∷ []) ∷ send (0x42 ∷ 0x00 ∷ 0x00 ∷ 0x00 ∷ 0x00 ∷ 0x00 ∷ 0x01 ∷ []) ∷ send (0x06 ∷ []) ∷ send (0xC7 ∷ []) ∷ [])
-       gives (number is 11 ∷ []))
+    gives (number is 11 ∷ []))
     -- Each alone after 06 on a new chip: A5 00 08 AA: done; A5 00 07 AA: 10; A5 00 FF AA BB: 10.
     ∷ ((send (0x06 ∷ []) ∷ send (0xA5 ∷ 0x00 ∷ 0x08 ∷ 0xAA ∷ []) ∷ []) gives (number is 0 ∷ []))
     ∷ ((send (0x06 ∷ []) ∷ send (0xA5 ∷ 0x00 ∷ 0x07 ∷ 0xAA ∷ []) ∷ []) gives (number is 10 ∷ []))
