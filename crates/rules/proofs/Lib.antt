@@ -8,4 +8,5 @@ pub mod Locks
 pub mod WellFormed
 pub mod Refusals
 pub mod Effects
+pub mod Promises
 pub mod Starred

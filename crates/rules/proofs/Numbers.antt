@@ -12,7 +12,7 @@ use borrow.Author.Tests.{ltb-true, leb-true, not-true, not-false}
 use Rattle.rules.specs.declared.Chip.{Chip}
 use Rattle.rules.specs.Words.{pick, every}
 use Rattle.rules.specs.Frames.{Row, frames, formOf, find, listed, lengthRight, opcode}
-use Rattle.rules.specs.Numbers.{State, Frame, stateRight, frameRight, malformed, emptyFrame, notListed, wrongLength, whileBusy, noEnable, noIoc, suspension, noWel, closed, lockedTarget, nothingRuns, Test, test, first, frameTests, completionTests, cutTests}
+use Rattle.rules.specs.Numbers.{State, Frame, stateRight, frameRight, malformed, emptyFrame, notListed, wrongLength, whileBusy, noEnable, noIoc, suspension, noWel, closed, lockedTarget, nothingRuns, Test, test, first, commandTests, frameTests, completionTests, cutTests}
 use Rattle.rules.specs.Given.{Clear, FrameGiven, CompletionGiven, CutGiven}
 use Rattle.rules.proofs.Bools.{and-split, not-intro}
 
@@ -131,11 +131,11 @@ first-below m (t ∷ ts) e =
 
 -- the order of the base is the order of the numbers
 pub frame-rising : (s : State) (f : Frame) → rising 0 (frameTests s f) ≡ true
-unfolding frameTests
+unfolding frameTests commandTests
 frame-rising s f = refl
 
 pub frame-given : (s : State) (f : Frame) → FrameGiven s f
-unfolding frameTests
+unfolding frameTests commandTests
 frame-given s f =
     let at = first-at (test 0 false) 0 (frameTests s f) (frame-rising s f) in
     let one = at 0 (omega arith) in
@@ -198,7 +198,7 @@ pub record Accepted (c : Chip) (o : ℕ) (sent : List ℕ) : Type 0 where
   pub bare : lockedTarget c o sent ≡ false
 
 pub accepted : (s : State) (f : Frame) → first (frameTests s f) ≡ 0 → Accepted (s .chip) (opcode (f .sent)) (f .sent)
-unfolding frameTests
+unfolding frameTests commandTests
 accepted s f e =
     let c = frame-given s f .is-0 .0 e in
     record {
@@ -215,5 +215,5 @@ accepted s f e =
 
 -- the record and the lengths were right
 pub accepted-right : (s : State) (f : Frame) → first (frameTests s f) ≡ 0 → (stateRight s ≡ true) × (frameRight f ≡ true)
-unfolding frameTests
+unfolding frameTests commandTests
 accepted-right s f e = and-split (stateRight s) (frameRight f) (not-false (stateRight s && frameRight f) (frame-given s f .is-0 .0 e .0))

@@ -12,4 +12,5 @@ pub mod WellFormed
 pub mod Numbers
 pub mod Given
 pub mod Machine
+pub mod Promises
 pub mod Starred

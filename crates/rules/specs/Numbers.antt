@@ -135,20 +135,22 @@ abbrev pub first : List Test → ℕ
 first [] = 0
 first (t ∷ ts) = pick (t .applies) (t .number) (first ts)
 
-unfoldable pub frameTests : State → Frame → List Test
-frameTests s f =
-    test 1 (malformed s f)
-    ∷ test 2 (emptyFrame (f .sent))
-    ∷ test 3 (notListed (s .chip) (opcode (f .sent)))
-    ∷ test 4 (wrongLength (s .chip) (opcode (f .sent)) (f .sent))
-    ∷ test 5 (whileBusy (s .chip) (opcode (f .sent)))
-    ∷ test 6 (noEnable (s .chip) (opcode (f .sent)))
-    ∷ test 7 (noIoc (s .chip) (opcode (f .sent)))
-    ∷ test 8 (suspension (s .chip) (opcode (f .sent)) (f .sent))
-    ∷ test 9 (noWel (s .chip) (opcode (f .sent)))
-    ∷ test 10 (closed (s .chip) (opcode (f .sent)) (f .sent))
-    ∷ test 11 (lockedTarget (s .chip) (opcode (f .sent)) (f .sent))
+-- of a frame that is not empty, with a well-formed record and right lengths
+unfoldable pub commandTests : Chip → List ℕ → List Test
+commandTests c sent =
+    test 3 (notListed c (opcode sent))
+    ∷ test 4 (wrongLength c (opcode sent) sent)
+    ∷ test 5 (whileBusy c (opcode sent))
+    ∷ test 6 (noEnable c (opcode sent))
+    ∷ test 7 (noIoc c (opcode sent))
+    ∷ test 8 (suspension c (opcode sent) sent)
+    ∷ test 9 (noWel c (opcode sent))
+    ∷ test 10 (closed c (opcode sent) sent)
+    ∷ test 11 (lockedTarget c (opcode sent) sent)
     ∷ []
+
+unfoldable pub frameTests : State → Frame → List Test
+frameTests s f = test 1 (malformed s f) ∷ test 2 (emptyFrame (f .sent)) ∷ commandTests (s .chip) (f .sent)
 
 unfoldable pub completionTests : State → List Test
 completionTests s = test 1 (not (stateRight s)) ∷ test 12 (nothingRuns (s .chip)) ∷ []

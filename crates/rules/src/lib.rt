@@ -54,6 +54,12 @@ pub enum Answer {
     Refused(Refusal),
 }
 
+// What an event gives back: the answer, and the record afterwards.
+pub struct After {
+    pub answer: Answer,
+    pub chip: Chip,
+}
+
 // What a reading frame gives.
 pub enum Source {
     Status,

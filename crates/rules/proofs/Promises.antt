@@ -1,0 +1,111 @@
+-- A promise leaves no second outcome: whatever meets it at the same input is the same result and the same lent memory. Assumes nothing.
+use Prim.Native.Nat.{ℕ, _<_}
+use mathlib.Core.Path.{_≡_, refl, sym, ap, _∙_, fun-ext}
+use mathlib.Core.Bool.{Bool, true, false}
+use mathlib.Core.List.{List, []}
+use native.Mathlib.Omega.{arith}
+use lib.Dec.{ltb}
+use lib.ListN.{length, getD, List·getD-eq-default}
+use lib.Seq.{ext-getD}
+use borrow.Author.Tests.{ltb-true, ltb-false}
+use Rattle.rules.specs.declared.After.{After}
+use Rattle.rules.specs.declared.Answer.{Answer}
+use Rattle.rules.specs.declared.Chip.{Chip}
+use Rattle.rules.specs.declared.Refusal.{Refusal}
+use Rattle.rules.specs.Words.{pick, Lent, lent, written}
+use Rattle.rules.specs.Numbers.{refusalNumber, answerNumber}
+use Rattle.rules.specs.Machine.{Outcome}
+use Rattle.rules.specs.Promises.{came, FramePromise, CompletionPromise, CutPromise}
+
+-- ---- lent memory
+
+-- two memories are the same where their sizes are, and their bytes
+pub lent-ext : {m n : Lent} → m .size ≡ n .size → ((i : ℕ) → m .byte i ≡ n .byte i) → m ≡ n
+lent-ext p q = λ i. record { size = p i; byte = fun-ext q i }
+
+-- a slice is the only one with its memory
+pub lent-one : (l k : List ℕ) → lent l ≡ lent k → l ≡ k
+lent-one l k e = ext-getD 0 l k (ap (λ (m : Lent). m .size) e) (λ i below. ap (λ (m : Lent). m .byte i) e)
+
+-- a slice that holds what f says below its length is the memory written by f
+pub lent-written : (l : List ℕ) (n : ℕ) (f : ℕ → ℕ) → length l ≡ n → ((i : ℕ) → i < n → getD l i 0 ≡ f i) → lent l ≡ written n f
+lent-written l n f s h = lent-ext s (λ i. go i (ltb i n) refl)
+  where
+    go : (i : ℕ) (b : Bool) → ltb i n ≡ b → getD l i 0 ≡ pick b (f i) 0
+    go i true e = h i (ltb-true i n e)
+    go i false e = List·getD-eq-default l 0 (let k = ltb-false i n e in omega arith)
+
+-- ---- the answer is known by its number
+
+refusalOf : ℕ → Refusal
+refusalOf n =
+    pick (ltb n 2) Refusal.Malformed
+    (pick (ltb n 3) Refusal.Empty
+    (pick (ltb n 4) Refusal.NotListed
+    (pick (ltb n 5) Refusal.WrongLength
+    (pick (ltb n 6) Refusal.Busy
+    (pick (ltb n 7) Refusal.NoEnable
+    (pick (ltb n 8) Refusal.NoIoc
+    (pick (ltb n 9) Refusal.Suspension
+    (pick (ltb n 10) Refusal.NoWel
+    (pick (ltb n 11) Refusal.Closed
+    (pick (ltb n 12) Refusal.WriteLocked Refusal.NothingRuns))))))))))
+
+answerOf : ℕ → Answer
+answerOf n = pick (ltb n 1) Answer.Done (Answer.Refused (refusalOf n))
+
+answer-back : (a : Answer) → answerOf (answerNumber a) ≡ a
+unfolding answerOf refusalOf
+answer-back Answer.Done = refl
+answer-back (Answer.Refused Refusal.Malformed) = refl
+answer-back (Answer.Refused Refusal.Empty) = refl
+answer-back (Answer.Refused Refusal.NotListed) = refl
+answer-back (Answer.Refused Refusal.WrongLength) = refl
+answer-back (Answer.Refused Refusal.Busy) = refl
+answer-back (Answer.Refused Refusal.NoEnable) = refl
+answer-back (Answer.Refused Refusal.NoIoc) = refl
+answer-back (Answer.Refused Refusal.Suspension) = refl
+answer-back (Answer.Refused Refusal.NoWel) = refl
+answer-back (Answer.Refused Refusal.Closed) = refl
+answer-back (Answer.Refused Refusal.WriteLocked) = refl
+answer-back (Answer.Refused Refusal.NothingRuns) = refl
+
+pub answer-one : (a b : Answer) → answerNumber a ≡ answerNumber b → a ≡ b
+answer-one a b e = sym (answer-back a) ∙ ap answerOf e ∙ answer-back b
+
+-- ---- no second outcome
+
+pub record Same (r r′ : After) (array array′ security security′ reply reply′ marks marks′ : List ℕ) : Type 0 where
+  pub result : r ≡ r′
+  pub array-same : array ≡ array′
+  pub security-same : security ≡ security′
+  pub reply-same : reply ≡ reply′
+  pub marks-same : marks ≡ marks′
+
+pub came-one : (r r′ : After) (array array′ security security′ reply reply′ marks marks′ : List ℕ)
+    → came r array security reply marks ≡ came r′ array′ security′ reply′ marks′
+    → Same r r′ array array′ security security′ reply reply′ marks marks′
+came-one r r′ array array′ security security′ reply reply′ marks marks′ e =
+    let a = answer-one (r .answer) (r′ .answer) (ap (λ (o : Outcome). o .number) e) in
+    let c : r .chip ≡ r′ .chip = ap (λ (o : Outcome). o .chip) e in
+    record {
+      result = λ i. record { answer = a i; chip = c i };
+      array-same = lent-one array array′ (ap (λ (o : Outcome). o .array) e);
+      security-same = lent-one security security′ (ap (λ (o : Outcome). o .security) e);
+      reply-same = lent-one reply reply′ (ap (λ (o : Outcome). o .reply) e);
+      marks-same = lent-one marks marks′ (ap (λ (o : Outcome). o .marks) e) }
+
+pub frame-one : (c : Chip) (array security sent reply marks : List ℕ) (r₁ r₂ : After) (a₁ a₂ s₁ s₂ y₁ y₂ m₁ m₂ : List ℕ)
+    → FramePromise c array security sent reply marks r₁ a₁ s₁ y₁ m₁ → FramePromise c array security sent reply marks r₂ a₂ s₂ y₂ m₂
+    → Same r₁ r₂ a₁ a₂ s₁ s₂ y₁ y₂ m₁ m₂
+frame-one c array security sent reply marks r₁ r₂ a₁ a₂ s₁ s₂ y₁ y₂ m₁ m₂ p q = came-one r₁ r₂ a₁ a₂ s₁ s₂ y₁ y₂ m₁ m₂ (p .outcome ∙ sym (q .outcome))
+
+pub completion-one : (c : Chip) (array security : List ℕ) (r₁ r₂ : After) (a₁ a₂ s₁ s₂ : List ℕ)
+    → CompletionPromise c array security r₁ a₁ s₁ → CompletionPromise c array security r₂ a₂ s₂
+    → Same r₁ r₂ a₁ a₂ s₁ s₂ [] [] [] []
+completion-one c array security r₁ r₂ a₁ a₂ s₁ s₂ p q = came-one r₁ r₂ a₁ a₂ s₁ s₂ [] [] [] [] (p .outcome ∙ sym (q .outcome))
+
+pub cut-one : (c : Chip) (array security : List ℕ) (k : ℕ) (r₁ r₂ : After) (a₁ a₂ s₁ s₂ : List ℕ)
+    → CutPromise c array security k r₁ a₁ s₁ → CutPromise c array security k r₂ a₂ s₂
+    → Same r₁ r₂ a₁ a₂ s₁ s₂ [] [] [] []
+cut-one c array security k r₁ r₂ a₁ a₂ s₁ s₂ p q = came-one r₁ r₂ a₁ a₂ s₁ s₂ [] [] [] [] (p .outcome ∙ sym (q .outcome))
