@@ -176,27 +176,27 @@ fill-length b p [] = refl
 fill-length b p (d ∷ ds) = fill-length (set b (p % 256) d) (p + 1) ds ∙ length-set b (p % 256) d
 
 -- a place that no byte goes to keeps what it had
-pub fill-other : (b : List ℕ) (p : ℕ) (ds : List ℕ) (q : ℕ) → ((i : ℕ) → i < length ds → (p + i) % 256 ≡ q → ⊥) → getD (fill b p ds) q 0xFF ≡ getD b q 0xFF
+pub fill-other : (b : List ℕ) (p : ℕ) (ds : List ℕ) (q : ℕ) → ((i : ℕ) → i < length ds → (p + i) % 256 ≡ q → ⊥) → getD (fill b p ds) q 0 ≡ getD b q 0
 unfolding fill
 fill-other b p [] q h = refl
 fill-other b p (d ∷ ds) q h =
     fill-other (set b (p % 256) d) (p + 1) ds q (λ i below e. h (suc i) (omega arith) (omega arith))
-    ∙ getD-set-other b (p % 256) q d 0xFF (λ e. h 0 (omega arith) (omega arith))
+    ∙ getD-set-other b (p % 256) q d 0 (λ e. h 0 (omega arith) (omega arith))
 
 -- byte i goes to place (p + i) mod 256, unless a later byte replaces it
 pub fill-last : (b : List ℕ) (p : ℕ) (ds : List ℕ) (i : ℕ) → length b ≡ 256 → i < length ds
     → ((j : ℕ) → i < j → j < length ds → (p + j) % 256 ≡ (p + i) % 256 → ⊥)
-    → getD (fill b p ds) ((p + i) % 256) 0xFF ≡ getD ds i 0xFF
+    → getD (fill b p ds) ((p + i) % 256) 0 ≡ getD ds i 0
 unfolding fill
 fill-last b p [] i l h k = absurd (omega arith)
 fill-last b p (d ∷ ds) zero l h k =
     let e : (p + 0) % 256 ≡ p % 256 = omega arith in
     fill-other (set b (p % 256) d) (p + 1) ds ((p + 0) % 256) (λ i below q. k (suc i) (omega arith) (omega arith) (omega arith))
-    ∙ ap (λ (x : ℕ). getD (set b (p % 256) d) x 0xFF) e
-    ∙ getD-set-same b (p % 256) d 0xFF (omega arith)
+    ∙ ap (λ (x : ℕ). getD (set b (p % 256) d) x 0) e
+    ∙ getD-set-same b (p % 256) d 0 (omega arith)
 fill-last b p (d ∷ ds) (suc i) l h k =
     let e : (p + suc i) % 256 ≡ (p + 1 + i) % 256 = omega arith in
-    ap (λ (x : ℕ). getD (fill (set b (p % 256) d) (p + 1) ds) x 0xFF) e
+    ap (λ (x : ℕ). getD (fill (set b (p % 256) d) (p + 1) ds) x 0) e
     ∙ fill-last (set b (p % 256) d) (p + 1) ds i (length-set b (p % 256) d ∙ l) (omega arith)
     (λ j above below q. k (suc j) (omega arith) (omega arith) (omega arith))
 

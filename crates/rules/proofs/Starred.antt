@@ -11,7 +11,7 @@ use Rattle.rules.specs.Works.{finish}
 use Rattle.rules.specs.Frames.{frames, find, formOf}
 use Rattle.rules.specs.Reading.{placeCell, shown}
 use Rattle.rules.specs.Programs.{blank, fill, pageBuffer, securityBuffer, reaches, reachesFirst}
-use Rattle.rules.specs.WellFormed.{registersRight, worksRight, wellFormed}
+use Rattle.rules.specs.WellFormed.{firstFF, registersRight, worksRight, wellFormed}
 use Rattle.rules.specs.Numbers.{commandTests, frameTests, completionTests, cutTests}
 use Rattle.rules.specs.Machine.{Outcome, frameChip, frameCell, frameReply, frameMarks, frame, workedArray, workedSecurity, completedChip, completion, cutChip, powerCut, step, run}
 use Rattle.rules.specs.Starred.{Seen, Case, seenIn, AllSeen, final, AllHold, starred}
@@ -43,5 +43,5 @@ checked-all (c ∷ cs) e =
     (seen-all (final (c .events)) (c .seen) (h .0), checked-all cs (h .1))
 
 pub starred-hold : AllHold starred
-unfolding seen checked starred bit holds overlap wide blocks seek blockOf blockAt writeLocked readLocked unlocked finish frames find formOf placeCell shown blank fill pageBuffer securityBuffer reaches reachesFirst registersRight worksRight wellFormed frameTests commandTests completionTests cutTests frameChip frameCell frameReply frameMarks frame workedArray workedSecurity completedChip completion cutChip powerCut step run
+unfolding seen checked starred bit holds overlap wide blocks seek blockOf blockAt writeLocked readLocked unlocked finish frames find formOf placeCell shown blank fill pageBuffer securityBuffer reaches reachesFirst firstFF registersRight worksRight wellFormed frameTests commandTests completionTests cutTests frameChip frameCell frameReply frameMarks frame workedArray workedSecurity completedChip completion cutChip powerCut step run
 starred-hold = checked-all starred refl

@@ -1,12 +1,12 @@
 -- Every event keeps a record well-formed. Assumes nothing.
 use Prim.Native.Nat.{ℕ, zero, suc, _+_, _*_, _/_, _%_, _^_, _≤_, _<_, min, max}
-use mathlib.Core.Path.{_≡_, refl, sym, ap, _∙_, subst}
+use mathlib.Core.Path.{_≡_, refl, sym, ap, ap₂, _∙_, subst}
 use mathlib.Core.Bool.{Bool, true, false, not, _&&_, _||_, true≢false, false≢true}
 use mathlib.Core.List.{List, [], _∷_}
 use native.Mathlib.Omega.{arith}
 use lib.Dec.{eqb, ltb, leb}
-use lib.ListN.{length, getD, take, drop, set}
-use lib.Seq.{take-set-le}
+use lib.ListN.{length, getD, drop, set}
+use lib.Seq.{getD-set-other}
 use lib.Bits.{bitAnd, bitOr}
 use borrow.Author.Tests.{eqb-true, ltb-true, ltb-false, lt-ltb, not-true, not-false}
 use Rattle.rules.specs.declared.Chip.{Chip}
@@ -23,7 +23,7 @@ use Rattle.rules.specs.Frames.{frames, formOf, opcode, address, security
 use Rattle.rules.specs.Programs.{blank, fill, securityBuffer, reaches, reachesFirst}
 use Rattle.rules.specs.Fields.{withEnable}
 use Rattle.rules.specs.Commands.{newChip, act, workOf, bufferOf, settled, settledFirst, rested, poweredUp, afterCut}
-use Rattle.rules.specs.WellFormed.{numbersRight, registersRight, suspendedRight, besideRight, allFF, securityRight, bufferRight, worksRight, wellFormed}
+use Rattle.rules.specs.WellFormed.{numbersRight, registersRight, suspendedRight, besideRight, firstFF, securityRight, bufferRight, worksRight, wellFormed}
 use Rattle.rules.specs.Numbers.{State, Frame, whileBusy, suspension, closed, lockedTarget, first, frameTests, completionTests, cutTests}
 use Rattle.rules.specs.Machine.{Outcome, frameChip, frame, completedChip, completion, cutChip, powerCut, Event, sends, completes, cuts, step}
 use Rattle.rules.proofs.Bools.{and-split, and-both, or-split, or-left, or-right, not-intro, never}
@@ -101,12 +101,12 @@ by-suspended P none sector block page (WriteConfiguration i w) e = absurd (false
 by-suspended P none sector block page (AddPermanent v) e = absurd (false≢true e)
 
 -- nothing runs and nothing is suspended
-at-rest : (p : ℕ) (sec : Bool) (b : List ℕ) → allFF b ≡ true → Works p sec b Nothing Nothing
+at-rest : (p : ℕ) (sec : Bool) (b : List ℕ) → firstFF 256 b ≡ true → Works p sec b Nothing Nothing
 at-rest p sec b e =
     record { running = refl; suspended = refl; kind = refl; beside = refl; running-open = unlocked-nowhere p; suspended-open = unlocked-nowhere p; security = refl; clean = e }
 
-blank-clean : allFF blank ≡ true
-unfolding blank
+blank-clean : firstFF 256 blank ≡ true
+unfolding blank firstFF
 blank-clean = refl
 
 -- ---- what a done frame of each opcode says
@@ -181,39 +181,44 @@ program-beside a s right k =
 -- ---- the buffer of A5
 
 -- a program that reaches no place below 8 leaves the first eight
-fill-front : (ds b : List ℕ) (p : ℕ) → reaches 0 p ds ≡ false → take 8 (fill b p ds) ≡ take 8 b
+fill-front : (ds b : List ℕ) (p q : ℕ) → reaches 0 p ds ≡ false → q < 8 → getD (fill b p ds) q 0 ≡ getD b q 0
 unfolding fill reaches
-fill-front [] b p e = refl
-fill-front (d ∷ ds) b p e =
-    let h = or-split (ltb (0 + p % 256) 8) (reaches 0 (p + 1) ds) e in
-    let k : 8 ≤ p % 256 = (let l = ltb-false (0 + p % 256) 8 (h .0) in omega arith) in
-    fill-front ds (set b (p % 256) d) (p + 1) (h .1) ∙ take-set-le 8 b (p % 256) d k
+fill-front [] b p q e h = refl
+fill-front (d ∷ ds) b p q e h =
+    let k = or-split (ltb (0 + p % 256) 8) (reaches 0 (p + 1) ds) e in
+    let l = ltb-false (0 + p % 256) 8 (k .0) in
+    fill-front ds (set b (p % 256) d) (p + 1) q (k .1) h ∙ getD-set-other b (p % 256) q d 0 (λ x. omega arith)
 
-front : allFF (take 8 blank) ≡ true
-unfolding blank
+first-same : (n : ℕ) (b b′ : List ℕ) → ((q : ℕ) → q < n → getD b q 0 ≡ getD b′ q 0) → firstFF n b ≡ firstFF n b′
+unfolding firstFF
+first-same zero b b′ h = refl
+first-same (suc n) b b′ h = ap₂ (λ (x : ℕ) (y : Bool). eqb x 0xFF && y) (h n (omega arith)) (first-same n b b′ (λ q below. h q (omega arith)))
+
+front : firstFF 8 blank ≡ true
+unfolding blank firstFF
 front = refl
 
 security-start : (sent : List ℕ) (sec : Bool) → (sec || reachesFirst sent) ≡ false
-    → (not sec && (not (eqb (securityAddress sent / 256) 0) || allFF (take 8 (securityBuffer sent)))) ≡ true
+    → (not sec && (not (eqb (securityAddress sent / 256) 0) || firstFF 8 (securityBuffer sent))) ≡ true
 unfolding reachesFirst securityBuffer
 security-start sent sec e = and-both (ap not (h .0)) (go (eqb (securityAddress sent / 256) 0) refl)
   where
     a : ℕ
     a = securityAddress sent
-
     h : (sec ≡ false) × (reaches (a / 256 * 256) (a % 256) (drop 3 sent) ≡ false)
     h = or-split sec (reaches (a / 256 * 256) (a % 256) (drop 3 sent)) e
-
-    go : (x : Bool) → eqb (a / 256) 0 ≡ x → (not x || allFF (take 8 (fill blank (a % 256) (drop 3 sent)))) ≡ true
+    go : (x : Bool) → eqb (a / 256) 0 ≡ x → (not x || firstFF 8 (fill blank (a % 256) (drop 3 sent))) ≡ true
     go false q = refl
     go true q =
         let z : a / 256 * 256 ≡ 0 = (let y = eqb-true (a / 256) 0 q in omega arith) in
-        ap allFF (fill-front (drop 3 sent) blank (a % 256) (subst (λ (n : ℕ). reaches n (a % 256) (drop 3 sent) ≡ false) z (h .1))) ∙ front
+        first-same 8 (fill blank (a % 256) (drop 3 sent)) blank
+        (λ q below. fill-front (drop 3 sent) blank (a % 256) q (subst (λ (n : ℕ). reaches n (a % 256) (drop 3 sent) ≡ false) z (h .1)) below)
+        ∙ front
 
 -- ---- the chip after a done frame
 
 -- the buffer where nothing runs
-still-clean : (c : Chip) → Well c → isNothing (c .running) ≡ true → (isProgram (c .suspended) || allFF (c .buffer)) ≡ true
+still-clean : (c : Chip) → Well c → isNothing (c .running) ≡ true → (isProgram (c .suspended) || firstFF 256 (c .buffer)) ≡ true
 still-clean c h i = subst (λ (r : Work). bufferRight r (c .suspended) (c .buffer) ≡ true) (nothing (c .running) i) (h .works .clean)
 
 record Starts (c : Chip) (w : Work) (b : List ℕ) : Type 0 where
@@ -317,7 +322,7 @@ lone-starts c w h i j numbers bare security p =
       beside = beside-nothing w (c .suspended) j;
       bare = bare;
       security = security;
-      clean = subst (λ (x : Bool). (x || isProgram (c .suspended) || allFF (c .buffer)) ≡ true) (sym p) (still-clean c h i);
+      clean = subst (λ (x : Bool). (x || isProgram (c .suspended) || firstFF 256 (c .buffer)) ≡ true) (sym p) (still-clean c h i);
     }
 
 -- 42, 98: the protection register changes where nothing runs or is suspended
@@ -345,7 +350,7 @@ put-aside p sec b r s h k j =
       running-open = unlocked-nowhere p;
       suspended-open = h .running-open;
       security = refl;
-      clean = subst (λ (s : Work). (isProgram r || isProgram s || allFF b) ≡ true → (isProgram r || allFF b) ≡ true) (sym (nothing s j)) (shorter (isProgram r) (allFF b)) (h .clean);
+      clean = subst (λ (s : Work). (isProgram r || isProgram s || firstFF 256 b) ≡ true → (isProgram r || firstFF 256 b) ≡ true) (sym (nothing s j)) (shorter (isProgram r) (firstFF 256 b)) (h .clean);
     }
   where
     shorter : (x y : Bool) → (x || false || y) ≡ true → (x || y) ≡ true
@@ -362,7 +367,7 @@ run-again p sec b r s h i =
       running-open = h .suspended-open;
       suspended-open = unlocked-nowhere p;
       security = by-suspended (λ s. securityRight s sec b ≡ true) refl (λ n. refl) (λ n. refl) (λ n. refl) s (h .kind);
-      clean = longer (isProgram s) (allFF b) (subst (λ (r : Work). bufferRight r s b ≡ true) (nothing r i) (h .clean));
+      clean = longer (isProgram s) (firstFF 256 b) (subst (λ (r : Work). bufferRight r s b ≡ true) (nothing r i) (h .clean));
     }
   where
     longer : (x y : Bool) → (x || y) ≡ true → (x || false || y) ≡ true
@@ -505,7 +510,7 @@ ended p sec sec′ b r s h =
       clean = go (isProgram s);
     }
   where
-    go : (x : Bool) → (x || allFF (pick x b blank)) ≡ true
+    go : (x : Bool) → (x || firstFF 256 (pick x b blank)) ≡ true
     go true = refl
     go false = blank-clean
 

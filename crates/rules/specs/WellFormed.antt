@@ -1,14 +1,14 @@
 -- 01, A well-formed chip record: each sentence a test.
-use Prim.Native.Nat.{ℕ, _^_}
+use Prim.Native.Nat.{ℕ, zero, suc, _^_}
 use mathlib.Core.Bool.{Bool, true, false, not, _&&_, _||_}
 use mathlib.Core.List.{List}
 use lib.Dec.{eqb, ltb}
-use lib.ListN.{take}
+use lib.ListN.{getD}
 use lib.Bits.{bitAnd}
 use Rattle.rules.specs.declared.Chip.{Chip}
 use Rattle.rules.specs.declared.Work.{Work}
 use Rattle.rules.specs.declared.Work.the-variants.{Nothing, EraseSector, EraseBlock, EraseArray, ProgramPage, ProgramSecurity, LockSecurity, WriteConfiguration, AddPermanent}
-use Rattle.rules.specs.Words.{every, overlap}
+use Rattle.rules.specs.Words.{overlap}
 use Rattle.rules.specs.Blocks.{unlocked, readLocks}
 use Rattle.rules.specs.Works.{isNothing, isErase, isProgram, canSuspend, arrayRange}
 
@@ -38,24 +38,26 @@ besideRight r s =
     isNothing r || isNothing s
     || (not (overlap (arrayRange r) (arrayRange s)) && (isErase r && isProgram s || isProgram r && isErase s))
 
--- running Security ID work has SEC 0; a running A5 of page 0 has FF in its first eight buffer bytes
-abbrev pub allFF : List ℕ → Bool
-allFF b = every (λ x. eqb x 0xFF) b
+-- the first n bytes of the buffer are FF
+unfoldable pub firstFF : ℕ → List ℕ → Bool
+firstFF zero b = true
+firstFF (suc n) b = eqb (getD b n 0) 0xFF && firstFF n b
 
+-- running Security ID work has SEC 0; a running A5 of page 0 has FF in its first eight buffer bytes
 abbrev pub securityRight : Work → Bool → List ℕ → Bool
 securityRight Nothing sec b = true
 securityRight (EraseSector n) sec b = true
 securityRight (EraseBlock n) sec b = true
 securityRight EraseArray sec b = true
 securityRight (ProgramPage n) sec b = true
-securityRight (ProgramSecurity n) sec b = not sec && (not (eqb n 0) || allFF (take 8 b))
+securityRight (ProgramSecurity n) sec b = not sec && (not (eqb n 0) || firstFF 8 b)
 securityRight LockSecurity sec b = not sec
 securityRight (WriteConfiguration i w) sec b = true
 securityRight (AddPermanent v) sec b = true
 
 -- the buffer is all FF when no program runs or is suspended
 abbrev pub bufferRight : Work → Work → List ℕ → Bool
-bufferRight r s b = isProgram r || isProgram s || allFF b
+bufferRight r s b = isProgram r || isProgram s || firstFF 256 b
 
 -- what is said of the work, under a protection register p
 unfoldable pub worksRight : ℕ → Bool → List ℕ → Work → Work → Bool

@@ -84,7 +84,7 @@ securityRange (AddPermanent v) = nowhere
 -- byte i of the range, of old value x, finished: an erase sets FF, a program clears bits
 abbrev pub finished : Bool → List ℕ → ℕ → ℕ → ℕ
 finished true buffer i x = 0xFF
-finished false buffer i x = bitAnd x (getD buffer i 0xFF)
+finished false buffer i x = bitAnd x (getD buffer i 0)
 
 -- memory in which the first k bytes of the range, in rising address order, are finished and the rest is unchanged
 unfoldable pub finish : Bool → Range → List ℕ → ℕ → Lent → Lent

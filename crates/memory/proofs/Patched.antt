@@ -1,0 +1,28 @@
+-- A loop that stores one byte after the other patches a list. Assumes nothing.
+use Prim.Native.Nat.{ℕ, _+_, _≤_, _<_}
+use mathlib.Core.Path.{_≡_, refl, sym, ap, _∙_}
+use mathlib.Core.List.{List}
+use native.Mathlib.Omega.{arith}
+use native.Mathlib.Decide.{ℕ-discrete}
+use lib.ListN.{length, getD, set, length-set}
+use lib.Seq.{getD-set-same, getD-set-other}
+use Rattle.memory.specs.Patched.{Patched}
+
+pub patched-none : (l : List ℕ) (from : ℕ) (f : ℕ → ℕ) → Patched l l from 0 f
+patched-none l from f = record { size = refl; inside = λ i h. absurd (omega arith); before = λ a h. refl; after = λ a h. refl }
+
+pub patched-more : (l l₀ : List ℕ) (from n v : ℕ) (f : ℕ → ℕ) → Patched l l₀ from n f → from + n < length l₀ → v ≡ f n → Patched (set l (from + n) v) l₀ from (n + 1) f
+patched-more l l₀ from n v f h fits e =
+    record {
+      size = length-set l (from + n) v ∙ h .size;
+      inside = λ i below. go i below (ℕ-discrete i n);
+      before = λ a below. getD-set-other l (from + n) a v 0 (λ q. omega arith) ∙ h .before a below;
+      after = λ a above. getD-set-other l (from + n) a v 0 (λ q. omega arith) ∙ h .after a (omega arith) }
+  where
+    go : (i : ℕ) → i < n + 1 → Dec (i ≡ n) → getD (set l (from + n) v) (from + i) 0 ≡ f i
+    go i below (yes q) = rw q (getD-set-same l (from + n) v 0 (let s = h .size in omega arith) ∙ e)
+    go i below (no q) = getD-set-other l (from + n) (from + i) v 0 (λ p. q (omega arith)) ∙ h .inside i (omega arith)
+
+-- what the loop has not reached yet is as it was
+pub patched-next : (l l₀ : List ℕ) (from n : ℕ) (f : ℕ → ℕ) → Patched l l₀ from n f → getD l (from + n) 0 ≡ getD l₀ (from + n) 0
+patched-next l l₀ from n f h = h .after (from + n) (omega arith)

@@ -1,0 +1,2 @@
+-- What the loops leave.
+pub mod Patched
