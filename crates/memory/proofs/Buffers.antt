@@ -25,14 +25,14 @@ ff-next b i x e = rw (add-one i) (both (getD b i 0) ∙ ap (λ (t : Bool). eqb (
     both y =
         same-test (eqb (bitOr x (bitXor y 255)) 0) (eqb y 255 && eqb x 0)
         (λ q. let z = eqb-true (bitOr x (bitXor y 255)) 0 q in
-          let o = or-add-and x (bitXor y 255) in
-          let l = and-le-l x (bitXor y 255) in
-          let r = and-le-r x (bitXor y 255) in
-          let d : bitXor y 255 ≡ 0 = omega arith in
-          let u = xor-add-and y 255 in
-          let v = and-le-l y 255 in
-          let w = and-le-r y 255 in
-          and-both (eq-eqb y 255 (omega arith)) (eq-eqb x 0 (omega arith)))
+        let o = or-add-and x (bitXor y 255) in
+        let l = and-le-l x (bitXor y 255) in
+        let r = and-le-r x (bitXor y 255) in
+        let d : bitXor y 255 ≡ 0 = omega arith in
+        let u = xor-add-and y 255 in
+        let v = and-le-l y 255 in
+        let w = and-le-r y 255 in
+        and-both (eq-eqb y 255 (omega arith)) (eq-eqb x 0 (omega arith)))
         (λ q. let h = and-split (eqb y 255) (eqb x 0) q in rw (eqb-true y 255 (h .0), eqb-true x 0 (h .1)))
 
 -- ---- the page buffer

@@ -17,7 +17,8 @@ patched-more l l₀ from n v f h fits e =
       size = length-set l (from + n) v ∙ h .size;
       inside = λ i below. go i below (ℕ-discrete i n);
       before = λ a below. getD-set-other l (from + n) a v 0 (λ q. omega arith) ∙ h .before a below;
-      after = λ a above. getD-set-other l (from + n) a v 0 (λ q. omega arith) ∙ h .after a (omega arith) }
+      after = λ a above. getD-set-other l (from + n) a v 0 (λ q. omega arith) ∙ h .after a (omega arith);
+    }
   where
     go : (i : ℕ) → i < n + 1 → Dec (i ≡ n) → getD (set l (from + n) v) (from + i) 0 ≡ f i
     go i below (yes q) = rw q (getD-set-same l (from + n) v 0 (let s = h .size in omega arith) ∙ e)

@@ -93,7 +93,8 @@ came-one r r′ array array′ security security′ reply reply′ marks marks�
       array-same = lent-one array array′ (ap (λ (o : Outcome). o .array) e);
       security-same = lent-one security security′ (ap (λ (o : Outcome). o .security) e);
       reply-same = lent-one reply reply′ (ap (λ (o : Outcome). o .reply) e);
-      marks-same = lent-one marks marks′ (ap (λ (o : Outcome). o .marks) e) }
+      marks-same = lent-one marks marks′ (ap (λ (o : Outcome). o .marks) e);
+    }
 
 pub frame-one : (c : Chip) (array security sent reply marks : List ℕ) (r₁ r₂ : After) (a₁ a₂ s₁ s₂ y₁ y₂ m₁ m₂ : List ℕ)
     → FramePromise c array security sent reply marks r₁ a₁ s₁ y₁ m₁ → FramePromise c array security sent reply marks r₂ a₂ s₂ y₂ m₂

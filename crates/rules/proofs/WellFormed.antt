@@ -205,8 +205,10 @@ security-start sent sec e = and-both (ap not (h .0)) (go (eqb (securityAddress s
   where
     a : ℕ
     a = securityAddress sent
+
     h : (sec ≡ false) × (reaches (a / 256 * 256) (a % 256) (drop 3 sent) ≡ false)
     h = or-split sec (reaches (a / 256 * 256) (a % 256) (drop 3 sent)) e
+
     go : (x : Bool) → eqb (a / 256) 0 ≡ x → (not x || firstFF 8 (fill blank (a % 256) (drop 3 sent))) ≡ true
     go false q = refl
     go true q =

@@ -59,7 +59,8 @@ loop-again c = let l = c .before .before .before .loop in
       fits = l .inv .fits;
       small = l .inv .small;
       is = patched-more (l .s) (a .s .now) (a .from) (l .i) _ (λ k. bitAnd (getD (a .s .now) (a .from + k) 0) (getD (a .buffer .now) k 0)) (l .inv .is) (omega arith)
-        (ap (λ (x : ℕ). bitAnd x (getD (a .buffer .now) (l .i) 0)) (patched-next (l .s) (a .s .now) (a .from) (l .i) _ (l .inv .is))) }
+          (ap (λ (x : ℕ). bitAnd x (getD (a .buffer .now) (l .i) 0)) (patched-next (l .s) (a .s .now) (a .from) (l .i) _ (l .inv .is)));
+    }
 
 -- src/lib.rt:35:1
 same-length : tie.Need-same-length Inv-loop μ-loop

@@ -52,7 +52,8 @@ loop-again c = let l = c .before .before .loop in
     record {
       low = omega arith;
       fits = l .inv .fits;
-      is = patched-more (l .s) (a .s .now) (a .from) (l .i) _ (λ k. getD (a .src .now) (a .at + k) 0) (l .inv .is) (omega arith) refl }
+      is = patched-more (l .s) (a .s .now) (a .from) (l .i) _ (λ k. getD (a .src .now) (a .at + k) 0) (l .inv .is) (omega arith) refl;
+    }
 
 -- src/lib.rt:23:1
 same-length : tie.Need-same-length Inv-loop μ-loop

@@ -59,7 +59,8 @@ loop-again c = let l = c .before .before .loop in
       few = l .inv .few;
       place = l .inv .place;
       is = ap (λ (q : ℕ). fill (set (l .page) (p % 256) (getD (a .sent .now) (l .i) 0)) q (drop (l .i + 1) (a .sent .now))) (sym e)
-        ∙ sym (fill-next (l .page) (a .sent .now) p (l .i) (c .before .loop-test .taken)) ∙ l .inv .is }
+          ∙ sym (fill-next (l .page) (a .sent .now) p (l .i) (c .before .loop-test .taken)) ∙ l .inv .is;
+    }
 
 -- src/lib.rt:47:1
 returns : tie.Need-returns Inv-loop μ-loop

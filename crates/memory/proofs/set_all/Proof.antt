@@ -45,7 +45,8 @@ loop-again c = let l = c .before .loop in
     record {
       low = omega arith;
       fits = l .inv .fits;
-      is = patched-more (l .s) (a .s .now) (a .from) (l .i) (a .v) (λ k. a .v) (l .inv .is) (omega arith) refl }
+      is = patched-more (l .s) (a .s .now) (a .from) (l .i) (a .v) (λ k. a .v) (l .inv .is) (omega arith) refl;
+    }
 
 -- src/lib.rt:11:1
 same-length : tie.Need-same-length Inv-loop μ-loop
