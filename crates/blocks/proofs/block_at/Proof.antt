@@ -5,7 +5,6 @@ use Prim.Native.Nat.{ℕ, zero, suc, _<_}
 use lib.ListN.{length, getD}
 use Rattle.rules.specs.declared.Block.{Block}
 use Rattle.rules.specs.Blocks.{wide, blocks, blockAt, single}
-
 use native.Mathlib.Omega.{arith}
 use borrow.Author.Needs.{needs}
 use Rattle.blocks.proofs.block_at.Statement.{statement}
