@@ -1,0 +1,97 @@
+-- The parts of the test of a record, put together. Assumes nothing.
+use Prim.Native.Nat.{ℕ, _+_, _*_, _^_, _≤_, _<_, min, max}
+use mathlib.Core.Path.{_≡_, refl, sym, ap, _∙_, subst}
+use mathlib.Core.Bool.{Bool, true, false, _&&_, _||_, not}
+use mathlib.Core.List.{List}
+use native.Mathlib.Omega.{arith}
+use lib.Dec.{ltb}
+use borrow.Author.Tests.{ltb-true, lt-ltb}
+use Rattle.rules.specs.declared.Chip.{Chip}
+use Rattle.rules.specs.declared.Range.{Range}
+use Rattle.rules.specs.declared.Work.{Work}
+use Rattle.rules.specs.declared.Work.the-variants.{Nothing, EraseSector, EraseBlock, EraseArray, ProgramPage, ProgramSecurity, LockSecurity, WriteConfiguration, AddPermanent}
+use Rattle.rules.specs.Words.{overlap}
+use Rattle.rules.specs.Blocks.{unlocked}
+use Rattle.rules.specs.Works.{arrayRange}
+use Rattle.rules.specs.WellFormed.{numbersRight, registersRight, suspendedRight, besideRight, securityRight, bufferRight, worksRight, wellFormed}
+use Rattle.rules.proofs.Bools.{and-split, and-both, same-test}
+use Rattle.rules.proofs.Blocks.{block-placed, overlap-at}
+use Rattle.rules.proofs.Locks.{registers-of}
+
+-- two ranges overlap where each start lies before both ends
+pub overlap-four : (r s : Range)
+    → (ltb (r .start) (r .start + r .size) && ltb (r .start) (s .start + s .size) && ltb (s .start) (r .start + r .size) && ltb (s .start) (s .start + s .size))
+      ≡ overlap r s
+unfolding overlap
+overlap-four r s =
+    same-test (ltb a x && ltb a y && ltb b x && ltb b y) (overlap r s)
+    (λ e. let h₃ = and-split (ltb a x && ltb a y && ltb b x) (ltb b y) e in
+      let h₂ = and-split (ltb a x && ltb a y) (ltb b x) (h₃ .0) in
+      let h₁ = and-split (ltb a x) (ltb a y) (h₂ .0) in
+      let p = ltb-true a x (h₁ .0) in
+      let q = ltb-true a y (h₁ .1) in
+      let u = ltb-true b x (h₂ .1) in
+      let v = ltb-true b y (h₃ .1) in
+      lt-ltb (max a b) (min x y) (omega arith))
+    (λ e. let g = overlap-at r s e in
+      and-both (and-both (and-both (lt-ltb a x (omega arith)) (lt-ltb a y (omega arith))) (lt-ltb b x (omega arith))) (lt-ltb b y (omega arith)))
+  where
+    a : ℕ
+    a = r .start
+    b : ℕ
+    b = s .start
+    x : ℕ
+    x = r .start + r .size
+    y : ℕ
+    y = s .start + s .size
+
+-- the range of well-numbered work ends within the array
+range-inside : (w : Work) → numbersRight w ≡ true → arrayRange w .start + arrayRange w .size ≤ 2097152
+range-inside Nothing e = omega arith
+range-inside (EraseSector n) e = let h = ltb-true n 512 e in omega arith
+range-inside (EraseBlock n) e = block-placed n (ltb-true n 40 e) .inside
+range-inside EraseArray e = omega arith
+range-inside (ProgramPage n) e = let h = ltb-true n 8192 e in omega arith
+range-inside (ProgramSecurity n) e = omega arith
+range-inside LockSecurity e = omega arith
+range-inside (WriteConfiguration i w) e = omega arith
+range-inside (AddPermanent v) e = omega arith
+
+pub found-inside : (w : Work) (r : Range) → numbersRight w ≡ true → r ≡ arrayRange w → r .start + r .size ≤ 2097152
+found-inside w r h e = rw e (range-inside w h)
+
+pub low-register : (p q : ℕ) (x : Bool) → x ≡ registersRight p q → x ≡ true → p < 2 ^ 48
+low-register p q x e t = registers-of p q (sym e ∙ t) .low
+
+pub record Parts (p : ℕ) (sec : Bool) (b : List ℕ) (r s : Work) (kind beside running-open suspended-open security clean : Bool) : Type 0 where
+  pub is-kind : kind ≡ suspendedRight s
+  pub is-beside : beside ≡ besideRight r s
+  pub is-running-open : running-open ≡ unlocked p (arrayRange r)
+  pub is-suspended-open : suspended-open ≡ unlocked p (arrayRange s)
+  pub is-security : security ≡ securityRight r sec b
+  pub is-clean : clean ≡ bufferRight r s b
+
+-- of work with right numbers the rest of the test is its six parts
+pub works-parts : (p : ℕ) (sec : Bool) (b : List ℕ) (r s : Work) (k d o u e f : Bool) → numbersRight r ≡ true → numbersRight s ≡ true → Parts p sec b r s k d o u e f
+    → (k && d && o && u && e && f) ≡ worksRight p sec b r s
+unfolding worksRight
+works-parts p sec b r s k d o u e f hr hs h =
+    rw (h .is-kind, h .is-beside, h .is-running-open, h .is-suspended-open, h .is-security, h .is-clean, hr, hs)
+
+pub not-registers : (c : Chip) (x : Bool) → x ≡ registersRight (c .protection) (c .permanent) → x ≡ false → false ≡ wellFormed c
+unfolding wellFormed
+not-registers c x e t = rw (sym e ∙ t)
+
+-- the registers are right, and the rest decides
+pub rest-decides : (c : Chip) (x y : Bool) → x ≡ registersRight (c .protection) (c .permanent) → x ≡ true
+    → y ≡ worksRight (c .protection) (c .sec) (c .buffer) (c .running) (c .suspended) → y ≡ wellFormed c
+unfolding wellFormed
+rest-decides c x y e t f = f ∙ ap (λ (z : Bool). z && worksRight (c .protection) (c .sec) (c .buffer) (c .running) (c .suspended)) (sym t ∙ e)
+
+pub wrong-running : (p : ℕ) (sec : Bool) (b : List ℕ) (r s : Work) (x : Bool) → x ≡ numbersRight r → x ≡ false → false ≡ worksRight p sec b r s
+unfolding worksRight
+wrong-running p sec b r s x e t = rw (sym e ∙ t)
+
+pub wrong-suspended : (p : ℕ) (sec : Bool) (b : List ℕ) (r s : Work) (x y : Bool) → x ≡ numbersRight r → x ≡ true → y ≡ numbersRight s → y ≡ false → false ≡ worksRight p sec b r s
+unfolding worksRight
+wrong-suspended p sec b r s x y e t f u = rw (sym e ∙ t, sym f ∙ u)
