@@ -21,27 +21,30 @@ use Rattle.rules.proofs.Locks.{registers-of}
 -- two ranges overlap where each start lies before both ends
 pub overlap-four : (r s : Range)
     → (ltb (r .start) (r .start + r .size) && ltb (r .start) (s .start + s .size) && ltb (s .start) (r .start + r .size) && ltb (s .start) (s .start + s .size))
-      ≡ overlap r s
+    ≡ overlap r s
 unfolding overlap
 overlap-four r s =
     same-test (ltb a x && ltb a y && ltb b x && ltb b y) (overlap r s)
     (λ e. let h₃ = and-split (ltb a x && ltb a y && ltb b x) (ltb b y) e in
-      let h₂ = and-split (ltb a x && ltb a y) (ltb b x) (h₃ .0) in
-      let h₁ = and-split (ltb a x) (ltb a y) (h₂ .0) in
-      let p = ltb-true a x (h₁ .0) in
-      let q = ltb-true a y (h₁ .1) in
-      let u = ltb-true b x (h₂ .1) in
-      let v = ltb-true b y (h₃ .1) in
-      lt-ltb (max a b) (min x y) (omega arith))
+    let h₂ = and-split (ltb a x && ltb a y) (ltb b x) (h₃ .0) in
+    let h₁ = and-split (ltb a x) (ltb a y) (h₂ .0) in
+    let p = ltb-true a x (h₁ .0) in
+    let q = ltb-true a y (h₁ .1) in
+    let u = ltb-true b x (h₂ .1) in
+    let v = ltb-true b y (h₃ .1) in
+    lt-ltb (max a b) (min x y) (omega arith))
     (λ e. let g = overlap-at r s e in
-      and-both (and-both (and-both (lt-ltb a x (omega arith)) (lt-ltb a y (omega arith))) (lt-ltb b x (omega arith))) (lt-ltb b y (omega arith)))
+    and-both (and-both (and-both (lt-ltb a x (omega arith)) (lt-ltb a y (omega arith))) (lt-ltb b x (omega arith))) (lt-ltb b y (omega arith)))
   where
     a : ℕ
     a = r .start
+
     b : ℕ
     b = s .start
+
     x : ℕ
     x = r .start + r .size
+
     y : ℕ
     y = s .start + s .size
 

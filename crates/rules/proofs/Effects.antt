@@ -156,17 +156,17 @@ done-needs-wel s f e k =
 
 -- ---- 01, Reads: the place rule
 
-pub read-locked-place : (c : Chip) (array : Lent) (a : ℕ) → readLocked (c .protection) a ≡ true → placeCell c array a ≡ known 0
+pub read-locked-place : (p : ℕ) (r : Range) (array : Lent) (a : ℕ) → readLocked p a ≡ true → placeCell p r array a ≡ known 0
 unfolding placeCell
-read-locked-place c array a e = rw e
+read-locked-place p r array a e = rw e
 
-pub suspended-place : (c : Chip) (array : Lent) (a : ℕ) → readLocked (c .protection) a ≡ false → holds (arrayRange (c .suspended)) a ≡ true → placeCell c array a ≡ unknown
+pub suspended-place : (p : ℕ) (r : Range) (array : Lent) (a : ℕ) → readLocked p a ≡ false → holds r a ≡ true → placeCell p r array a ≡ unknown
 unfolding placeCell
-suspended-place c array a e h = rw (e, h)
+suspended-place p r array a e h = rw (e, h)
 
-pub stored-place : (c : Chip) (array : Lent) (a : ℕ) → readLocked (c .protection) a ≡ false → holds (arrayRange (c .suspended)) a ≡ false → placeCell c array a ≡ known (array .byte a)
+pub stored-place : (p : ℕ) (r : Range) (array : Lent) (a : ℕ) → readLocked p a ≡ false → holds r a ≡ false → placeCell p r array a ≡ known (array .byte a)
 unfolding placeCell
-stored-place c array a e h = rw (e, h)
+stored-place p r array a e h = rw (e, h)
 
 -- ---- 01, Programs: the buffer
 

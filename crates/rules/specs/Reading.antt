@@ -6,6 +6,7 @@ use lib.Dec.{ltb}
 use lib.ListN.{getD}
 use Rattle.rules.specs.declared.Cell.{Cell}
 use Rattle.rules.specs.declared.Chip.{Chip}
+use Rattle.rules.specs.declared.Range.{Range}
 use Rattle.rules.specs.declared.Source.{Source}
 use Rattle.rules.specs.declared.Source.the-variants.{Status, Configuration, Protection, Identity, Array, Security}
 use Rattle.rules.specs.declared.Kind.{Kind}
@@ -26,12 +27,9 @@ unknown = record { byte = 0; mark = 0 }
 abbrev pub silent : Cell
 silent = record { byte = 0xFF; mark = 0 }
 
--- one place of the array: the rule of every array read
-unfoldable pub placeCell : Chip → Lent → ℕ → Cell
-placeCell c array a =
-    pick (readLocked (c .protection) a) (known 0)
-    (pick (holds (arrayRange (c .suspended)) a) unknown
-    (known (array .byte a)))
+-- one place of the array under a protection register and a suspended range: the rule of every array read
+unfoldable pub placeCell : ℕ → Range → Lent → ℕ → Cell
+placeCell p suspended array a = pick (readLocked p a) (known 0) (pick (holds suspended a) unknown (known (array .byte a)))
 
 -- byte i of a read
 unfoldable pub shown : Source → Chip → Lent → Lent → List ℕ → ℕ → Cell
@@ -39,7 +37,7 @@ shown Status c array security sent i = known (status c)
 shown Configuration c array security sent i = known (configuration c)
 shown Protection c array security sent i = known (pick (ltb i 6) (c .protection / 2 ^ (8 * (5 - i)) % 256) 0)
 shown Identity c array security sent i = known (getD (0xBF ∷ 0x26 ∷ 0x51 ∷ []) (i % 3) 0)
-shown Array c array security sent i = placeCell c array ((address sent + i) % arraySize)
+shown Array c array security sent i = placeCell (c .protection) (arrayRange (c .suspended)) array ((address sent + i) % arraySize)
 shown Security c array security sent i = known (security .byte ((securityAddress sent + i) % securitySize))
 
 -- byte i of the reply to a done frame

@@ -47,9 +47,10 @@ is-erase-requires-2 c κs = search needs
 
 -- src/lib.rt:119:13
 overlaps-requires : tie.Need-overlaps-requires
-overlaps-requires c κs = let a = c .before .before .before .before .before .before .before .before in
-    (found-inside (a .args .r) _ (a .pre .0) (c .before .before .before .before .before .before .before .array-range .ensures),
-    found-inside (a .args .s) _ (a .pre .1) (c .before .before .before .before .before .before .array-range2 .ensures))
+overlaps-requires c κs = let a = c .before .before .before .before .before .before .before .before in (
+  found-inside (a .args .r) _ (a .pre .0) (c .before .before .before .before .before .before .before .array-range .ensures),
+  found-inside (a .args .s) _ (a .pre .1) (c .before .before .before .before .before .before .array-range2 .ensures),
+)
 
 -- src/lib.rt:111:1
 returns : tie.Need-returns

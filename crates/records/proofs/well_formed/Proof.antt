@@ -42,9 +42,13 @@ returns-3 c = let a = c .before .before .before .before .before .before .args .t
 
 -- src/lib.rt:175:5
 works-right-requires : tie.Need-works-right-requires
-works-right-requires c κs = (sym (c .before .before .before .before .before .numbers-right .ensures) ∙ not-false _ (c .before .before .before .before .if2 .left),
-    (sym (c .before .before .before .numbers-right2 .ensures) ∙ not-false _ (c .before .before .if3 .left),
-    low-register _ _ _ (c .before .before .before .before .before .before .before .registers-right .ensures) (not-false _ (c .before .before .before .before .before .before .if1 .left))))
+works-right-requires c κs = (
+  sym (c .before .before .before .before .before .numbers-right .ensures) ∙ not-false _ (c .before .before .before .before .if2 .left),
+  (
+    sym (c .before .before .before .numbers-right2 .ensures) ∙ not-false _ (c .before .before .if3 .left),
+    low-register _ _ _ (c .before .before .before .before .before .before .before .registers-right .ensures) (not-false _ (c .before .before .before .before .before .before .if1 .left)),
+  ),
+)
 
 -- src/lib.rt:159:1
 returns-4 : tie.Need-returns-4

@@ -53,7 +53,8 @@ returns c = let a = c .before .before .before .before .before .before .before in
       is-running-open = c .before .before .before .is-unlocked .ensures;
       is-suspended-open = c .before .before .is-unlocked2 .ensures;
       is-security = c .before .security-right .ensures;
-      is-clean = c .buffer-right .ensures }
+      is-clean = c .buffer-right .ensures;
+    }
 
 pub works-right-spec : {M : Type 1} → statement M
 works-right-spec =

@@ -1,0 +1,130 @@
+// Reads: bytes and marks into the lent reply.
+use rules::Range;
+ghost use mathlib.Core.Path.{_≡_};
+ghost use mathlib.Core.List.{[], _∷_};
+ghost use Prim.Native.Nat.{_+_, _-_, _*_, _/_, _%_, _^_, _≤_, _<_, min};
+ghost use lib.Dec.{ltb};
+ghost use lib.ListN.{length, getD};
+ghost use Rattle.rules.specs.Words.{lent, pick, holds};
+ghost use Rattle.rules.specs.Blocks.{arraySize, securitySize};
+ghost use Rattle.rules.specs.Reading.{placeCell};
+ghost use Rattle.memory.specs.Patched.{Patched};
+ghost use Rattle.reading.specs.Upto.{Upto, Pages, cellFrom};
+
+fn holds_place(r: Range, a: usize) -> bool
+    requires { ⌜ Pages r ⌝ }
+    ensures { λ b. ⌜ b ≡ holds r a ⌝ }
+{
+    let start = r.start;
+    let end = start + r.size;
+    (start <= a) & (a < end)
+}
+
+// n bytes of one page from place a on, into the reply and the marks from i on: locks and suspended ranges do not change within a page.
+fn read_piece(
+    p: u64,
+    r: Range,
+    array: &[u8],
+    a: usize,
+    n: usize,
+    reply: &mut [u8],
+    marks: &mut [u8],
+    i: usize,
+)
+    requires { ⌜ (Pages r) × ((length (now array) ≡ arraySize) × ((a < arraySize) × ((a % 256 + n ≤ 256) × ((i + n ≤ length (now reply)) × (i + n ≤ length (now marks)))))) ⌝ }
+    ensures bytes { λ _. ⌜ Patched (now (reply .exit)) (now (reply .entry)) i n (λ j. placeCell p r (lent (now (array .entry))) (a + j) .byte) ⌝ }
+    ensures known { λ _. ⌜ Patched (now (marks .exit)) (now (marks .entry)) i n (λ j. placeCell p r (lent (now (array .entry))) (a + j) .mark) ⌝ }
+{
+    if blocks::read_locked(p, a) {
+        memory::set_all(reply, i, n, 0);
+        memory::set_all(marks, i, n, 1);
+        return;
+    }
+    if holds_place(r, a) {
+        memory::set_all(reply, i, n, 0);
+        memory::set_all(marks, i, n, 0);
+        return;
+    }
+    memory::copy(reply, i, n, array, a);
+    memory::set_all(marks, i, n, 1);
+}
+
+fn smaller(a: usize, b: usize) -> usize
+    ensures { λ r. ⌜ r ≡ min a b ⌝ }
+{
+    if a < b { a } else { b }
+}
+
+// The array from place `at` on, going round, page by page.
+pub fn read_array(p: u64, r: Range, array: &[u8], at: usize, reply: &mut [u8], marks: &mut [u8])
+    requires { ⌜ (Pages r) × ((length (now array) ≡ arraySize) × ((at < arraySize) × ((length (now marks) ≡ length (now reply)) × (length (now reply) ≤ 65536)))) ⌝ }
+    ensures bytes { λ _. ⌜ Upto (now (reply .exit)) (length (now (reply .entry))) (length (now (reply .entry))) (λ i. cellFrom p r (now (array .entry)) at i .byte) ⌝ }
+    ensures known { λ _. ⌜ Upto (now (marks .exit)) (length (now (marks .entry))) (length (now (marks .entry))) (λ i. cellFrom p r (now (array .entry)) at i .mark) ⌝ }
+{
+    let mut i: usize = 0;
+    while i < reply.len() {
+        let a = (at + i) % 2097152;
+        let n = smaller(256 - a % 256, reply.len() - i);
+        read_piece(p, r, array, a, n, reply, marks, i);
+        i += n;
+    }
+}
+
+// The Security ID from place `at` on, going round.
+pub fn read_security(security: &[u8], at: usize, reply: &mut [u8])
+    requires { ⌜ (length (now security) ≡ securitySize) × ((at < securitySize) × (length (now reply) ≤ 65536)) ⌝ }
+    ensures { λ _. ⌜ Upto (now (reply .exit)) (length (now (reply .entry))) (length (now (reply .entry))) (λ i. getD (now (security .entry)) ((at + i) % securitySize) 0) ⌝ }
+{
+    let mut i: usize = 0;
+    while i < reply.len() {
+        reply[i] = security[(at + i) % 2048];
+        i += 1;
+    }
+}
+
+// Byte i of the protection register as it travels: six bytes, highest first, then 00.
+fn protection_byte(p: u64, i: usize) -> u8
+    ensures { λ r. ⌜ r ≡ pick (ltb i 6) (p / 2 ^ (8 * (5 - i)) % 256) 0 ⌝ }
+{
+    match i {
+        0 => ((p >> 40) % 256) as u8,
+        1 => ((p >> 32) % 256) as u8,
+        2 => ((p >> 24) % 256) as u8,
+        3 => ((p >> 16) % 256) as u8,
+        4 => ((p >> 8) % 256) as u8,
+        5 => (p % 256) as u8,
+        _ => 0,
+    }
+}
+
+pub fn read_protection(p: u64, reply: &mut [u8])
+    ensures { λ _. ⌜ Upto (now (reply .exit)) (length (now (reply .entry))) (length (now (reply .entry))) (λ i. pick (ltb i 6) (p / 2 ^ (8 * (5 - i)) % 256) 0) ⌝ }
+{
+    let mut i: usize = 0;
+    while i < reply.len() {
+        reply[i] = protection_byte(p, i);
+        i += 1;
+    }
+}
+
+// Byte i of the identity.
+fn identity_byte(i: usize) -> u8
+    ensures { λ r. ⌜ r ≡ getD (191 ∷ 38 ∷ 81 ∷ []) (i % 3) 0 ⌝ }
+{
+    let k = i % 3;
+    match k {
+        0 => 0xbf,
+        1 => 0x26,
+        _ => 0x51,
+    }
+}
+
+pub fn read_identity(reply: &mut [u8])
+    ensures { λ _. ⌜ Upto (now (reply .exit)) (length (now (reply .entry))) (length (now (reply .entry))) (λ i. getD (191 ∷ 38 ∷ 81 ∷ []) (i % 3) 0) ⌝ }
+{
+    let mut i: usize = 0;
+    while i < reply.len() {
+        reply[i] = identity_byte(i);
+        i += 1;
+    }
+}
