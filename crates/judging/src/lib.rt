@@ -1,0 +1,1 @@
+// The refusals of a frame.
