@@ -4,8 +4,8 @@ use rules::Range;
 use rules::Work;
 ghost use mathlib.Core.Path.{_≡_};
 ghost use mathlib.Core.Bool.{true};
-ghost use Prim.Native.Nat.{_*_, _^_, _<_};
-ghost use Rattle.rules.specs.Words.{bit};
+ghost use Prim.Native.Nat.{_+_, _*_, _^_, _≤_, _<_};
+ghost use Rattle.rules.specs.Words.{bit, holds};
 ghost use Rattle.rules.specs.Blocks.{arraySize, blockOf, blockAt, writeLocked, readLocked, unlocked};
 ghost use Rattle.rules.specs.Works.{arrayRange};
 ghost use Rattle.rules.specs.WellFormed.{numbersRight};
@@ -618,4 +618,14 @@ pub fn is_unlocked(p: u64, w: Work) -> bool
         Work::WriteConfiguration(_, _) => true,
         Work::AddPermanent(_) => true,
     }
+}
+
+// The place lies in the range.
+pub fn holds_place(r: Range, a: usize) -> bool
+    requires { ⌜ r .start + r .size ≤ arraySize ⌝ }
+    ensures { λ b. ⌜ b ≡ holds r a ⌝ }
+{
+    let start = r.start;
+    let end = start + r.size;
+    (start <= a) & (a < end)
 }

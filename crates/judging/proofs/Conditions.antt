@@ -14,9 +14,9 @@ use Rattle.rules.specs.Words.{range, holds}
 use Rattle.rules.specs.Blocks.{blockOf, blockAt, span, writeLocked}
 use Rattle.rules.specs.Works.{isNothing, isErase, isProgram, canSuspend, arrayRange}
 use Rattle.rules.specs.Frames.{address, frames, formOf, listed, leastLength, lengthRight}
-use Rattle.rules.specs.Numbers.{suspension, closed, lockedTarget}
+use Rattle.rules.specs.Numbers.{suspension, noWel, closed, lockedTarget}
 use Rattle.rules.proofs.Rows.{EachForm, EachRow, by-forms, by-rows}
-use Rattle.judging.specs.ByKind.{conflict, closedBy, lockedBy, lookedAt}
+use Rattle.judging.specs.ByKind.{conflict, needsWel, closedBy, lockedBy, lookedAt}
 
 -- ---- tests with a part that is known
 
@@ -55,7 +55,7 @@ page true false false = refl
 page false true h = refl
 page false false h = refl
 
-or-none : (a : Bool) → (a || false) ≡ a
+pub or-none : (a : Bool) → (a || false) ≡ a
 or-none true = refl
 or-none false = refl
 
@@ -70,42 +70,204 @@ Conflict o k = (c : Chip) (sent : List ℕ) → suspension c o sent ≡ conflict
 
 rows-conflict : EachRow Conflict frames
 unfolding Conflict frames
-rows-conflict =
-    (λ c sent. none (isErase (c .suspended)) (isProgram (c .suspended)),
-    (λ c sent. none (isErase (c .suspended)) (isProgram (c .suspended)),
-    (λ c sent. none (isErase (c .suspended)) (isProgram (c .suspended)),
-    (λ c sent. none (isErase (c .suspended)) (isProgram (c .suspended)),
-    (λ c sent. none (isErase (c .suspended)) (isProgram (c .suspended)),
-    (λ c sent. none (isErase (c .suspended)) (isProgram (c .suspended)),
-    (λ c sent. none (isErase (c .suspended)) (isProgram (c .suspended)),
-    (λ c sent. none (isErase (c .suspended)) (isProgram (c .suspended)),
-    (λ c sent. none (isErase (c .suspended)) (isProgram (c .suspended)),
-    (λ c sent. none (isErase (c .suspended)) (isProgram (c .suspended)),
-    (λ c sent. none (isErase (c .suspended)) (isProgram (c .suspended)),
-    (λ c sent. none (isErase (c .suspended)) (isProgram (c .suspended)),
-    (λ c sent. none (isErase (c .suspended)) (isProgram (c .suspended)),
-    (λ c sent. none (isErase (c .suspended)) (isProgram (c .suspended)),
-    (λ c sent. none (isErase (c .suspended)) (isProgram (c .suspended)),
-    (λ c sent. none (isErase (c .suspended)) (isProgram (c .suspended)),
-    (λ c sent. sector (isErase (c .suspended)) (isProgram (c .suspended)) (holds (range (address sent / 4096 * 4096) 4096) (arrayRange (c .suspended) .start)),
-    (λ c sent. block (isErase (c .suspended)) (isProgram (c .suspended)) (holds (span (blockAt (blockOf (address sent)))) (arrayRange (c .suspended) .start)),
-    (λ c sent. alone (not (isNothing (c .suspended))) (isErase (c .suspended)) (isProgram (c .suspended)),
-    (λ c sent. page (isErase (c .suspended)) (isProgram (c .suspended)) (holds (arrayRange (c .suspended)) (address sent)),
-    (λ c sent. page (isErase (c .suspended)) (isProgram (c .suspended)) (holds (arrayRange (c .suspended)) (address sent)),
-    (λ c sent. alone (not (isNothing (c .suspended))) (isErase (c .suspended)) (isProgram (c .suspended)),
-    (λ c sent. alone (not (isNothing (c .suspended))) (isErase (c .suspended)) (isProgram (c .suspended)),
-    (λ c sent. alone (not (isNothing (c .suspended))) (isErase (c .suspended)) (isProgram (c .suspended)),
-    (λ c sent. alone (not (isNothing (c .suspended))) (isErase (c .suspended)) (isProgram (c .suspended)),
-    (λ c sent. alone (not (isNothing (c .suspended))) (isErase (c .suspended)) (isProgram (c .suspended)),
-    (λ c sent. alone (not (isNothing (c .suspended))) (isErase (c .suspended)) (isProgram (c .suspended)),
-    (λ c sent. alone (not (isNothing (c .suspended))) (isErase (c .suspended)) (isProgram (c .suspended)),
-    (λ c sent. first-of (not (canSuspend (c .running) && isNothing (c .suspended))) (isErase (c .suspended)) (isProgram (c .suspended)),
-    (λ c sent. second-of (isNothing (c .suspended)) (isErase (c .suspended)) (isProgram (c .suspended)),
-    tt))))))))))))))))))))))))))))))
+rows-conflict = (
+  λ c sent. none (isErase (c .suspended)) (isProgram (c .suspended)),
+  (
+    λ c sent. none (isErase (c .suspended)) (isProgram (c .suspended)),
+    (
+      λ c sent. none (isErase (c .suspended)) (isProgram (c .suspended)),
+      (
+        λ c sent. none (isErase (c .suspended)) (isProgram (c .suspended)),
+        (
+          λ c sent. none (isErase (c .suspended)) (isProgram (c .suspended)),
+          (
+            λ c sent. none (isErase (c .suspended)) (isProgram (c .suspended)),
+            (
+              λ c sent. none (isErase (c .suspended)) (isProgram (c .suspended)),
+              (
+                λ c sent. none (isErase (c .suspended)) (isProgram (c .suspended)),
+                (
+                  λ c sent. none (isErase (c .suspended)) (isProgram (c .suspended)),
+                  (
+                    λ c sent. none (isErase (c .suspended)) (isProgram (c .suspended)),
+                    (
+                      λ c sent. none (isErase (c .suspended)) (isProgram (c .suspended)),
+                      (
+                        λ c sent. none (isErase (c .suspended)) (isProgram (c .suspended)),
+                        (
+                          λ c sent. none (isErase (c .suspended)) (isProgram (c .suspended)),
+                          (
+                            λ c sent. none (isErase (c .suspended)) (isProgram (c .suspended)),
+                            (
+                              λ c sent. none (isErase (c .suspended)) (isProgram (c .suspended)),
+                              (
+                                λ c sent. none (isErase (c .suspended)) (isProgram (c .suspended)),
+                                (
+                                  λ c sent. sector (isErase (c .suspended)) (isProgram (c .suspended)) (holds (range (address sent / 4096 * 4096) 4096) (arrayRange (c .suspended) .start)),
+                                  (
+                                    λ c sent. block (isErase (c .suspended)) (isProgram (c .suspended)) (holds (span (blockAt (blockOf (address sent)))) (arrayRange (c .suspended) .start)),
+                                    (
+                                      λ c sent. alone (not (isNothing (c .suspended))) (isErase (c .suspended)) (isProgram (c .suspended)),
+                                      (
+                                        λ c sent. page (isErase (c .suspended)) (isProgram (c .suspended)) (holds (arrayRange (c .suspended)) (address sent)),
+                                        (
+                                          λ c sent. page (isErase (c .suspended)) (isProgram (c .suspended)) (holds (arrayRange (c .suspended)) (address sent)),
+                                          (
+                                            λ c sent. alone (not (isNothing (c .suspended))) (isErase (c .suspended)) (isProgram (c .suspended)),
+                                            (
+                                              λ c sent. alone (not (isNothing (c .suspended))) (isErase (c .suspended)) (isProgram (c .suspended)),
+                                              (
+                                                λ c sent. alone (not (isNothing (c .suspended))) (isErase (c .suspended)) (isProgram (c .suspended)),
+                                                (
+                                                  λ c sent. alone (not (isNothing (c .suspended))) (isErase (c .suspended)) (isProgram (c .suspended)),
+                                                  (
+                                                    λ c sent. alone (not (isNothing (c .suspended))) (isErase (c .suspended)) (isProgram (c .suspended)),
+                                                    (
+                                                      λ c sent. alone (not (isNothing (c .suspended))) (isErase (c .suspended)) (isProgram (c .suspended)),
+                                                      (
+                                                        λ c sent. alone (not (isNothing (c .suspended))) (isErase (c .suspended)) (isProgram (c .suspended)),
+                                                        (
+                                                          λ c sent. first-of (not (canSuspend (c .running) && isNothing (c .suspended))) (isErase (c .suspended)) (isProgram (c .suspended)),
+                                                          (
+                                                            λ c sent. second-of (isNothing (c .suspended)) (isErase (c .suspended)) (isProgram (c .suspended)),
+                                                            tt,
+                                                          ),
+                                                        ),
+                                                      ),
+                                                    ),
+                                                  ),
+                                                ),
+                                              ),
+                                            ),
+                                          ),
+                                        ),
+                                      ),
+                                    ),
+                                  ),
+                                ),
+                              ),
+                            ),
+                          ),
+                        ),
+                      ),
+                    ),
+                  ),
+                ),
+              ),
+            ),
+          ),
+        ),
+      ),
+    ),
+  ),
+)
 
 pub conflict-is : (c : Chip) (o : ℕ) (sent : List ℕ) (q : Bool) → listed q (formOf o) ≡ true → suspension c o sent ≡ conflict (formOf o .kind) (c .running) (c .suspended) sent
 unfolding Conflict
 conflict-is c o sent q e = by-rows Conflict rows-conflict q o e c sent
+
+-- ---- 9
+
+Latched : ℕ → Kind → Type 0
+Latched o k = (c : Chip) → noWel c o ≡ (needsWel k && not (c .wel))
+
+rows-latched : EachRow Latched frames
+unfolding Latched frames
+rows-latched = (
+  λ c. refl,
+  (
+    λ c. refl,
+    (
+      λ c. refl,
+      (
+        λ c. refl,
+        (
+          λ c. refl,
+          (
+            λ c. refl,
+            (
+              λ c. refl,
+              (
+                λ c. refl,
+                (
+                  λ c. refl,
+                  (
+                    λ c. refl,
+                    (
+                      λ c. refl,
+                      (
+                        λ c. refl,
+                        (
+                          λ c. refl,
+                          (
+                            λ c. refl,
+                            (
+                              λ c. refl,
+                              (
+                                λ c. refl,
+                                (
+                                  λ c. refl,
+                                  (
+                                    λ c. refl,
+                                    (
+                                      λ c. refl,
+                                      (
+                                        λ c. refl,
+                                        (
+                                          λ c. refl,
+                                          (
+                                            λ c. refl,
+                                            (
+                                              λ c. refl,
+                                              (
+                                                λ c. refl,
+                                                (
+                                                  λ c. refl,
+                                                  (
+                                                    λ c. refl,
+                                                    (
+                                                      λ c. refl,
+                                                      (
+                                                        λ c. refl,
+                                                        (
+                                                          λ c. refl,
+                                                          (
+                                                            λ c. refl,
+                                                            tt,
+                                                          ),
+                                                        ),
+                                                      ),
+                                                    ),
+                                                  ),
+                                                ),
+                                              ),
+                                            ),
+                                          ),
+                                        ),
+                                      ),
+                                    ),
+                                  ),
+                                ),
+                              ),
+                            ),
+                          ),
+                        ),
+                      ),
+                    ),
+                  ),
+                ),
+              ),
+            ),
+          ),
+        ),
+      ),
+    ),
+  ),
+)
+
+pub latched-is : (c : Chip) (o : ℕ) (q : Bool) → listed q (formOf o) ≡ true → noWel c o ≡ (needsWel (formOf o .kind) && not (c .wel))
+unfolding Latched
+latched-is c o q e = by-rows Latched rows-latched q o e c
 
 -- ---- 10
 
@@ -114,38 +276,97 @@ Closed o k = (c : Chip) (sent : List ℕ) → closed c o sent ≡ closedBy k (c 
 
 rows-closed : EachRow Closed frames
 unfolding Closed frames
-rows-closed =
-    (λ c sent. refl,
-    (λ c sent. refl,
-    (λ c sent. refl,
-    (λ c sent. refl,
-    (λ c sent. refl,
-    (λ c sent. refl,
-    (λ c sent. refl,
-    (λ c sent. refl,
-    (λ c sent. refl,
-    (λ c sent. refl,
-    (λ c sent. refl,
-    (λ c sent. refl,
-    (λ c sent. refl,
-    (λ c sent. refl,
-    (λ c sent. refl,
-    (λ c sent. refl,
-    (λ c sent. refl,
-    (λ c sent. refl,
-    (λ c sent. refl,
-    (λ c sent. refl,
-    (λ c sent. refl,
-    (λ c sent. refl,
-    (λ c sent. or-none (c .sec),
-    (λ c sent. refl,
-    (λ c sent. or-two (c .wpld),
-    (λ c sent. refl,
-    (λ c sent. refl,
-    (λ c sent. or-two (c .wpld),
-    (λ c sent. refl,
-    (λ c sent. refl,
-    tt))))))))))))))))))))))))))))))
+rows-closed = (
+  λ c sent. refl,
+  (
+    λ c sent. refl,
+    (
+      λ c sent. refl,
+      (
+        λ c sent. refl,
+        (
+          λ c sent. refl,
+          (
+            λ c sent. refl,
+            (
+              λ c sent. refl,
+              (
+                λ c sent. refl,
+                (
+                  λ c sent. refl,
+                  (
+                    λ c sent. refl,
+                    (
+                      λ c sent. refl,
+                      (
+                        λ c sent. refl,
+                        (
+                          λ c sent. refl,
+                          (
+                            λ c sent. refl,
+                            (
+                              λ c sent. refl,
+                              (
+                                λ c sent. refl,
+                                (
+                                  λ c sent. refl,
+                                  (
+                                    λ c sent. refl,
+                                    (
+                                      λ c sent. refl,
+                                      (
+                                        λ c sent. refl,
+                                        (
+                                          λ c sent. refl,
+                                          (
+                                            λ c sent. refl,
+                                            (
+                                              λ c sent. or-none (c .sec),
+                                              (
+                                                λ c sent. refl,
+                                                (
+                                                  λ c sent. or-two (c .wpld),
+                                                  (
+                                                    λ c sent. refl,
+                                                    (
+                                                      λ c sent. refl,
+                                                      (
+                                                        λ c sent. or-two (c .wpld),
+                                                        (
+                                                          λ c sent. refl,
+                                                          (
+                                                            λ c sent. refl,
+                                                            tt,
+                                                          ),
+                                                        ),
+                                                      ),
+                                                    ),
+                                                  ),
+                                                ),
+                                              ),
+                                            ),
+                                          ),
+                                        ),
+                                      ),
+                                    ),
+                                  ),
+                                ),
+                              ),
+                            ),
+                          ),
+                        ),
+                      ),
+                    ),
+                  ),
+                ),
+              ),
+            ),
+          ),
+        ),
+      ),
+    ),
+  ),
+)
 
 pub closed-is : (c : Chip) (o : ℕ) (sent : List ℕ) (q : Bool) → listed q (formOf o) ≡ true → closed c o sent ≡ closedBy (formOf o .kind) (c .wpld) (c .sec) sent
 unfolding Closed
@@ -158,38 +379,97 @@ Locked o k = (c : Chip) (sent : List ℕ) → lockedTarget c o sent ≡ lockedBy
 
 rows-locked : EachRow Locked frames
 unfolding Locked frames
-rows-locked =
-    (λ c sent. refl,
-    (λ c sent. refl,
-    (λ c sent. refl,
-    (λ c sent. refl,
-    (λ c sent. refl,
-    (λ c sent. refl,
-    (λ c sent. refl,
-    (λ c sent. refl,
-    (λ c sent. refl,
-    (λ c sent. refl,
-    (λ c sent. refl,
-    (λ c sent. refl,
-    (λ c sent. refl,
-    (λ c sent. refl,
-    (λ c sent. refl,
-    (λ c sent. refl,
-    (λ c sent. or-none (writeLocked (c .protection) (address sent)),
-    (λ c sent. or-none (writeLocked (c .protection) (address sent)),
-    (λ c sent. refl,
-    (λ c sent. or-none (writeLocked (c .protection) (address sent)),
-    (λ c sent. or-none (writeLocked (c .protection) (address sent)),
-    (λ c sent. refl,
-    (λ c sent. refl,
-    (λ c sent. refl,
-    (λ c sent. refl,
-    (λ c sent. refl,
-    (λ c sent. refl,
-    (λ c sent. refl,
-    (λ c sent. refl,
-    (λ c sent. refl,
-    tt))))))))))))))))))))))))))))))
+rows-locked = (
+  λ c sent. refl,
+  (
+    λ c sent. refl,
+    (
+      λ c sent. refl,
+      (
+        λ c sent. refl,
+        (
+          λ c sent. refl,
+          (
+            λ c sent. refl,
+            (
+              λ c sent. refl,
+              (
+                λ c sent. refl,
+                (
+                  λ c sent. refl,
+                  (
+                    λ c sent. refl,
+                    (
+                      λ c sent. refl,
+                      (
+                        λ c sent. refl,
+                        (
+                          λ c sent. refl,
+                          (
+                            λ c sent. refl,
+                            (
+                              λ c sent. refl,
+                              (
+                                λ c sent. refl,
+                                (
+                                  λ c sent. or-none (writeLocked (c .protection) (address sent)),
+                                  (
+                                    λ c sent. or-none (writeLocked (c .protection) (address sent)),
+                                    (
+                                      λ c sent. refl,
+                                      (
+                                        λ c sent. or-none (writeLocked (c .protection) (address sent)),
+                                        (
+                                          λ c sent. or-none (writeLocked (c .protection) (address sent)),
+                                          (
+                                            λ c sent. refl,
+                                            (
+                                              λ c sent. refl,
+                                              (
+                                                λ c sent. refl,
+                                                (
+                                                  λ c sent. refl,
+                                                  (
+                                                    λ c sent. refl,
+                                                    (
+                                                      λ c sent. refl,
+                                                      (
+                                                        λ c sent. refl,
+                                                        (
+                                                          λ c sent. refl,
+                                                          (
+                                                            λ c sent. refl,
+                                                            tt,
+                                                          ),
+                                                        ),
+                                                      ),
+                                                    ),
+                                                  ),
+                                                ),
+                                              ),
+                                            ),
+                                          ),
+                                        ),
+                                      ),
+                                    ),
+                                  ),
+                                ),
+                              ),
+                            ),
+                          ),
+                        ),
+                      ),
+                    ),
+                  ),
+                ),
+              ),
+            ),
+          ),
+        ),
+      ),
+    ),
+  ),
+)
 
 pub locked-is : (c : Chip) (o : ℕ) (sent : List ℕ) (q : Bool) → listed q (formOf o) ≡ true → lockedTarget c o sent ≡ lockedBy (formOf o .kind) (c .protection) sent
 unfolding Locked
@@ -212,38 +492,97 @@ Looked o f = (listed true f ≡ true → lookedAt (f .kind) ≤ f .sqi) × (list
 
 rows-looked : EachForm Looked frames
 unfolding Looked frames
-rows-looked =
-    ((λ e. omega arith, λ e. omega arith),
-    ((λ e. omega arith, λ e. omega arith),
-    ((λ e. omega arith, λ e. omega arith),
-    ((λ e. absurd (false≢true e), λ e. omega arith),
-    ((λ e. omega arith, λ e. omega arith),
-    ((λ e. omega arith, λ e. omega arith),
-    ((λ e. omega arith, λ e. omega arith),
-    ((λ e. omega arith, λ e. omega arith),
-    ((λ e. absurd (false≢true e), λ e. omega arith),
-    ((λ e. omega arith, λ e. absurd (false≢true e)),
-    ((λ e. absurd (false≢true e), λ e. omega arith),
-    ((λ e. omega arith, λ e. omega arith),
-    ((λ e. absurd (false≢true e), λ e. omega arith),
-    ((λ e. omega arith, λ e. omega arith),
-    ((λ e. omega arith, λ e. omega arith),
-    ((λ e. omega arith, λ e. omega arith),
-    ((λ e. omega arith, λ e. omega arith),
-    ((λ e. omega arith, λ e. omega arith),
-    ((λ e. omega arith, λ e. omega arith),
-    ((λ e. omega arith, λ e. omega arith),
-    ((λ e. absurd (false≢true e), λ e. omega arith),
-    ((λ e. omega arith, λ e. omega arith),
-    ((λ e. omega arith, λ e. omega arith),
-    ((λ e. omega arith, λ e. omega arith),
-    ((λ e. omega arith, λ e. omega arith),
-    ((λ e. omega arith, λ e. omega arith),
-    ((λ e. omega arith, λ e. omega arith),
-    ((λ e. omega arith, λ e. omega arith),
-    ((λ e. omega arith, λ e. omega arith),
-    ((λ e. omega arith, λ e. omega arith),
-    tt))))))))))))))))))))))))))))))
+rows-looked = (
+  (λ e. omega arith, λ e. omega arith),
+  (
+    (λ e. omega arith, λ e. omega arith),
+    (
+      (λ e. omega arith, λ e. omega arith),
+      (
+        (λ e. absurd (false≢true e), λ e. omega arith),
+        (
+          (λ e. omega arith, λ e. omega arith),
+          (
+            (λ e. omega arith, λ e. omega arith),
+            (
+              (λ e. omega arith, λ e. omega arith),
+              (
+                (λ e. omega arith, λ e. omega arith),
+                (
+                  (λ e. absurd (false≢true e), λ e. omega arith),
+                  (
+                    (λ e. omega arith, λ e. absurd (false≢true e)),
+                    (
+                      (λ e. absurd (false≢true e), λ e. omega arith),
+                      (
+                        (λ e. omega arith, λ e. omega arith),
+                        (
+                          (λ e. absurd (false≢true e), λ e. omega arith),
+                          (
+                            (λ e. omega arith, λ e. omega arith),
+                            (
+                              (λ e. omega arith, λ e. omega arith),
+                              (
+                                (λ e. omega arith, λ e. omega arith),
+                                (
+                                  (λ e. omega arith, λ e. omega arith),
+                                  (
+                                    (λ e. omega arith, λ e. omega arith),
+                                    (
+                                      (λ e. omega arith, λ e. omega arith),
+                                      (
+                                        (λ e. omega arith, λ e. omega arith),
+                                        (
+                                          (λ e. absurd (false≢true e), λ e. omega arith),
+                                          (
+                                            (λ e. omega arith, λ e. omega arith),
+                                            (
+                                              (λ e. omega arith, λ e. omega arith),
+                                              (
+                                                (λ e. omega arith, λ e. omega arith),
+                                                (
+                                                  (λ e. omega arith, λ e. omega arith),
+                                                  (
+                                                    (λ e. omega arith, λ e. omega arith),
+                                                    (
+                                                      (λ e. omega arith, λ e. omega arith),
+                                                      (
+                                                        (λ e. omega arith, λ e. omega arith),
+                                                        (
+                                                          (λ e. omega arith, λ e. omega arith),
+                                                          (
+                                                            (λ e. omega arith, λ e. omega arith),
+                                                            tt,
+                                                          ),
+                                                        ),
+                                                      ),
+                                                    ),
+                                                  ),
+                                                ),
+                                              ),
+                                            ),
+                                          ),
+                                        ),
+                                      ),
+                                    ),
+                                  ),
+                                ),
+                              ),
+                            ),
+                          ),
+                        ),
+                      ),
+                    ),
+                  ),
+                ),
+              ),
+            ),
+          ),
+        ),
+      ),
+    ),
+  ),
+)
 
 pub looked-at : (o n : ℕ) (q : Bool) → listed q (formOf o) ≡ true → lengthRight q (formOf o) n ≡ true → lookedAt (formOf o .kind) ≤ n
 unfolding Looked

@@ -36,8 +36,10 @@ reaches-first sent h = go (decLt a 256)
   where
     a : ℕ
     a = securityAddress sent
+
     n : length (drop 3 sent) ≡ length sent - 3
     n = length-drop 3 sent
+
     wraps : a < 256 → (8 ≤ a % 256) → Dec (256 < a % 256 + (length sent - 3)) → ltb 256 (a % 256 + (length sent - 3)) ≡ reaches (a / 256 * 256) (a % 256) (drop 3 sent)
     wraps low from (yes past) =
         lt-ltb 256 (a % 256 + (length sent - 3)) past
@@ -45,11 +47,13 @@ reaches-first sent h = go (decLt a 256)
     wraps low from (no within) =
         le-ltb 256 (a % 256 + (length sent - 3)) (omega arith)
         ∙ sym (reaches-no (a / 256 * 256) (a % 256) (drop 3 sent) (λ i below. omega (arith, n)))
+
     begins : a < 256 → Dec (a % 256 < 8) → (ltb (a % 256) 8 || ltb 256 (a % 256 + (length sent - 3))) ≡ reaches (a / 256 * 256) (a % 256) (drop 3 sent)
     begins low (yes under) =
         or-left (ltb (a % 256) 8) _ (lt-ltb (a % 256) 8 under)
         ∙ sym (reaches-yes (a / 256 * 256) (a % 256) (drop 3 sent) 0 (omega (arith, n)) (omega arith))
     begins low (no over) = rw (le-ltb (a % 256) 8 (omega arith)) (wraps low (omega arith) (decLt 256 (a % 256 + (length sent - 3))))
+
     go : Dec (a < 256) → (ltb a 256 && (ltb (a % 256) 8 || ltb 256 (a % 256 + (length sent - 3)))) ≡ reaches (a / 256 * 256) (a % 256) (drop 3 sent)
     go (yes low) = rw (lt-ltb a 256 low) (begins low (decLt (a % 256) 8))
     go (no high) = rw (le-ltb a 256 (omega arith)) (sym (reaches-no (a / 256 * 256) (a % 256) (drop 3 sent) (λ i below. omega arith)))

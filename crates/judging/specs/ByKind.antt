@@ -1,4 +1,4 @@
--- Refusals 8, 10 and 11 by the kind of the opcode, and how many bytes a kind's frame has at least.
+-- Refusals 8 to 11 by the kind of the opcode, and how many bytes a kind's frame has at least.
 use Prim.Native.Nat.{ℕ, _*_, _/_}
 use mathlib.Core.Bool.{Bool, true, false, not, _&&_, _||_}
 use mathlib.Core.List.{List}
@@ -95,6 +95,23 @@ lockedBy Kind.LockDown p sent = false
 lockedBy Kind.ClearLocks p sent = false
 lockedBy Kind.Suspend p sent = false
 lockedBy Kind.Resume p sent = false
+
+-- 9
+abbrev pub needsWel : Kind → Bool
+needsWel Kind.Nothing = false
+needsWel Kind.EnableReset = false
+needsWel Kind.Reset = false
+needsWel Kind.ToSqi = false
+needsWel Kind.ToSpi = false
+needsWel (Kind.Show x) = false
+needsWel Kind.SetWel = false
+needsWel Kind.ClearWel = false
+needsWel (Kind.Begin l) = true
+needsWel Kind.WriteProtection = true
+needsWel Kind.LockDown = true
+needsWel Kind.ClearLocks = true
+needsWel Kind.Suspend = false
+needsWel Kind.Resume = false
 
 -- the least number of bytes of a frame of each kind, as far as its bytes are looked at
 abbrev pub startLength : Long → ℕ

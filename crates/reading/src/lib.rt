@@ -5,20 +5,11 @@ ghost use mathlib.Core.List.{[], _∷_};
 ghost use Prim.Native.Nat.{_+_, _-_, _*_, _/_, _%_, _^_, _≤_, _<_, min};
 ghost use lib.Dec.{ltb};
 ghost use lib.ListN.{length, getD};
-ghost use Rattle.rules.specs.Words.{lent, pick, holds};
+ghost use Rattle.rules.specs.Words.{lent, pick};
 ghost use Rattle.rules.specs.Blocks.{arraySize, securitySize};
 ghost use Rattle.rules.specs.Reading.{placeCell};
 ghost use Rattle.memory.specs.Patched.{Patched};
 ghost use Rattle.reading.specs.Upto.{Upto, Pages, cellFrom};
-
-fn holds_place(r: Range, a: usize) -> bool
-    requires { ⌜ Pages r ⌝ }
-    ensures { λ b. ⌜ b ≡ holds r a ⌝ }
-{
-    let start = r.start;
-    let end = start + r.size;
-    (start <= a) & (a < end)
-}
 
 // n bytes of one page from place a on, into the reply and the marks from i on: locks and suspended ranges do not change within a page.
 fn read_piece(
@@ -40,7 +31,7 @@ fn read_piece(
         memory::set_all(marks, i, n, 1);
         return;
     }
-    if holds_place(r, a) {
+    if blocks::holds_place(r, a) {
         memory::set_all(reply, i, n, 0);
         memory::set_all(marks, i, n, 0);
         return;

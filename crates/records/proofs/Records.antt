@@ -49,7 +49,7 @@ overlap-four r s =
     y = s .start + s .size
 
 -- the range of well-numbered work ends within the array
-range-inside : (w : Work) → numbersRight w ≡ true → arrayRange w .start + arrayRange w .size ≤ 2097152
+pub range-inside : (w : Work) → numbersRight w ≡ true → arrayRange w .start + arrayRange w .size ≤ 2097152
 range-inside Nothing e = omega arith
 range-inside (EraseSector n) e = let h = ltb-true n 512 e in omega arith
 range-inside (EraseBlock n) e = block-placed n (ltb-true n 40 e) .inside

@@ -81,9 +81,10 @@ loop-again c = let s = c .before .before .before .before .before .before .before
     record {
       low = omega arith;
       bytes = upto-piece _ _ _ _ _ _ _ (l .inv .bytes) (c .before .before .before .before .read-piece .ensures .0)
-        (λ j below. ap (λ (x : ℕ). placeCell (s .args .p) (s .args .r) (lent (s .args .array .now)) x .byte) (place-on (s .args .at) (l .i) j (omega arith)));
+          (λ j below. ap (λ (x : ℕ). placeCell (s .args .p) (s .args .r) (lent (s .args .array .now)) x .byte) (place-on (s .args .at) (l .i) j (omega arith)));
       known = upto-piece _ _ _ _ _ _ _ (l .inv .known) (c .before .before .before .before .read-piece .ensures .1)
-        (λ j below. ap (λ (x : ℕ). placeCell (s .args .p) (s .args .r) (lent (s .args .array .now)) x .mark) (place-on (s .args .at) (l .i) j (omega arith))) }
+          (λ j below. ap (λ (x : ℕ). placeCell (s .args .p) (s .args .r) (lent (s .args .array .now)) x .mark) (place-on (s .args .at) (l .i) j (omega arith)));
+    }
 
 -- src/lib.rt:59:1
 same-length : tie.Need-same-length Inv-loop μ-loop

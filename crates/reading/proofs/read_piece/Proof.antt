@@ -12,7 +12,6 @@ use Rattle.reading.proofs.read_piece.Lts as lts
 use Rattle.blocks.proofs.read_locked.Reads as read-locked-reads
 use Rattle.memory.proofs.copy.Reads as copy-reads
 use Rattle.memory.proofs.set_all.Reads as set-all-reads
-use Rattle.reading.proofs.holds_place.Reads as holds-place-reads
 
 -- src/lib.rt:38:8
 read-locked-requires : tie.Need-read-locked-requires
@@ -37,13 +36,14 @@ same-length-2 c = search needs
 -- src/lib.rt:41:9
 returns : tie.Need-returns
 returns c = let a = c .before .before .before .before .before .before .before .before .before .before .before .before .before in
-    let cell = locked-piece (a .args .p) (a .args .r) (lent (a .args .array .now)) (a .args .a) (a .args .n) (a .pre .0) (a .pre .1 .1 .1 .0) _ (c .before .before .before .before .before .before .before .before .before .read-locked .ensures) (c .before .before .before .before .before .before .before .before .if1 .taken) in
-    (patched-same _ _ _ _ _ _ (c .before .before .before .before .before .before .set-all .ensures) (λ j h. ap (λ (x : Cell). x .byte) (cell j h)),
-    patched-same _ _ _ _ _ _ (c .before .before .set-all2 .ensures) (λ j h. ap (λ (x : Cell). x .mark) (cell j h)))
+    let cell = locked-piece (a .args .p) (a .args .r) (lent (a .args .array .now)) (a .args .a) (a .args .n) (a .pre .0) (a .pre .1 .1 .1 .0) _ (c .before .before .before .before .before .before .before .before .before .read-locked .ensures) (c .before .before .before .before .before .before .before .before .if1 .taken) in (
+      patched-same _ _ _ _ _ _ (c .before .before .before .before .before .before .set-all .ensures) (λ j h. ap (λ (x : Cell). x .byte) (cell j h)),
+      patched-same _ _ _ _ _ _ (c .before .before .set-all2 .ensures) (λ j h. ap (λ (x : Cell). x .mark) (cell j h)),
+    )
 
 -- src/lib.rt:43:8
 holds-place-requires : tie.Need-holds-place-requires
-holds-place-requires c κs = search needs
+holds-place-requires c κs = c .before .before .before .before .before .pre .0 .inside
 
 -- src/lib.rt:44:9
 set-all-requires-3 : tie.Need-set-all-requires-3
@@ -64,9 +64,10 @@ same-length-4 c = search needs
 -- src/lib.rt:46:9
 returns-2 : tie.Need-returns-2
 returns-2 c = let a = c .before .before .before .before .before .before .before .before .before .before .before .before .before .before .before in
-    let cell = suspended-piece (a .args .p) (a .args .r) (lent (a .args .array .now)) (a .args .a) (a .args .n) (a .pre .0) (a .pre .1 .1 .1 .0) _ _ (c .before .before .before .before .before .before .before .before .before .before .before .read-locked .ensures) (c .before .before .before .before .before .before .before .before .before .before .if1 .left) (c .before .before .before .before .before .before .before .before .before .holds-place .ensures) (c .before .before .before .before .before .before .before .before .if2 .taken) in
-    (patched-same _ _ _ _ _ _ (c .before .before .before .before .before .before .set-all3 .ensures) (λ j h. ap (λ (x : Cell). x .byte) (cell j h)),
-    patched-same _ _ _ _ _ _ (c .before .before .set-all4 .ensures) (λ j h. ap (λ (x : Cell). x .mark) (cell j h)))
+    let cell = suspended-piece (a .args .p) (a .args .r) (lent (a .args .array .now)) (a .args .a) (a .args .n) (a .pre .0) (a .pre .1 .1 .1 .0) _ _ (c .before .before .before .before .before .before .before .before .before .before .before .read-locked .ensures) (c .before .before .before .before .before .before .before .before .before .before .if1 .left) (c .before .before .before .before .before .before .before .before .before .holds-place .ensures) (c .before .before .before .before .before .before .before .before .if2 .taken) in (
+      patched-same _ _ _ _ _ _ (c .before .before .before .before .before .before .set-all3 .ensures) (λ j h. ap (λ (x : Cell). x .byte) (cell j h)),
+      patched-same _ _ _ _ _ _ (c .before .before .set-all4 .ensures) (λ j h. ap (λ (x : Cell). x .mark) (cell j h)),
+    )
 
 -- src/lib.rt:48:5
 copy-requires : tie.Need-copy-requires
@@ -87,9 +88,10 @@ same-length-6 c = search needs
 -- src/lib.rt:24:1
 returns-3 : tie.Need-returns-3
 returns-3 c = let a = c .before .before .before .before .before .before .before .before .before .before .before .before .before .before .before in
-    let cell = stored-piece (a .args .p) (a .args .r) (lent (a .args .array .now)) (a .args .a) (a .args .n) (a .pre .0) (a .pre .1 .1 .1 .0) _ _ (c .before .before .before .before .before .before .before .before .before .before .before .read-locked .ensures) (c .before .before .before .before .before .before .before .before .before .before .if1 .left) (c .before .before .before .before .before .before .before .before .before .holds-place .ensures) (c .before .before .before .before .before .before .before .before .if2 .left) in
-    (patched-same _ _ _ _ _ _ (c .before .before .before .before .before .before .copy .ensures) (λ j h. ap (λ (x : Cell). x .byte) (cell j h)),
-    patched-same _ _ _ _ _ _ (c .before .before .set-all5 .ensures) (λ j h. ap (λ (x : Cell). x .mark) (cell j h)))
+    let cell = stored-piece (a .args .p) (a .args .r) (lent (a .args .array .now)) (a .args .a) (a .args .n) (a .pre .0) (a .pre .1 .1 .1 .0) _ _ (c .before .before .before .before .before .before .before .before .before .before .before .read-locked .ensures) (c .before .before .before .before .before .before .before .before .before .before .if1 .left) (c .before .before .before .before .before .before .before .before .before .holds-place .ensures) (c .before .before .before .before .before .before .before .before .if2 .left) in (
+      patched-same _ _ _ _ _ _ (c .before .before .before .before .before .before .copy .ensures) (λ j h. ap (λ (x : Cell). x .byte) (cell j h)),
+      patched-same _ _ _ _ _ _ (c .before .before .set-all5 .ensures) (λ j h. ap (λ (x : Cell). x .mark) (cell j h)),
+    )
 
 pub read-piece-spec : {M : Type 1} → statement M
 read-piece-spec =

@@ -3,10 +3,10 @@ use mathlib.Core.Path.{refl}
 use Rattle.rules.specs.Words.{holds}
 use native.Mathlib.Omega.{arith}
 use borrow.Author.Needs.{needs}
-use Rattle.reading.proofs.holds_place.Statement.{statement}
-use Rattle.reading.proofs.holds_place.Tie as tie
-use Rattle.reading.proofs.holds_place.Reads as reads
-use Rattle.reading.proofs.holds_place.Lts as lts
+use Rattle.blocks.proofs.holds_place.Statement.{statement}
+use Rattle.blocks.proofs.holds_place.Tie as tie
+use Rattle.blocks.proofs.holds_place.Reads as reads
+use Rattle.blocks.proofs.holds_place.Lts as lts
 
 -- src/lib.rt:19:15
 add-end : tie.Need-add-end
