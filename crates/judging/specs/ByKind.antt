@@ -1,9 +1,13 @@
 -- Refusals 8 to 11 by the kind of the opcode, and how many bytes a kind's frame has at least.
-use Prim.Native.Nat.{ℕ, _*_, _/_}
+use Prim.Native.Nat.{ℕ, _*_, _/_, _≤_}
+use mathlib.Core.Path.{_≡_}
 use mathlib.Core.Bool.{Bool, true, false, not, _&&_, _||_}
-use mathlib.Core.List.{List}
+use mathlib.Core.List.{List, [], _∷_}
 use lib.Dec.{eqb}
+use lib.ListN.{length}
 use lib.Bits.{bitAnd}
+use Rattle.rules.specs.declared.Chip.{Chip}
+use Rattle.rules.specs.declared.Form.{Form}
 use Rattle.rules.specs.declared.Kind.{Kind}
 use Rattle.rules.specs.declared.Long.{Long}
 use Rattle.rules.specs.declared.Source.{Source}
@@ -11,8 +15,10 @@ use Rattle.rules.specs.declared.Work.{Work}
 use Rattle.rules.specs.Words.{range, holds}
 use Rattle.rules.specs.Blocks.{blockOf, blockAt, span, writeLocked, writeLocks}
 use Rattle.rules.specs.Works.{isNothing, isErase, isProgram, canSuspend, arrayRange}
-use Rattle.rules.specs.Frames.{address}
+use Rattle.rules.specs.Frames.{address, formOf, listed, lengthRight, opcode}
 use Rattle.rules.specs.Programs.{reachesFirst}
+use Rattle.rules.specs.WellFormed.{wellFormed}
+use Rattle.rules.specs.Numbers.{whileBusy, noEnable, noIoc, suspension, noWel, closed, lockedTarget, Test, test}
 
 -- 8, of a long command beside suspended work
 abbrev pub startConflict : Long → Work → List ℕ → Bool
@@ -147,3 +153,31 @@ lookedAt Kind.LockDown = 1
 lookedAt Kind.ClearLocks = 1
 lookedAt Kind.Suspend = 1
 lookedAt Kind.Resume = 1
+
+-- ---- what the decision is asked, and gives
+
+-- the conditions 5 to 11 in their order
+abbrev pub laterTests : Chip → ℕ → List ℕ → List Test
+laterTests c o sent =
+    test 5 (whileBusy c o)
+    ∷ test 6 (noEnable c o)
+    ∷ test 7 (noIoc c o)
+    ∷ test 8 (suspension c o sent)
+    ∷ test 9 (noWel c o)
+    ∷ test 10 (closed c o sent)
+    ∷ test 11 (lockedTarget c o sent)
+    ∷ []
+
+pub record Judgeable (c : Chip) (o : ℕ) (f : Form) (sent : List ℕ) : Type 0 where
+  pub well : wellFormed c ≡ true
+  pub first-byte : o ≡ opcode sent
+  pub its-form : f ≡ formOf o
+  pub fits : length sent ≤ 65536
+
+-- a frame of the right length, in the protocol in force
+pub record Weighable (c : Chip) (o : ℕ) (k : Kind) (sent : List ℕ) : Type 0 where
+  pub well : wellFormed c ≡ true
+  pub is-listed : listed (c .sqi) (formOf o) ≡ true
+  pub is-long : lengthRight (c .sqi) (formOf o) (length sent) ≡ true
+  pub its-kind : k ≡ formOf o .kind
+  pub fits : length sent ≤ 65536

@@ -17,8 +17,8 @@ ghost use Rattle.rules.specs.Words.{oneOf};
 ghost use Rattle.rules.specs.Frames.{formOf, lengthRight, leastLength, opcode, address, securityAddress};
 ghost use Rattle.rules.specs.Programs.{reachesFirst};
 ghost use Rattle.rules.specs.WellFormed.{numbersRight, wellFormed};
-ghost use Rattle.rules.specs.Numbers.{answerNumber, first, commandTests};
-ghost use Rattle.judging.specs.ByKind.{needsWel, startConflict, conflict, startClosed, closedBy, startLocked, lockedBy, startLength, lookedAt};
+ghost use Rattle.rules.specs.Numbers.{answerNumber, test, first, commandTests};
+ghost use Rattle.judging.specs.ByKind.{needsWel, startConflict, conflict, startClosed, closedBy, startLocked, lockedBy, startLength, lookedAt, laterTests, Weighable, Judgeable};
 
 pub fn wide(x: u8) -> usize
     ensures { λ r. ⌜ r ≡ x ⌝ }
@@ -246,4 +246,65 @@ fn length_right(q: bool, f: Form, n: usize) -> bool
 {
     let least = least_length(q, f);
     (n == least) | f.more & (least < n)
+}
+
+// The first of the conditions 5 to 11 that holds.
+fn lowest(b5: bool, b6: bool, b7: bool, b8: bool, b9: bool, b10: bool, b11: bool) -> Answer
+    ensures { λ r. ⌜ answerNumber r ≡ first (test 5 b5 ∷ test 6 b6 ∷ test 7 b7 ∷ test 8 b8 ∷ test 9 b9 ∷ test 10 b10 ∷ test 11 b11 ∷ []) ⌝ }
+{
+    if b5 {
+        return Answer::Refused(Refusal::Busy);
+    }
+    if b6 {
+        return Answer::Refused(Refusal::NoEnable);
+    }
+    if b7 {
+        return Answer::Refused(Refusal::NoIoc);
+    }
+    if b8 {
+        return Answer::Refused(Refusal::Suspension);
+    }
+    if b9 {
+        return Answer::Refused(Refusal::NoWel);
+    }
+    if b10 {
+        return Answer::Refused(Refusal::Closed);
+    }
+    if b11 {
+        return Answer::Refused(Refusal::WriteLocked);
+    }
+    Answer::Done
+}
+
+// The conditions 5 to 11 of a frame of the right length.
+fn weigh(c: Chip, op: u8, kind: Kind, sent: &[u8]) -> Answer
+    requires { ⌜ Weighable c op kind (now sent) ⌝ }
+    ensures { λ r. ⌜ answerNumber r ≡ first (laterTests c op (now (sent .entry))) ⌝ }
+{
+    let run = c.running;
+    let aside = c.suspended;
+    let b5 = !records::is_nothing(run) & !passes_busy(op);
+    let b6 = (op == 0x99) & !c.enable;
+    let b7 = needs_ioc(op) & !c.ioc;
+    let b8 = conflicts(kind, run, aside, sent);
+    let b9 = needs_wel(kind) & !c.wel;
+    let b10 = is_closed(kind, c.wpld, c.sec, sent);
+    let b11 = is_locked(kind, c.protection, sent);
+    lowest(b5, b6, b7, b8, b9, b10, b11)
+}
+
+// The number of a frame that is not empty, with a well-formed record and right lengths.
+pub fn judge(c: Chip, op: u8, form: Form, sent: &[u8]) -> Answer
+    requires { ⌜ Judgeable c op form (now sent) ⌝ }
+    ensures { λ r. ⌜ answerNumber r ≡ first (commandTests c (now (sent .entry))) ⌝ }
+{
+    let sqi = c.sqi;
+    if least_length(sqi, form) == 0 {
+        return Answer::Refused(Refusal::NotListed);
+    }
+    if !length_right(sqi, form, sent.len()) {
+        return Answer::Refused(Refusal::WrongLength);
+    }
+    let kind = form.kind;
+    weigh(c, op, kind, sent)
 }
