@@ -41,7 +41,8 @@ weigh-requires c κs = let a = c .before .before .before .before .before .args i
       is-listed = is-listed (a .c) (a .op) (a .form) (a .sent .now) _ p (c .before .before .before .least-length .ensures) (c .before .before .if1 .left);
       is-long = sym (length-known (a .c) (a .op) (a .form) (a .sent .now) _ p (c .before .length-right .ensures)) ∙ not-false _ (c .if2 .left);
       its-kind = ap (λ (f : Form). f .kind) (p .its-form);
-      fits = p .fits }
+      fits = p .fits;
+    }
 
 -- src/lib.rt:297:1
 returns-3 : tie.Need-returns-3
