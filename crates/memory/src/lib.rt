@@ -1,11 +1,17 @@
 // Loops over lent bytes and over the page buffer.
 ghost use mathlib.Core.Path.{_≡_};
-ghost use Prim.Native.Nat.{_+_, _≤_, _<_};
+ghost use Prim.Native.Nat.{_+_, _≤_, _<_, min};
 ghost use lib.ListN.{length, getD, drop};
 ghost use lib.Bits.{bitAnd};
 ghost use Rattle.rules.specs.Programs.{blank, fill};
 ghost use Rattle.rules.specs.WellFormed.{firstFF};
 ghost use Rattle.memory.specs.Patched.{Patched};
+
+pub fn smaller(a: usize, b: usize) -> usize
+    ensures { λ r. ⌜ r ≡ min a b ⌝ }
+{
+    if a < b { a } else { b }
+}
 
 // n bytes from `from` on become v.
 pub fn set_all(s: &mut [u8], from: usize, n: usize, v: u8)

@@ -2,7 +2,7 @@
 use rules::Range;
 ghost use mathlib.Core.Path.{_≡_};
 ghost use mathlib.Core.List.{[], _∷_};
-ghost use Prim.Native.Nat.{_+_, _-_, _*_, _/_, _%_, _^_, _≤_, _<_, min};
+ghost use Prim.Native.Nat.{_+_, _-_, _*_, _/_, _%_, _^_, _≤_, _<_};
 ghost use lib.Dec.{ltb};
 ghost use lib.ListN.{length, getD};
 ghost use Rattle.rules.specs.Words.{lent, pick};
@@ -40,12 +40,6 @@ fn read_piece(
     memory::set_all(marks, i, n, 1);
 }
 
-fn smaller(a: usize, b: usize) -> usize
-    ensures { λ r. ⌜ r ≡ min a b ⌝ }
-{
-    if a < b { a } else { b }
-}
-
 // The array from place `at` on, going round, page by page.
 pub fn read_array(p: u64, r: Range, array: &[u8], at: usize, reply: &mut [u8], marks: &mut [u8])
     requires { ⌜ (Pages r) × ((length (now array) ≡ arraySize) × ((at < arraySize) × ((length (now marks) ≡ length (now reply)) × (length (now reply) ≤ 65536)))) ⌝ }
@@ -55,7 +49,7 @@ pub fn read_array(p: u64, r: Range, array: &[u8], at: usize, reply: &mut [u8], m
     let mut i: usize = 0;
     while i < reply.len() {
         let a = (at + i) % 2097152;
-        let n = smaller(256 - a % 256, reply.len() - i);
+        let n = memory::smaller(256 - a % 256, reply.len() - i);
         read_piece(p, r, array, a, n, reply, marks, i);
         i += n;
     }

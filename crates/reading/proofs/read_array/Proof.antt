@@ -14,7 +14,6 @@ use Rattle.reading.proofs.read_array.Tie as tie
 use Rattle.reading.proofs.read_array.Reads as reads
 use Rattle.reading.proofs.read_array.Lts as lts
 use Rattle.reading.proofs.read_piece.Reads as read-piece-reads
-use Rattle.reading.proofs.smaller.Reads as smaller-reads
 
 abbrev Inv-loop : tie.InvT-loop
 Inv-loop p r array at reply₀ marks₀ i₀ reply marks i = record { low : i ≤ length reply₀; bytes : Upto reply (length reply₀) i (λ k. cellFrom p r array at k .byte); known : Upto marks (length marks₀) i (λ k. cellFrom p r array at k .mark) }
