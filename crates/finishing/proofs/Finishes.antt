@@ -31,6 +31,7 @@ patch-finishes erases s z k n b l l₀ e p =
   where
     new : ℕ → ℕ
     new a = finish erases (range s z) b k (lent l₀) .byte a
+
     inside : (a : ℕ) → s ≤ a → Dec (a < s + z) → Dec (a - s < k) → getD l a 0 ≡ new a
     inside a low (yes high) (yes early) =
         let q : s + (a - s) ≡ a = omega arith in
@@ -41,6 +42,7 @@ patch-finishes erases s z k n b l l₀ e p =
     inside a low (no high) d =
         p .after a (omega arith)
         ∙ sym (finish-outside erases (range s z) b k (lent l₀) a (never (holds (range s z) a) (λ h. high (holds-at (range s z) a h .1))))
+
     from : (a : ℕ) → Dec (s ≤ a) → getD l a 0 ≡ new a
     from a (yes low) = inside a low (decLt a (s + z)) (decLt (a - s) k)
     from a (no below) =

@@ -3,9 +3,14 @@
 use Prim.Native.Nat.{ℕ, zero, suc, _+_}
 use mathlib.Core.Path.{_≡_, refl, ap, _∙_}
 use mathlib.Core.Bool.{false}
-use Rattle.rules.specs.Words.{written, unlent}
+use lib.Dec.{ltb}
+use Rattle.rules.specs.Words.{pick, written, unlent}
 use Rattle.rules.specs.Blocks.{arraySize}
+use Rattle.rules.specs.Works.{isErase, arrayRange, securityRange, finish}
+use Rattle.rules.specs.Frames.{formOf, opcode}
+use Rattle.rules.specs.Reading.{reply}
 use Rattle.rules.specs.Fields.{withEnable}
+use Rattle.rules.specs.Commands.{act, settled, rested, afterCut}
 use Rattle.rules.specs.Numbers.{State, Frame, first, frameTests, completionTests, cutTests}
 use Rattle.rules.specs.Machine.{Outcome, frameChip, frameCell, frameReply, frameMarks, frame, workedArray, workedSecurity, completedChip, completion, cutChip, powerCut}
 
@@ -105,3 +110,43 @@ pub cut-done : (s : State) (k : ℕ) → first (cutTests s) ≡ 0
     → (powerCut s k .chip ≡ cutChip 0 k (s .chip)) × (powerCut s k .array ≡ workedArray 0 k s) × (powerCut s k .security ≡ workedSecurity 0 k s)
 unfolding powerCut
 cut-done s k e = (ap (λ (n : ℕ). cutChip n k (s .chip)) e, ap (λ (n : ℕ). workedArray n k s) e, ap (λ (n : ℕ). workedSecurity n k s) e)
+
+-- the whole outcome of a done frame
+pub frame-done-whole : (s : State) (f : Frame) → first (frameTests s f) ≡ 0
+    → frame s f
+    ≡ record {
+      number = 0;
+      chip = act (formOf (opcode (f .sent)) .kind) (f .sent) (withEnable false (s .chip));
+      array = s .array;
+      security = s .security;
+      reply = written (f .reply .size) (λ i. reply (formOf (opcode (f .sent)) .kind) (s .chip) (s .array) (s .security) (f .sent) i .byte);
+      marks = written (f .marks .size) (λ i. reply (formOf (opcode (f .sent)) .kind) (s .chip) (s .array) (s .security) (f .sent) i .mark);
+    }
+unfolding frame framed frameChip frameReply frameMarks frameCell
+frame-done-whole s f e = ap (framed s f) e
+
+pub completion-done-whole : (s : State) → first (completionTests s) ≡ 0
+    → completion s
+    ≡ record {
+      number = 0;
+      chip = rested (settled (s .chip .running) (s .chip));
+      array = finish (isErase (s .chip .running)) (arrayRange (s .chip .running)) (s .chip .buffer) arraySize (s .array);
+      security = finish (isErase (s .chip .running)) (securityRange (s .chip .running)) (s .chip .buffer) arraySize (s .security);
+      reply = unlent;
+      marks = unlent;
+    }
+unfolding completion completed completedChip workedArray workedSecurity
+completion-done-whole s e = ap (completed s) e
+
+pub cut-done-whole : (s : State) (k : ℕ) → first (cutTests s) ≡ 0
+    → powerCut s k
+    ≡ record {
+      number = 0;
+      chip = afterCut (pick (ltb 0 k) (settled (s .chip .running) (s .chip)) (s .chip));
+      array = finish (isErase (s .chip .running)) (arrayRange (s .chip .running)) (s .chip .buffer) k (s .array);
+      security = finish (isErase (s .chip .running)) (securityRange (s .chip .running)) (s .chip .buffer) k (s .security);
+      reply = unlent;
+      marks = unlent;
+    }
+unfolding powerCut cut cutChip workedArray workedSecurity
+cut-done-whole s k e = ap (cut s k) e

@@ -1,0 +1,2 @@
+-- What a kind of frame shows.
+pub mod Showing

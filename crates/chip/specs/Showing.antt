@@ -1,0 +1,51 @@
+-- What a kind of frame shows: nothing, or a source.
+use Prim.Native.Nat.{ℕ, _≤_}
+use mathlib.Core.Path.{_≡_}
+use mathlib.Core.Bool.{Bool, true}
+use mathlib.Core.List.{List}
+use lib.ListN.{length}
+use Rattle.rules.specs.declared.Cell.{Cell}
+use Rattle.rules.specs.declared.Chip.{Chip}
+use Rattle.rules.specs.declared.Kind.{Kind}
+use Rattle.rules.specs.declared.Source.{Source}
+use Rattle.rules.specs.Words.{Lent, lent, written}
+use Rattle.rules.specs.Blocks.{arraySize, securitySize}
+use Rattle.rules.specs.Reading.{silent, shown}
+use Rattle.rules.specs.WellFormed.{wellFormed}
+use Rattle.judging.specs.ByKind.{showLength}
+use Rattle.chip.specs.declared.Showing.{Showing}
+
+abbrev pub showing : Kind → Showing
+showing Kind.Nothing = Showing.Silence
+showing Kind.EnableReset = Showing.Silence
+showing Kind.Reset = Showing.Silence
+showing Kind.ToSqi = Showing.Silence
+showing Kind.ToSpi = Showing.Silence
+showing (Kind.Show s) = Showing.Shows s
+showing Kind.SetWel = Showing.Silence
+showing Kind.ClearWel = Showing.Silence
+showing (Kind.Begin l) = Showing.Silence
+showing Kind.WriteProtection = Showing.Silence
+showing Kind.LockDown = Showing.Silence
+showing Kind.ClearLocks = Showing.Silence
+showing Kind.Suspend = Showing.Silence
+showing Kind.Resume = Showing.Silence
+
+-- cell i of the reply
+abbrev pub cellOf : Showing → Chip → Lent → Lent → List ℕ → ℕ → Cell
+cellOf Showing.Silence c array security sent i = silent
+cellOf (Showing.Shows s) c array security sent i = shown s c array security sent i
+
+-- the reply and the marks hold the cells that f gives
+pub record Replied (reply marks reply′ marks′ : List ℕ) (f : ℕ → Cell) : Type 0 where
+  pub bytes : lent reply′ ≡ written (length reply) (λ i. f i .byte)
+  pub known : lent marks′ ≡ written (length marks) (λ i. f i .mark)
+
+-- what a read of a source is asked
+pub record Showable (s : Source) (c : Chip) (array security sent reply marks : List ℕ) : Type 0 where
+  pub well : wellFormed c ≡ true
+  pub whole : length array ≡ arraySize
+  pub secure : length security ≡ securitySize
+  pub enough : showLength s ≤ length sent
+  pub even : length marks ≡ length reply
+  pub few : length reply ≤ 65536
