@@ -1,2 +1,3 @@
 -- Laws that the proofs cite.
 pub mod Replies
+pub mod Events

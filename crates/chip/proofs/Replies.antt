@@ -1,6 +1,6 @@
 -- Replies: from what the loops leave to what the rules show. Assumes nothing.
 use Prim.Native.Nat.{ℕ, _+_, _-_, _*_, _/_, _%_, _^_, _≤_, _<_}
-use mathlib.Core.Path.{_≡_, refl, sym, ap, _∙_, subst}
+use mathlib.Core.Path.{_≡_, refl, sym, ap, _∙_, subst, fun-ext}
 use mathlib.Core.Bool.{Bool, true}
 use mathlib.Core.List.{List, [], _∷_}
 use native.Mathlib.Omega.{arith}
@@ -26,6 +26,7 @@ use Rattle.rules.proofs.WellFormed.{well-of}
 use Rattle.rules.proofs.Promises.{lent-written}
 use Rattle.memory.specs.Patched.{Patched}
 use Rattle.reading.specs.Upto.{Upto, Pages, cellFrom}
+use Rattle.judging.specs.ByKind.{showLength, lookedAt}
 use Rattle.chip.specs.declared.Showing.{Showing}
 use Rattle.chip.specs.Showing.{showing, cellOf, Replied}
 
@@ -105,11 +106,12 @@ module _ (s : Source) (c : Chip) (array security sent y m y′ m′ : List ℕ) 
       by-source Source.Array e
       record {
         bytes = upto-written y′ (length y) _
-          (subst (λ (r : Range). Upto y′ (length y) (length y) (λ i. cellFrom (c .protection) r array (address sent) i .byte)) er
-          (subst (λ (at : ℕ). Upto y′ (length y) (length y) (λ i. cellFrom (c .protection) r array at i .byte)) ea h));
+            (subst (λ (r : Range). Upto y′ (length y) (length y) (λ i. cellFrom (c .protection) r array (address sent) i .byte)) er
+            (subst (λ (at : ℕ). Upto y′ (length y) (length y) (λ i. cellFrom (c .protection) r array at i .byte)) ea h));
         known = upto-written m′ (length m) _
-          (subst (λ (r : Range). Upto m′ (length m) (length m) (λ i. cellFrom (c .protection) r array (address sent) i .mark)) er
-          (subst (λ (at : ℕ). Upto m′ (length m) (length m) (λ i. cellFrom (c .protection) r array at i .mark)) ea k)) }
+            (subst (λ (r : Range). Upto m′ (length m) (length m) (λ i. cellFrom (c .protection) r array (address sent) i .mark)) er
+            (subst (λ (at : ℕ). Upto m′ (length m) (length m) (λ i. cellFrom (c .protection) r array at i .mark)) ea k));
+      }
 
 -- ---- each kind
 
@@ -128,3 +130,42 @@ kind-cell Kind.LockDown c array security sent i = refl
 kind-cell Kind.ClearLocks c array security sent i = refl
 kind-cell Kind.Suspend c array security sent i = refl
 kind-cell Kind.Resume c array security sent i = refl
+
+showNeeds : Showing → ℕ
+showNeeds Showing.Silence = 0
+showNeeds (Showing.Shows s) = showLength s
+
+needs-least : (k : Kind) → showNeeds (showing k) ≤ lookedAt k
+unfolding showNeeds
+needs-least Kind.Nothing = omega arith
+needs-least Kind.EnableReset = omega arith
+needs-least Kind.Reset = omega arith
+needs-least Kind.ToSqi = omega arith
+needs-least Kind.ToSpi = omega arith
+needs-least (Kind.Show s) = omega arith
+needs-least Kind.SetWel = omega arith
+needs-least Kind.ClearWel = omega arith
+needs-least (Kind.Begin l) = omega arith
+needs-least Kind.WriteProtection = omega arith
+needs-least Kind.LockDown = omega arith
+needs-least Kind.ClearLocks = omega arith
+needs-least Kind.Suspend = omega arith
+needs-least Kind.Resume = omega arith
+
+-- a source that a kind shows has its bytes
+pub shown-enough : (k : Kind) (w : Showing) (s : Source) (n : ℕ) → w ≡ showing k → w ≡ Showing.Shows s → lookedAt k ≤ n → showLength s ≤ n
+unfolding showNeeds
+shown-enough k w s n e f h =
+    let l = needs-least k in
+    let q : showNeeds (showing k) ≡ showLength s = ap showNeeds (sym e ∙ f) in
+    omega arith
+
+-- the cells of what is shown are the cells of the kind's reply
+pub replied-kind : (k : Kind) (w v : Showing) (c : Chip) (array security : Lent) (sent y m y′ m′ : List ℕ) → w ≡ showing k → w ≡ v
+    → Replied y m y′ m′ (λ i. cellOf v c array security sent i) → Replied y m y′ m′ (λ i. reply k c array security sent i)
+replied-kind k w v c array security sent y m y′ m′ e f h =
+    let g : v ≡ showing k = sym f ∙ e in
+    let q : Replied y m y′ m′ (λ i. cellOf (showing k) c array security sent i) = subst (λ (v : Showing). Replied y m y′ m′ (λ i. cellOf v c array security sent i)) g h in
+    record {
+      bytes = q .bytes ∙ ap (λ (f : ℕ → ℕ). written (length y) f) (fun-ext (λ i. ap (λ (x : Cell). x .byte) (kind-cell k c array security sent i)));
+      known = q .known ∙ ap (λ (f : ℕ → ℕ). written (length m) f) (fun-ext (λ i. ap (λ (x : Cell). x .mark) (kind-cell k c array security sent i))) }

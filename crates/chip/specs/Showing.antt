@@ -1,5 +1,5 @@
 -- What a kind of frame shows: nothing, or a source.
-use Prim.Native.Nat.{ℕ, _≤_}
+use Prim.Native.Nat.{ℕ, _≤_, _<_}
 use mathlib.Core.Path.{_≡_}
 use mathlib.Core.Bool.{Bool, true}
 use mathlib.Core.List.{List}
@@ -12,7 +12,9 @@ use Rattle.rules.specs.Words.{Lent, lent, written}
 use Rattle.rules.specs.Blocks.{arraySize, securitySize}
 use Rattle.rules.specs.Reading.{silent, shown}
 use Rattle.rules.specs.WellFormed.{wellFormed}
-use Rattle.judging.specs.ByKind.{showLength}
+use Rattle.rules.specs.Numbers.{stateRight, frameRight}
+use Rattle.rules.specs.Promises.{state, carried}
+use Rattle.judging.specs.ByKind.{showLength, lookedAt}
 use Rattle.chip.specs.declared.Showing.{Showing}
 
 abbrev pub showing : Kind → Showing
@@ -49,3 +51,18 @@ pub record Showable (s : Source) (c : Chip) (array security sent reply marks : L
   pub enough : showLength s ≤ length sent
   pub even : length marks ≡ length reply
   pub few : length reply ≤ 65536
+
+-- what the reply to a kind of frame is asked
+pub record Respondable (k : Kind) (c : Chip) (array security sent reply marks : List ℕ) : Type 0 where
+  pub well : wellFormed c ≡ true
+  pub whole : length array ≡ arraySize
+  pub secure : length security ≡ securitySize
+  pub enough : lookedAt k ≤ length sent
+  pub even : length marks ≡ length reply
+  pub few : length reply ≤ 65536
+
+-- a frame that is neither malformed nor empty
+pub record Commandable (c : Chip) (array security sent reply marks : List ℕ) : Type 0 where
+  pub right : stateRight (state c array security) ≡ true
+  pub fits : frameRight (carried sent reply marks) ≡ true
+  pub some : 0 < length sent

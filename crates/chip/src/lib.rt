@@ -16,7 +16,7 @@ ghost use Rattle.rules.specs.Reading.{silent, shown};
 ghost use Rattle.rules.specs.Commands.{newChip};
 ghost use Rattle.rules.specs.WellFormed.{wellFormed};
 ghost use Rattle.rules.specs.Promises.{FramePromise, CompletionPromise, CutPromise};
-ghost use Rattle.chip.specs.Showing.{showing, cellOf, Replied, Showable};
+ghost use Rattle.chip.specs.Showing.{showing, cellOf, Replied, Showable, Respondable, Commandable};
 
 // What a frame replies: nothing, or bytes of a source.
 pub enum Showing {
@@ -97,5 +97,153 @@ fn show(
             reading::read_security(security, at, reply);
             mark_all(marks);
         }
+    }
+}
+
+// The reply of a done frame of kind k.
+fn respond(
+    k: Kind,
+    c: Chip,
+    array: &[u8],
+    security: &[u8],
+    sent: &[u8],
+    reply: &mut [u8],
+    marks: &mut [u8],
+)
+    requires { ⌜ Respondable k c (now array) (now security) (now sent) (now reply) (now marks) ⌝ }
+    ensures { λ _. ⌜ Replied (now (reply .entry)) (now (marks .entry)) (now (reply .exit)) (now (marks .exit)) (λ i. Rattle.rules.specs.Reading.reply k c (lent (now (array .entry))) (lent (now (security .entry))) (now (sent .entry)) i) ⌝ }
+{
+    let what = showing_of(k);
+    match what {
+        Showing::Silence => fill_both(reply, marks, 255, 0),
+        Showing::Shows(s) => show(s, c, array, security, sent, reply, marks),
+    }
+}
+
+// The record is well-formed and the two memories have their sizes.
+fn state_right(c: Chip, array_len: usize, security_len: usize) -> bool
+    ensures { λ r. ⌜ r ≡ (wellFormed c && eqb «array_len» arraySize && eqb «security_len» securitySize) ⌝ }
+{
+    records::well_formed(c) & (array_len == 2097152) & (security_len == 2048)
+}
+
+fn frame_right(sent_len: usize, reply_len: usize, marks_len: usize) -> bool
+    ensures { λ r. ⌜ r ≡ (leb «sent_len» 65536 && leb «reply_len» 65536 && eqb «reply_len» «marks_len») ⌝ }
+{
+    (sent_len <= 65536) & (reply_len <= 65536) & (reply_len == marks_len)
+}
+
+// A new chip.
+pub fn new() -> Chip
+    ensures { λ r. ⌜ r ≡ newChip ⌝ }
+{
+    acting::new_chip()
+}
+
+// A frame that is neither empty nor malformed.
+fn command(
+    c: Chip,
+    array: &[u8],
+    security: &[u8],
+    sent: &[u8],
+    reply: &mut [u8],
+    marks: &mut [u8],
+) -> After
+    requires { ⌜ Commandable c (now array) (now security) (now sent) (now reply) (now marks) ⌝ }
+    ensures { λ r. ⌜ FramePromise c (now (array .entry)) (now (security .entry)) (now (sent .entry)) (now (reply .entry)) (now (marks .entry)) r (now (array .entry)) (now (security .entry)) (now (reply .exit)) (now (marks .exit)) ⌝ }
+{
+    let op = sent[0];
+    let form = opcodes::form_of(op);
+    let answer = judging::judge(c, op, form, sent);
+    match answer {
+        Answer::Done => {
+            let kind = form.kind;
+            respond(kind, c, array, security, sent, reply, marks);
+            After {
+                answer: Answer::Done,
+                chip: acting::acted(kind, sent, c),
+            }
+        }
+        Answer::Refused(why) => {
+            fill_both(reply, marks, 255, 0);
+            After {
+                answer: Answer::Refused(why),
+                chip: acting::used(c),
+            }
+        }
+    }
+}
+
+// A frame: the bytes sent while CE# is low, and the two reply buffers.
+pub fn frame(
+    c: Chip,
+    array: &mut [u8],
+    security: &mut [u8],
+    sent: &[u8],
+    reply: &mut [u8],
+    marks: &mut [u8],
+) -> After
+    ensures { λ r. ⌜ FramePromise c (now (array .entry)) (now (security .entry)) (now (sent .entry)) (now (reply .entry)) (now (marks .entry)) r (now (array .exit)) (now (security .exit)) (now (reply .exit)) (now (marks .exit)) ⌝ }
+{
+    let known = state_right(c, array.len(), security.len());
+    let fits = frame_right(sent.len(), reply.len(), marks.len());
+    if !(known & fits) {
+        return After {
+            answer: Answer::Refused(Refusal::Malformed),
+            chip: c,
+        };
+    }
+    if sent.len() == 0 {
+        fill_both(reply, marks, 255, 0);
+        return After {
+            answer: Answer::Refused(Refusal::Empty),
+            chip: c,
+        };
+    }
+    command(c, array, security, sent, reply, marks)
+}
+
+// The running operation ends.
+pub fn completion(c: Chip, array: &mut [u8], security: &mut [u8]) -> After
+    ensures { λ r. ⌜ CompletionPromise c (now (array .entry)) (now (security .entry)) r (now (array .exit)) (now (security .exit)) ⌝ }
+{
+    if !state_right(c, array.len(), security.len()) {
+        return After {
+            answer: Answer::Refused(Refusal::Malformed),
+            chip: c,
+        };
+    }
+    let run = c.running;
+    if records::is_nothing(run) {
+        return After {
+            answer: Answer::Refused(Refusal::NothingRuns),
+            chip: c,
+        };
+    }
+    finishing::finish_array(run, &c.buffer, 2097152, array);
+    finishing::finish_security(run, &c.buffer, 2097152, security);
+    After {
+        answer: Answer::Done,
+        chip: acting::completed(c),
+    }
+}
+
+// A power cut after k bytes of the running operation.
+pub fn power_cut(c: Chip, array: &mut [u8], security: &mut [u8], k: u64) -> After
+    ensures { λ r. ⌜ CutPromise c (now (array .entry)) (now (security .entry)) k r (now (array .exit)) (now (security .exit)) ⌝ }
+{
+    if !state_right(c, array.len(), security.len()) {
+        return After {
+            answer: Answer::Refused(Refusal::Malformed),
+            chip: c,
+        };
+    }
+    let run = c.running;
+    let n = k as usize;
+    finishing::finish_array(run, &c.buffer, n, array);
+    finishing::finish_security(run, &c.buffer, n, security);
+    After {
+        answer: Answer::Done,
+        chip: acting::cut(c, 0 < k),
     }
 }

@@ -31,7 +31,7 @@ rising-at n (t ∷ ts) d e (suc k) h =
     let b = rising-at (t .number) ts d (s .1) k (omega arith) in
     omega arith
 
-first-above : (n : ℕ) (ts : List Test) → rising n ts ≡ true → (first ts ≡ 0) ⊎ (n < first ts)
+pub first-above : (n : ℕ) (ts : List Test) → rising n ts ≡ true → (first ts ≡ 0) ⊎ (n < first ts)
 first-above n [] e = inl refl
 first-above n (t ∷ ts) e = go (t .applies) (first-above (t .number) ts (s .1))
   where
