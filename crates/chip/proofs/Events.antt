@@ -105,11 +105,13 @@ module _ (c : Chip) (array security sent y m : List ℕ) where
       some Refusal.Closed = omega arith
       some Refusal.WriteLocked = omega arith
       some Refusal.NothingRuns = omega arith
+
       three : (x : ℕ) → 2 < x → (n : ℕ) × (x ≡ suc (suc (suc n)))
       three zero l = absurd (omega arith)
       three (suc zero) l = absurd (omega arith)
       three (suc (suc zero)) l = absurd (omega arith)
       three (suc (suc (suc n))) l = (n, refl)
+
       above : (x : ℕ) → 0 < x → (first (commandTests c sent) ≡ 0) ⊎ (2 < first (commandTests c sent)) → x ≡ first (commandTests c sent) → (n : ℕ) × (x ≡ suc (suc (suc n)))
       above x pos alt q = ⊎-elim (λ z. absurd (omega arith)) (λ l. three x (omega arith)) alt
 
@@ -124,8 +126,8 @@ module _ (c : Chip) (array security sent y m : List ℕ) where
       → came (record { answer = Answer.Done; chip = d }) array security y′ m′ ≡ frame at with
   frame-done k d y′ m′ h e ek ed r =
       outcome-ext refl (ed ∙ ap (λ (k : Kind). act k sent (withEnable false c)) ek) refl refl
-        (r .bytes ∙ ap (λ (k : Kind). written (length y) (λ i. reply k c (lent array) (lent security) sent i .byte)) ek)
-        (r .known ∙ ap (λ (k : Kind). written (length m) (λ i. reply k c (lent array) (lent security) sent i .mark)) ek)
+      (r .bytes ∙ ap (λ (k : Kind). written (length y) (λ i. reply k c (lent array) (lent security) sent i .byte)) ek)
+      (r .known ∙ ap (λ (k : Kind). written (length m) (λ i. reply k c (lent array) (lent security) sent i .mark)) ek)
       ∙ sym (frame-done-whole at with (command-decides h ∙ sym e))
 
 -- ---- a completion and a power cut

@@ -168,4 +168,5 @@ replied-kind k w v c array security sent y m y′ m′ e f h =
     let q : Replied y m y′ m′ (λ i. cellOf (showing k) c array security sent i) = subst (λ (v : Showing). Replied y m y′ m′ (λ i. cellOf v c array security sent i)) g h in
     record {
       bytes = q .bytes ∙ ap (λ (f : ℕ → ℕ). written (length y) f) (fun-ext (λ i. ap (λ (x : Cell). x .byte) (kind-cell k c array security sent i)));
-      known = q .known ∙ ap (λ (f : ℕ → ℕ). written (length m) f) (fun-ext (λ i. ap (λ (x : Cell). x .mark) (kind-cell k c array security sent i))) }
+      known = q .known ∙ ap (λ (f : ℕ → ℕ). written (length m) f) (fun-ext (λ i. ap (λ (x : Cell). x .mark) (kind-cell k c array security sent i)));
+    }

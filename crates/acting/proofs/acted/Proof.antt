@@ -1,6 +1,6 @@
 -- Each kind has its effect. Assumes nothing.
 use Prim.Native.Nat.{ℕ}
-use mathlib.Core.Path.{_≡_, refl, sym, ap, _∙_}
+use mathlib.Core.Path.{sym, ap, _∙_}
 use mathlib.Core.Bool.{false}
 use lib.Bits.{bitAnd, bitOr}
 use Rattle.rules.specs.declared.Kind.{Kind}
@@ -8,193 +8,136 @@ use Rattle.rules.specs.Blocks.{allLocks}
 use Rattle.rules.specs.Fields.{withWel, withProtection, withEnable}
 use Rattle.rules.specs.Commands.{act}
 use Rattle.judging.proofs.Judged.{kind-length}
-use native.Mathlib.Omega.{arith}
 use borrow.Author.Needs.{needs}
 use Rattle.acting.proofs.acted.Statement.{statement}
 use Rattle.acting.proofs.acted.Tie as tie
-use Rattle.acting.proofs.acted.Reads as reads
-use Rattle.acting.proofs.acted.Lts as lts
-use Rattle.acting.proofs.enabled.Reads as enabled-reads
-use Rattle.acting.proofs.locked_down.Reads as locked-down-reads
-use Rattle.acting.proofs.reset.Reads as reset-reads
-use Rattle.acting.proofs.resume.Reads as resume-reads
-use Rattle.acting.proofs.six_of.Reads as six-of-reads
-use Rattle.acting.proofs.start.Reads as start-reads
-use Rattle.acting.proofs.suspend.Reads as suspend-reads
-use Rattle.acting.proofs.used.Reads as used-reads
-use Rattle.acting.proofs.with_locks.Reads as with-locks-reads
-use Rattle.acting.proofs.with_protocol.Reads as with-protocol-reads
-use Rattle.acting.proofs.with_wel.Reads as with-wel-reads
 
--- src/lib.rt:283:26
 enum-told : tie.Need-enum-told
 enum-told c = search needs
 
--- src/lib.rt:283:26
 used-requires : tie.Need-used-requires
 used-requires c κs = search needs
 
--- src/lib.rt:284:30
 enum-told-2 : tie.Need-enum-told-2
 enum-told-2 c = search needs
 
--- src/lib.rt:284:30
 enabled-requires : tie.Need-enabled-requires
 enabled-requires c κs = search needs
 
--- src/lib.rt:285:24
 enum-told-3 : tie.Need-enum-told-3
 enum-told-3 c = search needs
 
--- src/lib.rt:285:24
 reset-requires : tie.Need-reset-requires
 reset-requires c κs = search needs
 
--- src/lib.rt:286:24
 enum-told-4 : tie.Need-enum-told-4
 enum-told-4 c = search needs
 
--- src/lib.rt:286:24
 with-protocol-requires : tie.Need-with-protocol-requires
 with-protocol-requires c κs = search needs
 
--- src/lib.rt:287:24
 enum-told-5 : tie.Need-enum-told-5
 enum-told-5 c = search needs
 
--- src/lib.rt:287:24
 with-protocol-requires-2 : tie.Need-with-protocol-requires-2
 with-protocol-requires-2 c κs = search needs
 
--- src/lib.rt:288:26
 enum-told-6 : tie.Need-enum-told-6
 enum-told-6 c = search needs
 
--- src/lib.rt:288:26
 used-requires-2 : tie.Need-used-requires-2
 used-requires-2 c κs = search needs
 
--- src/lib.rt:289:25
 enum-told-7 : tie.Need-enum-told-7
 enum-told-7 c = search needs
 
--- src/lib.rt:289:25
 with-wel-requires : tie.Need-with-wel-requires
 with-wel-requires c κs = search needs
 
--- src/lib.rt:290:27
 enum-told-8 : tie.Need-enum-told-8
 enum-told-8 c = search needs
 
--- src/lib.rt:290:27
 with-wel-requires-2 : tie.Need-with-wel-requires-2
 with-wel-requires-2 c κs = search needs
 
--- src/lib.rt:291:21
 enum-known-kind : tie.Need-enum-known-kind
 enum-known-kind c = search needs
 
--- src/lib.rt:291:27
 start-requires : tie.Need-start-requires
 start-requires c κs = (kind-length _ _ (c .before .before .before .before .args .sent .now) (c .before .kind .given .1) (c .before .before .before .before .pre .0), c .before .before .before .before .pre .1)
 
--- src/lib.rt:293:17
 enum-told-9 : tie.Need-enum-told-9
 enum-told-9 c = search needs
 
--- src/lib.rt:293:17
 six-of-requires : tie.Need-six-of-requires
 six-of-requires c κs = kind-length _ _ (c .before .before .before .args .sent .now) (c .enum-told9 .given .1) (c .before .before .before .pre .0)
 
--- src/lib.rt:294:13
 with-locks-requires : tie.Need-with-locks-requires
 with-locks-requires c κs = search needs
 
--- src/lib.rt:296:27
 enum-told-10 : tie.Need-enum-told-10
 enum-told-10 c = search needs
 
--- src/lib.rt:296:27
 locked-down-requires : tie.Need-locked-down-requires
 locked-down-requires c κs = search needs
 
--- src/lib.rt:297:44
 enum-told-11 : tie.Need-enum-told-11
 enum-told-11 c = search needs
 
--- src/lib.rt:297:29
 with-locks-requires-2 : tie.Need-with-locks-requires-2
 with-locks-requires-2 c κs = search needs
 
--- src/lib.rt:298:26
 enum-told-12 : tie.Need-enum-told-12
 enum-told-12 c = search needs
 
--- src/lib.rt:298:26
 suspend-requires : tie.Need-suspend-requires
 suspend-requires c κs = search needs
 
--- src/lib.rt:299:25
 enum-told-13 : tie.Need-enum-told-13
 enum-told-13 c = search needs
 
--- src/lib.rt:299:25
 resume-requires : tie.Need-resume-requires
 resume-requires c κs = search needs
 
--- src/lib.rt:278:1
 returns : tie.Need-returns
 returns c = c .used .ensures ∙ ap (λ (k : Kind). act k (c .before .before .before .before .args .sent .now) (withEnable false (c .before .before .before .before .args .c))) (sym (c .before .enum-told .given .1))
 
--- src/lib.rt:278:1
 returns-2 : tie.Need-returns-2
 returns-2 c = c .enabled .ensures ∙ ap (λ (k : Kind). act k (c .before .before .before .before .args .sent .now) (withEnable false (c .before .before .before .before .args .c))) (sym (c .before .enum-told2 .given .1))
 
--- src/lib.rt:278:1
 returns-3 : tie.Need-returns-3
 returns-3 c = c .reset .ensures ∙ ap (λ (k : Kind). act k (c .before .before .before .before .args .sent .now) (withEnable false (c .before .before .before .before .args .c))) (sym (c .before .enum-told3 .given .1))
 
--- src/lib.rt:278:1
 returns-4 : tie.Need-returns-4
 returns-4 c = c .with-protocol .ensures ∙ ap (λ (k : Kind). act k (c .before .before .before .before .args .sent .now) (withEnable false (c .before .before .before .before .args .c))) (sym (c .before .enum-told4 .given .1))
 
--- src/lib.rt:278:1
 returns-5 : tie.Need-returns-5
 returns-5 c = c .with-protocol2 .ensures ∙ ap (λ (k : Kind). act k (c .before .before .before .before .args .sent .now) (withEnable false (c .before .before .before .before .args .c))) (sym (c .before .enum-told5 .given .1))
 
--- src/lib.rt:278:1
 returns-6 : tie.Need-returns-6
 returns-6 c = c .used2 .ensures ∙ ap (λ (k : Kind). act k (c .before .before .before .before .args .sent .now) (withEnable false (c .before .before .before .before .args .c))) (sym (c .before .enum-told6 .given .1))
 
--- src/lib.rt:278:1
 returns-7 : tie.Need-returns-7
 returns-7 c = c .with-wel .ensures ∙ ap (λ (k : Kind). act k (c .before .before .before .before .args .sent .now) (withEnable false (c .before .before .before .before .args .c))) (sym (c .before .enum-told7 .given .1))
 
--- src/lib.rt:278:1
 returns-8 : tie.Need-returns-8
 returns-8 c = c .with-wel2 .ensures ∙ ap (λ (k : Kind). act k (c .before .before .before .before .args .sent .now) (withEnable false (c .before .before .before .before .args .c))) (sym (c .before .enum-told8 .given .1))
 
--- src/lib.rt:278:1
 returns-9 : tie.Need-returns-9
 returns-9 c = c .start .ensures ∙ ap (λ (k : Kind). act k (c .before .before .before .before .before .args .sent .now) (withEnable false (c .before .before .before .before .before .args .c))) (sym (c .before .before .kind .given .1))
 
--- src/lib.rt:278:1
 returns-10 : tie.Need-returns-10
 returns-10 c = c .with-locks .ensures ∙ ap (λ (v : ℕ). withWel false (withProtection (bitOr (bitAnd v allLocks) (c .before .before .before .before .before .before .args .c .permanent)) (withEnable false (c .before .before .before .before .before .before .args .c)))) (c .before .before .six-of .ensures) ∙ ap (λ (k : Kind). act k (c .before .before .before .before .before .before .args .sent .now) (withEnable false (c .before .before .before .before .before .before .args .c))) (sym (c .before .before .before .enum-told9 .given .1))
 
--- src/lib.rt:278:1
 returns-11 : tie.Need-returns-11
 returns-11 c = c .locked-down .ensures ∙ ap (λ (k : Kind). act k (c .before .before .before .before .args .sent .now) (withEnable false (c .before .before .before .before .args .c))) (sym (c .before .enum-told10 .given .1))
 
--- src/lib.rt:278:1
 returns-12 : tie.Need-returns-12
 returns-12 c = c .with-locks2 .ensures ∙ ap (λ (k : Kind). act k (c .before .before .before .before .before .before .args .sent .now) (withEnable false (c .before .before .before .before .before .before .args .c))) (sym (c .before .before .before .enum-told11 .given .1))
 
--- src/lib.rt:278:1
 returns-13 : tie.Need-returns-13
 returns-13 c = c .suspend .ensures ∙ ap (λ (k : Kind). act k (c .before .before .before .before .args .sent .now) (withEnable false (c .before .before .before .before .args .c))) (sym (c .before .enum-told12 .given .1))
 
--- src/lib.rt:278:1
 returns-14 : tie.Need-returns-14
 returns-14 c = c .resume .ensures ∙ ap (λ (k : Kind). act k (c .before .before .before .before .args .sent .now) (withEnable false (c .before .before .before .before .args .c))) (sym (c .before .enum-told13 .given .1))
 

@@ -1,26 +1,19 @@
 -- Three flags at their bits. Assumes nothing.
 use lib.Dec.{eqb}
 use Rattle.acting.proofs.Flags.{configuration-byte}
-use native.Mathlib.Omega.{arith}
 use borrow.Author.Needs.{needs}
 use Rattle.acting.proofs.configuration_of.Statement.{statement}
 use Rattle.acting.proofs.configuration_of.Tie as tie
-use Rattle.acting.proofs.configuration_of.Reads as reads
-use Rattle.acting.proofs.configuration_of.Lts as lts
 
--- src/lib.rt:44:7
 cast-result : tie.Need-cast-result
 cast-result c = search needs
 
--- src/lib.rt:44:30
 cast-result-2 : tie.Need-cast-result-2
 cast-result-2 c = search needs
 
--- src/lib.rt:44:52
 cast-result-3 : tie.Need-cast-result-3
 cast-result-3 c = search needs
 
--- src/lib.rt:40:1
 returns : tie.Need-returns
 returns c = let a = c .before .before .before .args .c in configuration-byte (a .ioc) (eqb (a .permanent) 0) (a .wpen)
 

@@ -1,36 +1,25 @@
 -- What outlives the cut is taken from the settled record, or from the record as it was. Assumes nothing.
-use mathlib.Core.Path.{_≡_, refl, sym, ap, _∙_}
+use mathlib.Core.Path.{sym, ap, _∙_}
 use mathlib.Core.Bool.{Bool}
-use Rattle.rules.specs.declared.Chip.{Chip}
 use Rattle.rules.specs.Words.{pick}
 use Rattle.rules.specs.Commands.{settled, afterCut}
-use native.Mathlib.Omega.{arith}
 use borrow.Author.Needs.{needs}
 use Rattle.acting.proofs.cut.Statement.{statement}
 use Rattle.acting.proofs.cut.Tie as tie
-use Rattle.acting.proofs.cut.Reads as reads
-use Rattle.acting.proofs.cut.Lts as lts
-use Rattle.acting.proofs.powered_up.Reads as powered-up-reads
-use Rattle.acting.proofs.settle.Reads as settle-reads
 
--- src/lib.rt:375:13
 settle-requires : tie.Need-settle-requires
 settle-requires c κs = search needs
 
--- src/lib.rt:376:9
 powered-up-requires : tie.Need-powered-up-requires
 powered-up-requires c κs = search needs
 
--- src/lib.rt:376:9
 returns : tie.Need-returns
 returns c = let a = c .before .before .before .args .c in
     c .powered-up .ensures ∙ ap afterCut (c .before .settle .ensures) ∙ ap (λ (b : Bool). afterCut (pick b (settled (a .running) a) a)) (sym (c .before .before .if1 .taken))
 
--- src/lib.rt:378:5
 powered-up-requires-2 : tie.Need-powered-up-requires-2
 powered-up-requires-2 c κs = search needs
 
--- src/lib.rt:371:1
 returns-2 : tie.Need-returns-2
 returns-2 c = let a = c .before .before .args .c in
     c .powered-up2 .ensures ∙ ap (λ (b : Bool). afterCut (pick b (settled (a .running) a) a)) (sym (c .before .if1 .left))

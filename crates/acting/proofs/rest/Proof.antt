@@ -1,23 +1,16 @@
 -- The buffer stays exactly where a program is suspended. Assumes nothing.
 use Rattle.rules.specs.Programs.{blank}
 use Rattle.acting.proofs.Acts.{rest-kept, rest-blank}
-use native.Mathlib.Omega.{arith}
 use borrow.Author.Needs.{needs}
 use Rattle.acting.proofs.rest.Statement.{statement}
 use Rattle.acting.proofs.rest.Tie as tie
-use Rattle.acting.proofs.rest.Reads as reads
-use Rattle.acting.proofs.rest.Lts as lts
-use Rattle.records.proofs.is_program.Reads as is-program-reads
 
--- src/lib.rt:342:19
 is-program-requires : tie.Need-is-program-requires
 is-program-requires c κs = search needs
 
--- src/lib.rt:337:1
 returns : tie.Need-returns
 returns c = rest-kept (c .before .before .before .args .c) _ (c .before .is-program .ensures) (c .if1 .taken)
 
--- src/lib.rt:337:1
 returns-2 : tie.Need-returns-2
 unfolding blank
 returns-2 c = rest-blank (c .before .before .before .args .c) _ (c .before .is-program .ensures) (c .if1 .left)

@@ -1,83 +1,62 @@
 -- Only 85, 01 and E8 set registers. Assumes nothing.
-use mathlib.Core.Path.{_≡_, refl, sym, ap}
+use mathlib.Core.Path.{sym, ap}
 use Rattle.rules.specs.declared.Work.{Work}
 use Rattle.rules.specs.Commands.{settled}
-use native.Mathlib.Omega.{arith}
 use borrow.Author.Needs.{needs}
 use Rattle.acting.proofs.settle.Statement.{statement}
 use Rattle.acting.proofs.settle.Tie as tie
-use Rattle.acting.proofs.settle.Reads as reads
-use Rattle.acting.proofs.settle.Lts as lts
 
--- src/lib.rt:309:26
 enum-told : tie.Need-enum-told
 enum-told c = search needs
 
--- src/lib.rt:310:33
 enum-told-2 : tie.Need-enum-told-2
 enum-told-2 c = search needs
 
--- src/lib.rt:311:32
 enum-told-3 : tie.Need-enum-told-3
 enum-told-3 c = search needs
 
--- src/lib.rt:312:29
 enum-told-4 : tie.Need-enum-told-4
 enum-told-4 c = search needs
 
--- src/lib.rt:313:33
 enum-told-5 : tie.Need-enum-told-5
 enum-told-5 c = search needs
 
--- src/lib.rt:314:37
 enum-told-6 : tie.Need-enum-told-6
 enum-told-6 c = search needs
 
--- src/lib.rt:316:17
 enum-told-7 : tie.Need-enum-told-7
 enum-told-7 c = search needs
 
--- src/lib.rt:320:34
 enum-known-run : tie.Need-enum-known-run
 enum-known-run c = search needs
 
--- src/lib.rt:326:28
 enum-known-run-2 : tie.Need-enum-known-run-2
 enum-known-run-2 c = search needs
 
--- src/lib.rt:304:1
 returns : tie.Need-returns
 returns c = search needs
 
--- src/lib.rt:304:1
 returns-2 : tie.Need-returns-2
 returns-2 c = search needs
 
--- src/lib.rt:304:1
 returns-3 : tie.Need-returns-3
 returns-3 c = search needs
 
--- src/lib.rt:304:1
 returns-4 : tie.Need-returns-4
 returns-4 c = search needs
 
--- src/lib.rt:304:1
 returns-5 : tie.Need-returns-5
 returns-5 c = search needs
 
--- src/lib.rt:304:1
 returns-6 : tie.Need-returns-6
 returns-6 c = search needs
 
--- src/lib.rt:304:1
 returns-7 : tie.Need-returns-7
 returns-7 c = ap (λ (w : Work). settled w (c .before .before .args .c)) (sym (c .enum-told7 .given .1))
 
--- src/lib.rt:304:1
 returns-8 : tie.Need-returns-8
 returns-8 c = ap (λ (w : Work). settled w (c .before .before .before .args .c)) (sym (c .before .run .given .1))
 
--- src/lib.rt:304:1
 returns-9 : tie.Need-returns-9
 returns-9 c = ap (λ (w : Work). settled w (c .before .before .before .before .before .args .c)) (sym (c .before .before .before .run2 .given .1))
 

@@ -1,5 +1,5 @@
 -- Each long command's work, from its address and its bytes. Assumes nothing.
-use mathlib.Core.Path.{_≡_, refl, sym, ap, _∙_}
+use mathlib.Core.Path.{sym, ap, _∙_}
 use Rattle.rules.specs.declared.Long.{Long}
 use Rattle.judging.proofs.Judged.{long-length}
 use Rattle.acting.proofs.Acts.{Started, sector-starts, block-starts, page-starts, security-starts, configuration-starts, permanent-starts}
@@ -7,159 +7,112 @@ use native.Mathlib.Omega.{arith}
 use borrow.Author.Needs.{needs}
 use Rattle.acting.proofs.start.Statement.{statement}
 use Rattle.acting.proofs.start.Tie as tie
-use Rattle.acting.proofs.start.Reads as reads
-use Rattle.acting.proofs.start.Lts as lts
-use Rattle.acting.proofs.begin.Reads as begin-reads
-use Rattle.acting.proofs.begin_with.Reads as begin-with-reads
-use Rattle.acting.proofs.six_of.Reads as six-of-reads
-use Rattle.acting.proofs.wide64.Reads as wide64-reads
-use Rattle.blocks.proofs.bit_at.Reads as bit-at-reads
-use Rattle.blocks.proofs.block_of.Reads as block-of-reads
-use Rattle.judging.proofs.address_of.Reads as address-of-reads
-use Rattle.judging.proofs.security_address_of.Reads as security-address-of-reads
-use Rattle.memory.proofs.page_buffer.Reads as page-buffer-reads
 
--- src/lib.rt:199:17
 enum-told : tie.Need-enum-told
 enum-told c = search needs
 
--- src/lib.rt:199:17
 address-of-requires : tie.Need-address-of-requires
 address-of-requires c κs = long-length _ _ (c .before .before .before .args .sent .now) (c .enum-told .given .1) (c .before .before .before .pre .0)
 
--- src/lib.rt:200:13
 begin-requires : tie.Need-begin-requires
 begin-requires c κs = search needs
 
--- src/lib.rt:203:17
 enum-told-2 : tie.Need-enum-told-2
 enum-told-2 c = search needs
 
--- src/lib.rt:203:17
 address-of-requires-2 : tie.Need-address-of-requires-2
 address-of-requires-2 c κs = long-length _ _ (c .before .before .before .args .sent .now) (c .enum-told2 .given .1) (c .before .before .before .pre .0)
 
--- src/lib.rt:204:39
 block-of-requires : tie.Need-block-of-requires
 block-of-requires c κs = search needs
 
--- src/lib.rt:204:13
 begin-requires-2 : tie.Need-begin-requires-2
 begin-requires-2 c κs = search needs
 
--- src/lib.rt:206:33
 enum-told-3 : tie.Need-enum-told-3
 enum-told-3 c = search needs
 
--- src/lib.rt:206:24
 begin-requires-3 : tie.Need-begin-requires-3
 begin-requires-3 c κs = search needs
 
--- src/lib.rt:208:17
 enum-told-4 : tie.Need-enum-told-4
 enum-told-4 c = search needs
 
--- src/lib.rt:208:17
 address-of-requires-3 : tie.Need-address-of-requires-3
 address-of-requires-3 c κs = long-length _ _ (c .before .before .before .args .sent .now) (c .enum-told4 .given .1) (c .before .before .before .pre .0)
 
--- src/lib.rt:209:17
 page-buffer-requires : tie.Need-page-buffer-requires
 page-buffer-requires c κs = (omega arith, (long-length _ _ (c .before .before .before .before .args .sent .now) (c .before .enum-told4 .given .1) (c .before .before .before .before .pre .0), c .before .before .before .before .pre .1))
 
--- src/lib.rt:210:13
 begin-with-requires : tie.Need-begin-with-requires
 begin-with-requires c κs = search needs
 
--- src/lib.rt:213:17
 enum-told-5 : tie.Need-enum-told-5
 enum-told-5 c = search needs
 
--- src/lib.rt:213:17
 security-address-of-requires : tie.Need-security-address-of-requires
 security-address-of-requires c κs = let h = long-length _ _ (c .before .before .before .args .sent .now) (c .enum-told5 .given .1) (c .before .before .before .pre .0) in omega arith
 
--- src/lib.rt:214:17
 page-buffer-requires-2 : tie.Need-page-buffer-requires-2
 page-buffer-requires-2 c κs = let h = long-length _ _ (c .before .before .before .before .args .sent .now) (c .before .enum-told5 .given .1) (c .before .before .before .before .pre .0) in (omega arith, (omega arith, c .before .before .before .before .pre .1))
 
--- src/lib.rt:215:13
 begin-with-requires-2 : tie.Need-begin-with-requires-2
 begin-with-requires-2 c κs = search needs
 
--- src/lib.rt:217:40
 enum-told-6 : tie.Need-enum-told-6
 enum-told-6 c = search needs
 
--- src/lib.rt:217:31
 begin-requires-4 : tie.Need-begin-requires-4
 begin-requires-4 c κs = search needs
 
--- src/lib.rt:219:28
 enum-told-7 : tie.Need-enum-told-7
 enum-told-7 c = search needs
 
--- src/lib.rt:219:28
 shared-slice-read-wide64 : tie.Need-shared-slice-read-wide64
 shared-slice-read-wide64 c = let h = long-length _ _ (c .before .before .before .before .args .sent .now) (c .before .enum-told7 .given .1) (c .before .before .before .before .pre .0) in omega arith
 
--- src/lib.rt:219:17
 wide64-requires : tie.Need-wide64-requires
 wide64-requires c κs = search needs
 
--- src/lib.rt:220:17
 bit-at-requires : tie.Need-bit-at-requires
 bit-at-requires c κs = search needs
 
--- src/lib.rt:221:17
 bit-at-requires-2 : tie.Need-bit-at-requires-2
 bit-at-requires-2 c κs = search needs
 
--- src/lib.rt:222:13
 begin-requires-5 : tie.Need-begin-requires-5
 begin-requires-5 c κs = search needs
 
--- src/lib.rt:225:17
 enum-told-8 : tie.Need-enum-told-8
 enum-told-8 c = search needs
 
--- src/lib.rt:225:17
 six-of-requires : tie.Need-six-of-requires
 six-of-requires c κs = long-length _ _ (c .before .before .before .args .sent .now) (c .enum-told8 .given .1) (c .before .before .before .pre .0)
 
--- src/lib.rt:226:13
 begin-requires-6 : tie.Need-begin-requires-6
 begin-requires-6 c κs = search needs
 
--- src/lib.rt:193:1
 returns : tie.Need-returns
 returns c = sector-starts (c .before .before .before .before .before .args .sent .now) (c .before .before .before .before .before .args .c) _ (c .before .before .before .before .before .args .l) _ (c .before .address-of .ensures) (c .begin .ensures) (c .before .before .enum-told .given .1)
 
--- src/lib.rt:193:1
 returns-2 : tie.Need-returns-2
 returns-2 c = block-starts (c .before .before .before .before .before .before .args .sent .now) (c .before .before .before .before .before .before .args .c) _ (c .before .before .before .before .before .before .args .l) _ _ (c .before .before .address-of2 .ensures) (c .before .block-of .ensures) (c .begin2 .ensures) (c .before .before .before .enum-told2 .given .1)
 
--- src/lib.rt:193:1
 returns-3 : tie.Need-returns-3
 returns-3 c = c .begin3 .ensures ∙ ap (λ (l : Long). Started l (c .before .before .before .before .args .sent .now) (c .before .before .before .before .args .c)) (sym (c .before .enum-told3 .given .1))
 
--- src/lib.rt:193:1
 returns-4 : tie.Need-returns-4
 returns-4 c = page-starts (c .before .before .before .before .before .before .args .sent .now) (c .before .before .before .before .before .before .args .c) _ (c .before .before .before .before .before .before .args .l) _ _ (c .before .before .address-of3 .ensures) (c .before .page-buffer .ensures) (c .begin-with .ensures) (c .before .before .before .enum-told4 .given .1)
 
--- src/lib.rt:193:1
 returns-5 : tie.Need-returns-5
 returns-5 c = security-starts (c .before .before .before .before .before .before .args .sent .now) (c .before .before .before .before .before .before .args .c) _ (c .before .before .before .before .before .before .args .l) _ _ (c .before .before .security-address-of .ensures) (c .before .page-buffer2 .ensures) (c .begin-with2 .ensures) (c .before .before .before .enum-told5 .given .1)
 
--- src/lib.rt:193:1
 returns-6 : tie.Need-returns-6
 returns-6 c = c .begin4 .ensures ∙ ap (λ (l : Long). Started l (c .before .before .before .before .args .sent .now) (c .before .before .before .before .args .c)) (sym (c .before .enum-told6 .given .1))
 
--- src/lib.rt:193:1
 returns-7 : tie.Need-returns-7
 returns-7 c = configuration-starts (c .before .before .before .before .before .before .before .before .args .sent .now) (c .before .before .before .before .before .before .before .before .args .c) _ (c .before .before .before .before .before .before .before .before .args .l) _ _ _ (c .before .before .before .wide64 .ensures) (c .before .before .bit-at .ensures) (c .before .bit-at2 .ensures) (c .begin5 .ensures) (c .before .before .before .before .before .enum-told7 .given .1)
 
--- src/lib.rt:193:1
 returns-8 : tie.Need-returns-8
 returns-8 c = permanent-starts (c .before .before .before .before .before .args .sent .now) (c .before .before .before .before .before .args .c) _ (c .before .before .before .before .before .args .l) _ (c .before .six-of .ensures) (c .begin6 .ensures) (c .before .before .enum-told8 .given .1)
 

@@ -1,7 +1,5 @@
 -- Each kind of work has the range that the rules give it. Assumes nothing.
-use mathlib.Core.Path.{_≡_, refl, sym, ap, _∙_}
-use Rattle.rules.specs.declared.Block.{Block}
-use Rattle.rules.specs.declared.Work.{Work}
+use mathlib.Core.Path.{sym, ap, _∙_}
 use Rattle.rules.specs.Works.{arrayRange}
 use Rattle.rules.specs.Blocks.{span}
 use Rattle.blocks.proofs.Ranges.{sector-number, block-number, page-number}
@@ -9,91 +7,67 @@ use native.Mathlib.Omega.{arith}
 use borrow.Author.Needs.{needs}
 use Rattle.blocks.proofs.array_range.Statement.{statement}
 use Rattle.blocks.proofs.array_range.Tie as tie
-use Rattle.blocks.proofs.array_range.Reads as reads
-use Rattle.blocks.proofs.array_range.Lts as lts
-use Rattle.blocks.proofs.block_at.Reads as block-at-reads
 
--- src/lib.rt:574:26
 enum-told : tie.Need-enum-told
 enum-told c = search needs
 
--- src/lib.rt:575:27
 enum-known-w : tie.Need-enum-known-w
 enum-known-w c = search needs
 
--- src/lib.rt:576:20
 mul-t7 : tie.Need-mul-t7
 mul-t7 c = let h = sector-number (c .before .before .before .args .w) _ (c .before .w .given .1) (c .before .before .before .pre) in omega arith
 
--- src/lib.rt:579:26
 enum-known-w-2 : tie.Need-enum-known-w-2
 enum-known-w-2 c = search needs
 
--- src/lib.rt:580:17
 block-at-requires : tie.Need-block-at-requires
 block-at-requires c κs = block-number (c .before .before .before .args .w) _ (c .before .w2 .given .1) (c .before .before .before .pre)
 
--- src/lib.rt:586:29
 enum-told-2 : tie.Need-enum-told-2
 enum-told-2 c = search needs
 
--- src/lib.rt:590:27
 enum-known-w-3 : tie.Need-enum-known-w-3
 enum-known-w-3 c = search needs
 
--- src/lib.rt:591:20
 mul-t8 : tie.Need-mul-t8
 mul-t8 c = let h = page-number (c .before .before .before .args .w) _ (c .before .w3 .given .1) (c .before .before .before .pre) in omega arith
 
--- src/lib.rt:594:37
 enum-told-3 : tie.Need-enum-told-3
 enum-told-3 c = search needs
 
--- src/lib.rt:595:31
 enum-told-4 : tie.Need-enum-told-4
 enum-told-4 c = search needs
 
--- src/lib.rt:596:43
 enum-told-5 : tie.Need-enum-told-5
 enum-told-5 c = search needs
 
--- src/lib.rt:597:34
 enum-told-6 : tie.Need-enum-told-6
 enum-told-6 c = search needs
 
--- src/lib.rt:569:1
 returns : tie.Need-returns
 returns c = ap arrayRange (sym (c .enum-told .given .1))
 
--- src/lib.rt:569:1
 returns-2 : tie.Need-returns-2
 returns-2 c = ap arrayRange (sym (c .before .w .given .1))
 
--- src/lib.rt:569:1
 returns-3 : tie.Need-returns-3
 returns-3 c = ap span (c .block-at .ensures) ∙ ap arrayRange (sym (c .before .before .w2 .given .1))
 
--- src/lib.rt:569:1
 returns-4 : tie.Need-returns-4
 returns-4 c = ap arrayRange (sym (c .enum-told2 .given .1))
 
--- src/lib.rt:569:1
 returns-5 : tie.Need-returns-5
 returns-5 c = ap arrayRange (sym (c .before .w3 .given .1))
 
--- src/lib.rt:569:1
 returns-6 : tie.Need-returns-6
 returns-6 c = ap arrayRange (sym (c .enum-told3 .given .1))
 
--- src/lib.rt:569:1
 returns-7 : tie.Need-returns-7
 returns-7 c = ap arrayRange (sym (c .enum-told4 .given .1))
 
--- src/lib.rt:569:1
 returns-8 : tie.Need-returns-8
 returns-8 c = ap arrayRange (sym (c .enum-told5 .given .1))
 
--- src/lib.rt:569:1
 returns-9 : tie.Need-returns-9
 returns-9 c = ap arrayRange (sym (c .enum-told6 .given .1))
 

@@ -1,21 +1,16 @@
 -- A shift and a mask of one bit are the division and the remainder of the rule. Assumes nothing.
-use mathlib.Core.Path.{_≡_, ap}
+use mathlib.Core.Path.{ap}
 use Prim.Native.Nat.{ℕ, _/_, _^_}
 use lib.Dec.{eqb}
 use lib.Bits.{and-mask}
 use Rattle.rules.specs.Words.{bit}
-use native.Mathlib.Omega.{arith}
 use borrow.Author.Needs.{needs}
 use Rattle.blocks.proofs.bit_at.Statement.{statement}
 use Rattle.blocks.proofs.bit_at.Tie as tie
-use Rattle.blocks.proofs.bit_at.Reads as reads
-use Rattle.blocks.proofs.bit_at.Lts as lts
 
--- src/lib.rt:544:6
 shr-result : tie.Need-shr-result
 shr-result c = search needs
 
--- src/lib.rt:540:1
 returns : tie.Need-returns
 unfolding bit
 returns c = ap (λ (x : ℕ). eqb x 1) (and-mask (c .args .p / 2 ^ c .args .n) 1)

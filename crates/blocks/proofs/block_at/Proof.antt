@@ -9,8 +9,6 @@ use native.Mathlib.Omega.{arith}
 use borrow.Author.Needs.{needs}
 use Rattle.blocks.proofs.block_at.Statement.{statement}
 use Rattle.blocks.proofs.block_at.Tie as tie
-use Rattle.blocks.proofs.block_at.Reads as reads
-use Rattle.blocks.proofs.block_at.Lts as lts
 
 -- below the length the default does not matter
 getD-any : (l : List Block) (n : ℕ) (d e : Block) → n < length l → getD l n d ≡ getD l n e
@@ -18,15 +16,12 @@ getD-any [] n d e h = absurd (omega arith)
 getD-any (x ∷ xs) zero d e h = refl
 getD-any (x ∷ xs) (suc n) d e h = getD-any xs n d e (omega arith)
 
--- src/lib.rt:521:5
 mul-result : tie.Need-mul-result
 mul-result c = search needs
 
--- src/lib.rt:521:5
 array-copy-out-result : tie.Need-array-copy-out-result
 array-copy-out-result c = search needs
 
--- src/lib.rt:517:1
 returns : tie.Need-returns
 unfolding blockAt blocks wide
 returns c = getD-any blocks (c .before .args .n) _ (single 48 0 0) (c .before .pre)

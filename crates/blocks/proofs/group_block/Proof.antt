@@ -1,5 +1,5 @@
 -- The table of groups, compared with the rules' search at each of the 256 groups. Assumes nothing.
-use mathlib.Core.Path.{_≡_, refl}
+use mathlib.Core.Path.{refl}
 use mathlib.Core.List.{List, [], _∷_}
 use Prim.Native.Nat.{ℕ, _*_}
 use lib.Dec.{eqb}
@@ -7,13 +7,10 @@ use lib.ListN.{getD}
 use borrow.Author.Tests.{eqb-true}
 use Rattle.rules.specs.Words.{holds}
 use Rattle.rules.specs.Blocks.{wide, blocks, seek, blockOf}
-use Rattle.rules.proofs.Bools.{upto, upto-at}
-use native.Mathlib.Omega.{arith}
+use Rattle.rules.proofs.Bools.{upto-at}
 use borrow.Author.Needs.{needs}
 use Rattle.blocks.proofs.group_block.Statement.{statement}
 use Rattle.blocks.proofs.group_block.Tie as tie
-use Rattle.blocks.proofs.group_block.Reads as reads
-use Rattle.blocks.proofs.group_block.Lts as lts
 
 groups : List ℕ
 groups =
@@ -27,11 +24,9 @@ groups =
     ∷ 12 ∷ 12 ∷ 12 ∷ 12 ∷ 12 ∷ 12 ∷ 12 ∷ 12 ∷ 11 ∷ 11 ∷ 11 ∷ 11 ∷ 11 ∷ 11 ∷ 11 ∷ 11 ∷ 10 ∷ 10 ∷ 10 ∷ 10 ∷ 10 ∷ 10 ∷ 10 ∷ 10 ∷ 8 ∷ 8 ∷ 8 ∷ 8 ∷ 3 ∷ 2 ∷ 1 ∷ 0
     ∷ []
 
--- src/lib.rt:528:5
 array-read-result : tie.Need-array-read-result
 array-read-result c = search needs
 
--- src/lib.rt:524:1
 returns : tie.Need-returns
 unfolding groups blockOf seek blocks wide holds
 returns c = eqb-true _ _ (upto-at 256 (λ g. eqb (getD groups g 0) (blockOf (g * 8192))) refl (c .args .g) (c .pre))

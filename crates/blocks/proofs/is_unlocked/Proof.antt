@@ -1,5 +1,5 @@
 -- A sector, a page and a block lie in one block, whose lock is the range's; the array has every lock. Assumes nothing.
-use mathlib.Core.Path.{_≡_, refl, ap}
+use mathlib.Core.Path.{refl, ap}
 use Rattle.rules.specs.declared.Block.{Block}
 use Rattle.blocks.proofs.Ranges.{sector-number, block-number, page-number, unlocked-sector, unlocked-page, unlocked-block, unlocked-array, unlocked-none}
 use Rattle.rules.proofs.Blocks.{block-placed}
@@ -7,111 +7,82 @@ use native.Mathlib.Omega.{arith}
 use borrow.Author.Needs.{needs}
 use Rattle.blocks.proofs.is_unlocked.Statement.{statement}
 use Rattle.blocks.proofs.is_unlocked.Tie as tie
-use Rattle.blocks.proofs.is_unlocked.Reads as reads
-use Rattle.blocks.proofs.is_unlocked.Lts as lts
-use Rattle.blocks.proofs.bit_at.Reads as bit-at-reads
-use Rattle.blocks.proofs.block_at.Reads as block-at-reads
-use Rattle.blocks.proofs.write_locked.Reads as write-locked-reads
 
--- src/lib.rt:607:26
 enum-told : tie.Need-enum-told
 enum-told c = search needs
 
--- src/lib.rt:608:27
 enum-known-w : tie.Need-enum-known-w
 enum-known-w c = search needs
 
--- src/lib.rt:608:50
 mul-write-locked : tie.Need-mul-write-locked
 mul-write-locked c = let h = sector-number (c .before .before .before .args .w) _ (c .before .w .given .1) (c .before .before .before .pre .0) in omega arith
 
--- src/lib.rt:608:34
 write-locked-requires : tie.Need-write-locked-requires
 write-locked-requires c κs = let h = sector-number (c .before .before .before .args .w) _ (c .before .w .given .1) (c .before .before .before .pre .0) in omega arith
 
--- src/lib.rt:609:26
 enum-known-w-2 : tie.Need-enum-known-w-2
 enum-known-w-2 c = search needs
 
--- src/lib.rt:610:17
 block-at-requires : tie.Need-block-at-requires
 block-at-requires c κs = block-number (c .before .before .before .args .w) _ (c .before .w2 .given .1) (c .before .before .before .pre .0)
 
--- src/lib.rt:612:14
 bit-at-requires : tie.Need-bit-at-requires
 bit-at-requires c κs = let n = block-number (c .before .before .before .before .args .w) _ (c .before .before .w2 .given .1) (c .before .before .before .before .pre .0) in
     let f = block-placed _ n .lock in
     let e = ap (λ (b : Block). b .write) (c .block-at .ensures) in
     omega arith
 
--- src/lib.rt:614:29
 enum-told-2 : tie.Need-enum-told-2
 enum-told-2 c = search needs
 
--- src/lib.rt:615:27
 enum-known-w-3 : tie.Need-enum-known-w-3
 enum-known-w-3 c = search needs
 
--- src/lib.rt:615:50
 mul-write-locked-2 : tie.Need-mul-write-locked-2
 mul-write-locked-2 c = let h = page-number (c .before .before .before .args .w) _ (c .before .w3 .given .1) (c .before .before .before .pre .0) in omega arith
 
--- src/lib.rt:615:34
 write-locked-requires-2 : tie.Need-write-locked-requires-2
 write-locked-requires-2 c κs = let h = page-number (c .before .before .before .args .w) _ (c .before .w3 .given .1) (c .before .before .before .pre .0) in omega arith
 
--- src/lib.rt:616:37
 enum-told-3 : tie.Need-enum-told-3
 enum-told-3 c = search needs
 
--- src/lib.rt:617:31
 enum-told-4 : tie.Need-enum-told-4
 enum-told-4 c = search needs
 
--- src/lib.rt:618:43
 enum-told-5 : tie.Need-enum-told-5
 enum-told-5 c = search needs
 
--- src/lib.rt:619:34
 enum-told-6 : tie.Need-enum-told-6
 enum-told-6 c = search needs
 
--- src/lib.rt:602:1
 returns : tie.Need-returns
 returns c = unlocked-none (c .before .before .args .p) _ _ (c .enum-told .given .1) refl
 
--- src/lib.rt:602:1
 returns-2 : tie.Need-returns-2
 returns-2 c = let a = c .before .before .before .before in
     unlocked-sector (a .args .p) _ (a .args .w) _ (c .before .before .w .given .1) (a .pre .0) (c .write-locked .ensures)
 
--- src/lib.rt:602:1
 returns-3 : tie.Need-returns-3
 returns-3 c = let a = c .before .before .before .before .before in
     unlocked-block (a .args .p) _ _ (a .args .w) _ (c .before .before .before .w2 .given .1) (a .pre .0) (c .before .block-at .ensures) (c .bit-at .ensures)
 
--- src/lib.rt:602:1
 returns-4 : tie.Need-returns-4
 returns-4 c = let a = c .before .before in unlocked-array (a .args .p) (a .args .w) (c .enum-told2 .given .1) (a .pre .1)
 
--- src/lib.rt:602:1
 returns-5 : tie.Need-returns-5
 returns-5 c = let a = c .before .before .before .before in
     unlocked-page (a .args .p) _ (a .args .w) _ (c .before .before .w3 .given .1) (a .pre .0) (c .write-locked2 .ensures)
 
--- src/lib.rt:602:1
 returns-6 : tie.Need-returns-6
 returns-6 c = unlocked-none (c .before .before .args .p) _ _ (c .enum-told3 .given .1) refl
 
--- src/lib.rt:602:1
 returns-7 : tie.Need-returns-7
 returns-7 c = unlocked-none (c .before .before .args .p) _ _ (c .enum-told4 .given .1) refl
 
--- src/lib.rt:602:1
 returns-8 : tie.Need-returns-8
 returns-8 c = unlocked-none (c .before .before .args .p) _ _ (c .enum-told5 .given .1) refl
 
--- src/lib.rt:602:1
 returns-9 : tie.Need-returns-9
 returns-9 c = unlocked-none (c .before .before .args .p) _ _ (c .enum-told6 .given .1) refl
 

@@ -1,44 +1,30 @@
 -- The number decides: what it leaves is what the machine leaves. Assumes nothing.
-use mathlib.Core.Path.{_≡_, refl, sym, ap, _∙_}
-use Rattle.rules.specs.declared.Answer.{Answer}
+use mathlib.Core.Path.{refl, sym, ap, _∙_}
 use Rattle.rules.specs.declared.Form.{Form}
 use Rattle.rules.specs.Numbers.{answerNumber}
 use Rattle.chip.proofs.Events.{state-parts, frame-parts, done-enough, frame-done, frame-refused}
-use native.Mathlib.Omega.{arith}
 use borrow.Author.Needs.{needs}
 use Rattle.chip.proofs.command.Statement.{statement}
 use Rattle.chip.proofs.command.Tie as tie
-use Rattle.chip.proofs.command.Reads as reads
-use Rattle.chip.proofs.command.Lts as lts
-use Rattle.acting.proofs.acted.Reads as acted-reads
-use Rattle.acting.proofs.used.Reads as used-reads
-use Rattle.chip.proofs.fill_both.Reads as fill-both-reads
-use Rattle.chip.proofs.respond.Reads as respond-reads
-use Rattle.judging.proofs.judge.Reads as judge-reads
-use Rattle.opcodes.proofs.form_of.Reads as form-of-reads
 
--- src/lib.rt:155:14
 shared-slice-read-op : tie.Need-shared-slice-read-op
 shared-slice-read-op c = search needs
 
--- src/lib.rt:156:9
 form-of-requires : tie.Need-form-of-requires
 form-of-requires c κs = search needs
 
--- src/lib.rt:157:9
 judge-requires : tie.Need-judge-requires
 judge-requires c κs = let a = c .before .before .before .before .before .before .before .args in
     record {
       well = state-parts (a .c) (a .array .now) (a .security .now) (c .before .before .before .before .before .before .before .pre .right) .0;
       first-byte = refl;
       its-form = c .form-of .ensures;
-      fits = frame-parts (a .sent .now) (a .reply .now) (a .marks .now) (c .before .before .before .before .before .before .before .pre .fits) .0 }
+      fits = frame-parts (a .sent .now) (a .reply .now) (a .marks .now) (c .before .before .before .before .before .before .before .pre .fits) .0;
+    }
 
--- src/lib.rt:160:17
 enum-told : tie.Need-enum-told
 enum-told c = search needs
 
--- src/lib.rt:161:13
 respond-requires : tie.Need-respond-requires
 respond-requires c κs = let a = c .before .before .before .before .before .before .before .before .before .before .before .before .args in
     let s = state-parts (a .c) (a .array .now) (a .security .now) (c .before .before .before .before .before .before .before .before .before .before .before .before .pre .right) in
@@ -48,7 +34,6 @@ respond-requires c κs = let a = c .before .before .before .before .before .befo
     let k = ap (λ (f : Form). f .kind) (c .before .before .before .before .before .form-of .ensures) in
     record { well = s .0; whole = s .1; secure = s .2; enough = rw k e; even = f .2; few = f .1 }
 
--- src/lib.rt:164:23
 acted-requires : tie.Need-acted-requires
 acted-requires c κs = let a = c .before .before .before .before .before .before .before .before .before .before .before .before .before .before .before .before .before .args in
     let f = frame-parts (a .sent .now) (a .reply .now) (a .marks .now) (c .before .before .before .before .before .before .before .before .before .before .before .before .before .before .before .before .before .pre .fits) in
@@ -57,39 +42,30 @@ acted-requires c κs = let a = c .before .before .before .before .before .before
     let k = ap (λ (f : Form). f .kind) (c .before .before .before .before .before .before .before .before .before .before .form-of .ensures) in
     (rw k e, f .0)
 
--- src/lib.rt:167:25
 enum-known-answer : tie.Need-enum-known-answer
 enum-known-answer c = search needs
 
--- src/lib.rt:168:13
 fill-both-requires : tie.Need-fill-both-requires
 fill-both-requires c κs = search needs
 
--- src/lib.rt:171:23
 used-requires : tie.Need-used-requires
 used-requires c κs = search needs
 
--- src/lib.rt:144:1
 same-length : tie.Need-same-length
 same-length c = search needs
 
--- src/lib.rt:144:1
 same-length-2 : tie.Need-same-length-2
 same-length-2 c = search needs
 
--- src/lib.rt:144:1
 returns : tie.Need-returns
 returns c = record { outcome = frame-done (c .before .before .before .before .before .before .before .before .before .before .before .before .before .before .before .before .before .before .args .c) (c .before .before .before .before .before .before .before .before .before .before .before .before .before .before .before .before .before .before .args .array .now) (c .before .before .before .before .before .before .before .before .before .before .before .before .before .before .before .before .before .before .args .security .now) (c .before .before .before .before .before .before .before .before .before .before .before .before .before .before .before .before .before .before .args .sent .now) (c .before .before .before .before .before .before .before .before .before .before .before .before .before .before .before .before .before .before .args .reply .now) (c .before .before .before .before .before .before .before .before .before .before .before .before .before .before .before .before .before .before .args .marks .now) _ _ _ _ (c .before .before .before .before .before .before .before .before .before .before .before .before .before .before .before .before .before .before .pre) (sym (ap answerNumber (c .before .before .before .before .before .before .before .before .enum-told .given .1)) ∙ c .before .before .before .before .before .before .before .before .before .before .judge .ensures) (ap (λ (f : Form). f .kind) (c .before .before .before .before .before .before .before .before .before .before .before .form-of .ensures)) (c .acted .ensures) (c .before .before .before .before .before .respond .ensures) }
 
--- src/lib.rt:144:1
 same-length-3 : tie.Need-same-length-3
 same-length-3 c = search needs
 
--- src/lib.rt:144:1
 same-length-4 : tie.Need-same-length-4
 same-length-4 c = search needs
 
--- src/lib.rt:144:1
 returns-2 : tie.Need-returns-2
 returns-2 c = record { outcome = frame-refused (c .before .before .before .before .before .before .before .before .before .before .before .before .before .before .before .before .before .before .before .args .c) (c .before .before .before .before .before .before .before .before .before .before .before .before .before .before .before .before .before .before .before .args .array .now) (c .before .before .before .before .before .before .before .before .before .before .before .before .before .before .before .before .before .before .before .args .security .now) (c .before .before .before .before .before .before .before .before .before .before .before .before .before .before .before .before .before .before .before .args .sent .now) (c .before .before .before .before .before .before .before .before .before .before .before .before .before .before .before .before .before .before .before .args .reply .now) (c .before .before .before .before .before .before .before .before .before .before .before .before .before .before .before .before .before .before .before .args .marks .now) (c .before .before .before .before .before .before .before .before .before .answer .given .0 .0) _ _ _ (c .before .before .before .before .before .before .before .before .before .before .before .before .before .before .before .before .before .before .before .pre) (sym (ap answerNumber (c .before .before .before .before .before .before .before .before .before .answer .given .1)) ∙ c .before .before .before .before .before .before .before .before .before .before .before .judge .ensures) (c .used .ensures) (c .before .before .before .before .before .fill-both .ensures) }
 

@@ -1,30 +1,21 @@
 -- Both are patched from end to end. Assumes nothing.
 use Rattle.chip.proofs.Replies.{patched-written}
-use native.Mathlib.Omega.{arith}
 use borrow.Author.Needs.{needs}
 use Rattle.chip.proofs.fill_both.Statement.{statement}
 use Rattle.chip.proofs.fill_both.Tie as tie
-use Rattle.chip.proofs.fill_both.Reads as reads
-use Rattle.chip.proofs.fill_both.Lts as lts
-use Rattle.memory.proofs.set_all.Reads as set-all-reads
 
--- src/lib.rt:53:5
 set-all-requires : tie.Need-set-all-requires
 set-all-requires c κs = search needs
 
--- src/lib.rt:55:5
 set-all-requires-2 : tie.Need-set-all-requires-2
 set-all-requires-2 c κs = search needs
 
--- src/lib.rt:49:1
 same-length : tie.Need-same-length
 same-length c = search needs
 
--- src/lib.rt:49:1
 same-length-2 : tie.Need-same-length-2
 same-length-2 c = search needs
 
--- src/lib.rt:49:1
 returns : tie.Need-returns
 returns c = record { bytes = patched-written _ _ _ (c .before .before .before .before .before .before .set-all .ensures); known = patched-written _ _ _ (c .before .before .set-all2 .ensures) }
 

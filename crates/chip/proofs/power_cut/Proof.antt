@@ -1,50 +1,35 @@
 -- Malformed, or power-up after the first k bytes. Assumes nothing.
-use mathlib.Core.Path.{_≡_, refl, sym, _∙_}
+use mathlib.Core.Path.{sym, _∙_}
 use borrow.Author.Tests.{not-true, not-false}
 use Rattle.chip.proofs.Replies.{running-right}
 use Rattle.chip.proofs.Events.{state-parts, cut-malformed, cut-done}
-use native.Mathlib.Omega.{arith}
 use borrow.Author.Needs.{needs}
 use Rattle.chip.proofs.power_cut.Statement.{statement}
 use Rattle.chip.proofs.power_cut.Tie as tie
-use Rattle.chip.proofs.power_cut.Reads as reads
-use Rattle.chip.proofs.power_cut.Lts as lts
-use Rattle.acting.proofs.cut.Reads as cut-reads
-use Rattle.chip.proofs.state_right.Reads as state-right-reads
-use Rattle.finishing.proofs.finish_array.Reads as finish-array-reads
-use Rattle.finishing.proofs.finish_security.Reads as finish-security-reads
 
--- src/lib.rt:235:9
 state-right-requires : tie.Need-state-right-requires
 state-right-requires c κs = search needs
 
--- src/lib.rt:236:9
 returns : tie.Need-returns
 returns c = record { outcome = cut-malformed (c .before .before .before .before .args .t1) (c .before .before .before .before .args .array .now) (c .before .before .before .before .args .security .now) _ (c .before .state-right .ensures) (c .before .before .before .before .args .k) (not-true _ (c .if1 .taken)) }
 
--- src/lib.rt:243:5
 finish-array-requires : tie.Need-finish-array-requires
 finish-array-requires c κs = let s = state-parts (c .before .before .before .before .before .before .before .args .t1) (c .before .before .before .before .before .before .before .args .array .now) (c .before .before .before .before .before .before .before .args .security .now) (sym (c .before .before .before .before .state-right .ensures) ∙ not-false _ (c .before .before .before .if1 .left)) in
     (running-right (c .before .before .before .before .before .before .before .args .t1) (s .0), s .1)
 
--- src/lib.rt:244:5
 finish-security-requires : tie.Need-finish-security-requires
 finish-security-requires c κs = let s = state-parts (c .before .before .before .before .before .before .before .before .before .before .before .before .before .args .t1) (c .before .before .before .before .before .before .before .before .before .before .before .before .before .args .array .now) (c .before .before .before .before .before .before .before .before .before .before .before .before .before .args .security .now) (sym (c .before .before .before .before .before .before .before .before .before .before .state-right .ensures) ∙ not-false _ (c .before .before .before .before .before .before .before .before .before .if1 .left)) in
     (running-right (c .before .before .before .before .before .before .before .before .before .before .before .before .before .args .t1) (s .0), s .2)
 
--- src/lib.rt:247:15
 cut-requires : tie.Need-cut-requires
 cut-requires c κs = search needs
 
--- src/lib.rt:232:1
 same-length : tie.Need-same-length
 same-length c = search needs
 
--- src/lib.rt:232:1
 same-length-2 : tie.Need-same-length-2
 same-length-2 c = search needs
 
--- src/lib.rt:232:1
 returns-2 : tie.Need-returns-2
 returns-2 c = record { outcome = cut-done (c .before .before .before .before .before .before .before .before .before .before .before .before .before .before .before .before .before .args .t1) (c .before .before .before .before .before .before .before .before .before .before .before .before .before .before .before .before .before .args .array .now) (c .before .before .before .before .before .before .before .before .before .before .before .before .before .before .before .before .before .args .security .now) _ (c .before .before .before .before .before .before .before .before .before .before .before .before .before .before .state-right .ensures) (c .before .before .before .before .before .before .before .before .before .before .before .before .before .before .before .before .before .args .k) _ (c .before .before .before .before .before .before .before .before .before .finish-array .last .1 .1 .1 .0) (c .before .before .before .finish-security .last .1 .1 .1 .0) (not-false _ (c .before .before .before .before .before .before .before .before .before .before .before .before .before .if1 .left)) (c .cut .ensures) (c .before .before .before .before .before .before .before .before .before .finish-array .ensures) (c .before .before .before .finish-security .ensures) }
 

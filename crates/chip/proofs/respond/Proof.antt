@@ -1,64 +1,47 @@
 -- Silence, or the source that the kind shows. Assumes nothing.
-use mathlib.Core.Path.{_≡_, refl}
 use Rattle.rules.specs.Words.{lent}
 use Rattle.chip.proofs.Replies.{shown-enough, replied-kind}
-use native.Mathlib.Omega.{arith}
 use borrow.Author.Needs.{needs}
 use Rattle.chip.proofs.respond.Statement.{statement}
 use Rattle.chip.proofs.respond.Tie as tie
-use Rattle.chip.proofs.respond.Reads as reads
-use Rattle.chip.proofs.respond.Lts as lts
-use Rattle.chip.proofs.fill_both.Reads as fill-both-reads
-use Rattle.chip.proofs.show.Reads as show-reads
-use Rattle.chip.proofs.showing_of.Reads as showing-of-reads
 
--- src/lib.rt:116:9
 showing-of-requires : tie.Need-showing-of-requires
 showing-of-requires c κs = search needs
 
--- src/lib.rt:118:39
 enum-told : tie.Need-enum-told
 enum-told c = search needs
 
--- src/lib.rt:118:29
 fill-both-requires : tie.Need-fill-both-requires
 fill-both-requires c κs = search needs
 
--- src/lib.rt:119:24
 enum-known-what : tie.Need-enum-known-what
 enum-known-what c = search needs
 
--- src/lib.rt:119:30
 show-requires : tie.Need-show-requires
 show-requires c κs = record {
-      well = c .before .before .before .before .before .before .before .before .before .before .before .pre .well;
-      whole = c .before .before .before .before .before .before .before .before .before .before .before .pre .whole;
-      secure = c .before .before .before .before .before .before .before .before .before .before .before .pre .secure;
-      enough = shown-enough (c .before .before .before .before .before .before .before .before .before .before .before .args .k) _ _ _ (c .before .before .before .before .before .showing-of .ensures) (c .before .before .before .what .given .1) (c .before .before .before .before .before .before .before .before .before .before .before .pre .enough);
-      even = c .before .before .before .before .before .before .before .before .before .before .before .pre .even;
-      few = c .before .before .before .before .before .before .before .before .before .before .before .pre .few }
+  well = c .before .before .before .before .before .before .before .before .before .before .before .pre .well;
+  whole = c .before .before .before .before .before .before .before .before .before .before .before .pre .whole;
+  secure = c .before .before .before .before .before .before .before .before .before .before .before .pre .secure;
+  enough = shown-enough (c .before .before .before .before .before .before .before .before .before .before .before .args .k) _ _ _ (c .before .before .before .before .before .showing-of .ensures) (c .before .before .before .what .given .1) (c .before .before .before .before .before .before .before .before .before .before .before .pre .enough);
+  even = c .before .before .before .before .before .before .before .before .before .before .before .pre .even;
+  few = c .before .before .before .before .before .before .before .before .before .before .before .pre .few;
+}
 
--- src/lib.rt:104:1
 same-length : tie.Need-same-length
 same-length c = search needs
 
--- src/lib.rt:104:1
 same-length-2 : tie.Need-same-length-2
 same-length-2 c = search needs
 
--- src/lib.rt:104:1
 returns : tie.Need-returns
 returns c = replied-kind (c .before .before .before .before .before .before .before .before .before .before .before .before .before .before .before .args .k) _ _ (c .before .before .before .before .before .before .before .before .before .before .before .before .before .before .before .args .c) (lent (c .before .before .before .before .before .before .before .before .before .before .before .before .before .before .before .args .array .now)) (lent (c .before .before .before .before .before .before .before .before .before .before .before .before .before .before .before .args .security .now)) (c .before .before .before .before .before .before .before .before .before .before .before .before .before .before .before .args .sent .now) (c .before .before .before .before .before .before .before .before .before .before .before .before .before .before .before .args .reply .now) (c .before .before .before .before .before .before .before .before .before .before .before .before .before .before .before .args .marks .now) _ _ (c .before .before .before .before .before .before .before .before .before .showing-of .ensures) (c .before .before .before .before .before .before .before .enum-told .given .1) (c .before .before .before .before .fill-both .ensures)
 
--- src/lib.rt:104:1
 same-length-3 : tie.Need-same-length-3
 same-length-3 c = search needs
 
--- src/lib.rt:104:1
 same-length-4 : tie.Need-same-length-4
 same-length-4 c = search needs
 
--- src/lib.rt:104:1
 returns-2 : tie.Need-returns-2
 returns-2 c = replied-kind (c .before .before .before .before .before .before .before .before .before .before .before .before .before .before .before .before .args .k) _ _ (c .before .before .before .before .before .before .before .before .before .before .before .before .before .before .before .before .args .c) (lent (c .before .before .before .before .before .before .before .before .before .before .before .before .before .before .before .before .args .array .now)) (lent (c .before .before .before .before .before .before .before .before .before .before .before .before .before .before .before .before .args .security .now)) (c .before .before .before .before .before .before .before .before .before .before .before .before .before .before .before .before .args .sent .now) (c .before .before .before .before .before .before .before .before .before .before .before .before .before .before .before .before .args .reply .now) (c .before .before .before .before .before .before .before .before .before .before .before .before .before .before .before .before .args .marks .now) _ _ (c .before .before .before .before .before .before .before .before .before .before .showing-of .ensures) (c .before .before .before .before .before .before .before .before .what .given .1) (c .before .before .before .before .show .ensures)
 

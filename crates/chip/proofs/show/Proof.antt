@@ -1,6 +1,6 @@
 -- Each source has its loop. Assumes nothing.
 use Prim.Native.Nat.{_≤_}
-use mathlib.Core.Path.{_≡_, refl, sym, subst}
+use mathlib.Core.Path.{subst}
 use lib.ListN.{length}
 use Rattle.rules.specs.declared.Source.{Source}
 use Rattle.judging.specs.ByKind.{showLength}
@@ -9,170 +9,119 @@ use native.Mathlib.Omega.{arith}
 use borrow.Author.Needs.{needs}
 use Rattle.chip.proofs.show.Statement.{statement}
 use Rattle.chip.proofs.show.Tie as tie
-use Rattle.chip.proofs.show.Reads as reads
-use Rattle.chip.proofs.show.Lts as lts
-use Rattle.acting.proofs.configuration_of.Reads as configuration-of-reads
-use Rattle.acting.proofs.status_of.Reads as status-of-reads
-use Rattle.blocks.proofs.array_range.Reads as array-range-reads
-use Rattle.chip.proofs.fill_both.Reads as fill-both-reads
-use Rattle.chip.proofs.mark_all.Reads as mark-all-reads
-use Rattle.judging.proofs.address_of.Reads as address-of-reads
-use Rattle.judging.proofs.security_address_of.Reads as security-address-of-reads
-use Rattle.reading.proofs.read_array.Reads as read-array-reads
-use Rattle.reading.proofs.read_identity.Reads as read-identity-reads
-use Rattle.reading.proofs.read_protection.Reads as read-protection-reads
-use Rattle.reading.proofs.read_security.Reads as read-security-reads
 
--- src/lib.rt:79:37
 enum-told : tie.Need-enum-told
 enum-told c = search needs
 
--- src/lib.rt:79:51
 status-of-requires : tie.Need-status-of-requires
 status-of-requires c κs = search needs
 
--- src/lib.rt:79:27
 fill-both-requires : tie.Need-fill-both-requires
 fill-both-requires c κs = search needs
 
--- src/lib.rt:80:44
 enum-told-2 : tie.Need-enum-told-2
 enum-told-2 c = search needs
 
--- src/lib.rt:80:58
 configuration-of-requires : tie.Need-configuration-of-requires
 configuration-of-requires c κs = search needs
 
--- src/lib.rt:80:34
 fill-both-requires-2 : tie.Need-fill-both-requires-2
 fill-both-requires-2 c κs = search needs
 
--- src/lib.rt:82:52
 enum-told-3 : tie.Need-enum-told-3
 enum-told-3 c = search needs
 
--- src/lib.rt:82:13
 read-protection-requires : tie.Need-read-protection-requires
 read-protection-requires c κs = search needs
 
--- src/lib.rt:83:13
 mark-all-requires : tie.Need-mark-all-requires
 mark-all-requires c κs = search needs
 
--- src/lib.rt:86:36
 enum-told-4 : tie.Need-enum-told-4
 enum-told-4 c = search needs
 
--- src/lib.rt:86:13
 read-identity-requires : tie.Need-read-identity-requires
 read-identity-requires c κs = search needs
 
--- src/lib.rt:87:13
 mark-all-requires-2 : tie.Need-mark-all-requires-2
 mark-all-requires-2 c κs = search needs
 
--- src/lib.rt:90:17
 enum-told-5 : tie.Need-enum-told-5
 enum-told-5 c = search needs
 
--- src/lib.rt:91:17
 array-range-requires : tie.Need-array-range-requires
 array-range-requires c κs = suspended-right (c .before .before .before .before .before .before .before .args .c) (c .before .before .before .before .before .before .before .pre .well)
 
--- src/lib.rt:92:17
 address-of-requires : tie.Need-address-of-requires
 address-of-requires c κs = subst (λ (s : Source). showLength s ≤ length (c .before .before .before .before .before .before .before .before .args .sent .now)) (c .before .enum-told5 .given .1) (c .before .before .before .before .before .before .before .before .pre .enough)
 
--- src/lib.rt:93:13
 read-array-requires : tie.Need-read-array-requires
 read-array-requires c κs = let a = c .before .before .address-of .ensures in
     (suspended-pages (c .before .before .before .before .before .before .before .before .before .before .before .args .c) _ (c .before .before .before .before .before .before .before .before .before .before .before .pre .well) (c .before .before .before .array-range .ensures), (c .before .before .before .before .before .before .before .before .before .before .before .pre .whole, (omega arith, (c .before .before .before .before .before .before .before .before .before .before .before .pre .even, c .before .before .before .before .before .before .before .before .before .before .before .pre .few))))
 
--- src/lib.rt:96:17
 enum-told-6 : tie.Need-enum-told-6
 enum-told-6 c = search needs
 
--- src/lib.rt:96:17
 security-address-of-requires : tie.Need-security-address-of-requires
 security-address-of-requires c κs = subst (λ (s : Source). showLength s ≤ length (c .before .before .before .before .before .before .before .args .sent .now)) (c .enum-told6 .given .1) (c .before .before .before .before .before .before .before .pre .enough)
 
--- src/lib.rt:97:13
 read-security-requires : tie.Need-read-security-requires
 read-security-requires c κs = search needs
 
--- src/lib.rt:98:13
 mark-all-requires-3 : tie.Need-mark-all-requires-3
 mark-all-requires-3 c κs = search needs
 
--- src/lib.rt:66:1
 same-length : tie.Need-same-length
 same-length c = search needs
 
--- src/lib.rt:66:1
 same-length-2 : tie.Need-same-length-2
 same-length-2 c = search needs
 
--- src/lib.rt:66:1
 returns : tie.Need-returns
 returns c = shows-status (c .before .before .before .before .before .before .before .before .before .before .before .before .before .before .before .args .s) (c .before .before .before .before .before .before .before .before .before .before .before .before .before .before .before .args .c) (c .before .before .before .before .before .before .before .before .before .before .before .before .before .before .before .args .array .now) (c .before .before .before .before .before .before .before .before .before .before .before .before .before .before .before .args .security .now) (c .before .before .before .before .before .before .before .before .before .before .before .before .before .before .before .args .sent .now) (c .before .before .before .before .before .before .before .before .before .before .before .before .before .before .before .args .reply .now) (c .before .before .before .before .before .before .before .before .before .before .before .before .before .before .before .args .marks .now) _ _ _ (c .before .before .before .before .before .before .before .before .enum-told .given .1) (c .before .before .before .before .before .status-of .ensures) (c .before .before .before .before .fill-both .ensures)
 
--- src/lib.rt:66:1
 same-length-3 : tie.Need-same-length-3
 same-length-3 c = search needs
 
--- src/lib.rt:66:1
 same-length-4 : tie.Need-same-length-4
 same-length-4 c = search needs
 
--- src/lib.rt:66:1
 returns-2 : tie.Need-returns-2
 returns-2 c = shows-configuration (c .before .before .before .before .before .before .before .before .before .before .before .before .before .before .before .args .s) (c .before .before .before .before .before .before .before .before .before .before .before .before .before .before .before .args .c) (c .before .before .before .before .before .before .before .before .before .before .before .before .before .before .before .args .array .now) (c .before .before .before .before .before .before .before .before .before .before .before .before .before .before .before .args .security .now) (c .before .before .before .before .before .before .before .before .before .before .before .before .before .before .before .args .sent .now) (c .before .before .before .before .before .before .before .before .before .before .before .before .before .before .before .args .reply .now) (c .before .before .before .before .before .before .before .before .before .before .before .before .before .before .before .args .marks .now) _ _ _ (c .before .before .before .before .before .before .before .before .enum-told2 .given .1) (c .before .before .before .before .before .configuration-of .ensures) (c .before .before .before .before .fill-both2 .ensures)
 
--- src/lib.rt:66:1
 same-length-5 : tie.Need-same-length-5
 same-length-5 c = search needs
 
--- src/lib.rt:66:1
 same-length-6 : tie.Need-same-length-6
 same-length-6 c = search needs
 
--- src/lib.rt:66:1
 returns-3 : tie.Need-returns-3
 returns-3 c = shows-protection (c .before .before .before .before .before .before .before .before .before .before .before .before .before .before .before .args .s) (c .before .before .before .before .before .before .before .before .before .before .before .before .before .before .before .args .c) (c .before .before .before .before .before .before .before .before .before .before .before .before .before .before .before .args .array .now) (c .before .before .before .before .before .before .before .before .before .before .before .before .before .before .before .args .security .now) (c .before .before .before .before .before .before .before .before .before .before .before .before .before .before .before .args .sent .now) (c .before .before .before .before .before .before .before .before .before .before .before .before .before .before .before .args .reply .now) (c .before .before .before .before .before .before .before .before .before .before .before .before .before .before .before .args .marks .now) _ _ (c .before .before .before .before .before .before .before .before .enum-told3 .given .1) (c .before .before .before .before .before .before .read-protection .ensures) (c .before .before .mark-all .ensures)
 
--- src/lib.rt:66:1
 same-length-7 : tie.Need-same-length-7
 same-length-7 c = search needs
 
--- src/lib.rt:66:1
 same-length-8 : tie.Need-same-length-8
 same-length-8 c = search needs
 
--- src/lib.rt:66:1
 returns-4 : tie.Need-returns-4
 returns-4 c = shows-identity (c .before .before .before .before .before .before .before .before .before .before .before .before .before .before .before .args .s) (c .before .before .before .before .before .before .before .before .before .before .before .before .before .before .before .args .c) (c .before .before .before .before .before .before .before .before .before .before .before .before .before .before .before .args .array .now) (c .before .before .before .before .before .before .before .before .before .before .before .before .before .before .before .args .security .now) (c .before .before .before .before .before .before .before .before .before .before .before .before .before .before .before .args .sent .now) (c .before .before .before .before .before .before .before .before .before .before .before .before .before .before .before .args .reply .now) (c .before .before .before .before .before .before .before .before .before .before .before .before .before .before .before .args .marks .now) _ _ (c .before .before .before .before .before .before .before .before .enum-told4 .given .1) (c .before .before .before .before .before .before .read-identity .ensures) (c .before .before .mark-all2 .ensures)
 
--- src/lib.rt:66:1
 same-length-9 : tie.Need-same-length-9
 same-length-9 c = search needs
 
--- src/lib.rt:66:1
 same-length-10 : tie.Need-same-length-10
 same-length-10 c = search needs
 
--- src/lib.rt:66:1
 returns-5 : tie.Need-returns-5
 returns-5 c = shows-array (c .before .before .before .before .before .before .before .before .before .before .before .before .before .before .before .before .args .s) (c .before .before .before .before .before .before .before .before .before .before .before .before .before .before .before .before .args .c) (c .before .before .before .before .before .before .before .before .before .before .before .before .before .before .before .before .args .array .now) (c .before .before .before .before .before .before .before .before .before .before .before .before .before .before .before .before .args .security .now) (c .before .before .before .before .before .before .before .before .before .before .before .before .before .before .before .before .args .sent .now) (c .before .before .before .before .before .before .before .before .before .before .before .before .before .before .before .before .args .reply .now) (c .before .before .before .before .before .before .before .before .before .before .before .before .before .before .before .before .args .marks .now) _ _ _ _ (c .before .before .before .before .before .before .before .before .before .enum-told5 .given .1) (c .before .before .before .before .before .before .before .before .array-range .ensures) (c .before .before .before .before .before .before .before .address-of .ensures) (c .before .before .before .before .read-array .ensures .0) (c .before .before .before .before .read-array .ensures .1)
 
--- src/lib.rt:66:1
 same-length-11 : tie.Need-same-length-11
 same-length-11 c = search needs
 
--- src/lib.rt:66:1
 same-length-12 : tie.Need-same-length-12
 same-length-12 c = search needs
 
--- src/lib.rt:66:1
 returns-6 : tie.Need-returns-6
 returns-6 c = shows-security (c .before .before .before .before .before .before .before .before .before .before .before .before .before .before .before .before .args .s) (c .before .before .before .before .before .before .before .before .before .before .before .before .before .before .before .before .args .c) (c .before .before .before .before .before .before .before .before .before .before .before .before .before .before .before .before .args .array .now) (c .before .before .before .before .before .before .before .before .before .before .before .before .before .before .before .before .args .security .now) (c .before .before .before .before .before .before .before .before .before .before .before .before .before .before .before .before .args .sent .now) (c .before .before .before .before .before .before .before .before .before .before .before .before .before .before .before .before .args .reply .now) (c .before .before .before .before .before .before .before .before .before .before .before .before .before .before .before .before .args .marks .now) _ _ _ (c .before .before .before .before .before .before .before .before .before .enum-told6 .given .1) (c .before .before .before .before .before .before .before .before .security-address-of .ensures) (c .before .before .before .before .before .before .read-security .ensures) (c .before .before .mark-all3 .ensures)
 

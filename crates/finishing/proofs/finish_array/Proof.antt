@@ -1,6 +1,4 @@
 -- Erases and page programs patch their range; other work leaves the array. Assumes nothing.
-use Prim.Native.Nat.{_*_}
-use mathlib.Core.Path.{_≡_, refl}
 use mathlib.Core.Bool.{true, false}
 use Rattle.rules.specs.Words.{lent}
 use Rattle.blocks.proofs.Ranges.{sector-number, block-number, page-number}
@@ -9,73 +7,52 @@ use native.Mathlib.Omega.{arith}
 use borrow.Author.Needs.{needs}
 use Rattle.finishing.proofs.finish_array.Statement.{statement}
 use Rattle.finishing.proofs.finish_array.Tie as tie
-use Rattle.finishing.proofs.finish_array.Reads as reads
-use Rattle.finishing.proofs.finish_array.Lts as lts
-use Rattle.blocks.proofs.block_at.Reads as block-at-reads
-use Rattle.memory.proofs.clear_bits.Reads as clear-bits-reads
-use Rattle.memory.proofs.set_all.Reads as set-all-reads
-use Rattle.memory.proofs.smaller.Reads as smaller-reads
 
 enum-told : tie.Need-enum-told
 enum-told c = search needs
 
--- src/lib.rt:17:27
 enum-known-w : tie.Need-enum-known-w
 enum-known-w c = search needs
 
--- src/lib.rt:18:17
 smaller-requires : tie.Need-smaller-requires
 smaller-requires c κs = search needs
 
--- src/lib.rt:19:36
 mul-set-all : tie.Need-mul-set-all
 mul-set-all c = let h = sector-number _ _ (c .before .before .before .w .given .1) (c .before .before .before .before .before .before .pre .0) in omega arith
 
--- src/lib.rt:19:13
 set-all-requires : tie.Need-set-all-requires
 set-all-requires c κs = let h = sector-number _ _ (c .before .before .before .w .given .1) (c .before .before .before .before .before .before .pre .0) in let m = c .before .smaller .ensures in let l = c .before .before .before .before .before .before .pre .1 in omega arith
 
--- src/lib.rt:21:26
 enum-known-w-2 : tie.Need-enum-known-w-2
 enum-known-w-2 c = search needs
 
--- src/lib.rt:22:17
 block-at-requires : tie.Need-block-at-requires
 block-at-requires c κs = block-number _ _ (c .before .w2 .given .1) (c .before .before .before .before .pre .0)
 
--- src/lib.rt:23:17
 smaller-requires-2 : tie.Need-smaller-requires-2
 smaller-requires-2 c κs = search needs
 
--- src/lib.rt:24:13
 set-all-requires-2 : tie.Need-set-all-requires-2
 set-all-requires-2 c κs = let h = block-fits _ _ (block-number _ _ (c .before .before .before .before .w2 .given .1) (c .before .before .before .before .before .before .before .pre .0)) (c .before .before .block-at .ensures) in let m = c .before .smaller2 .ensures in let l = c .before .before .before .before .before .before .before .pre .1 in omega arith
 
--- src/lib.rt:27:17
 enum-told-2 : tie.Need-enum-told-2
 enum-told-2 c = search needs
 
--- src/lib.rt:27:17
 smaller-requires-3 : tie.Need-smaller-requires-3
 smaller-requires-3 c κs = search needs
 
--- src/lib.rt:28:13
 set-all-requires-3 : tie.Need-set-all-requires-3
 set-all-requires-3 c κs = search needs
 
--- src/lib.rt:30:27
 enum-known-w-3 : tie.Need-enum-known-w-3
 enum-known-w-3 c = search needs
 
--- src/lib.rt:31:17
 smaller-requires-4 : tie.Need-smaller-requires-4
 smaller-requires-4 c κs = search needs
 
--- src/lib.rt:32:39
 mul-clear-bits : tie.Need-mul-clear-bits
 mul-clear-bits c = let h = page-number _ _ (c .before .before .before .w3 .given .1) (c .before .before .before .before .before .before .pre .0) in omega arith
 
--- src/lib.rt:32:13
 clear-bits-requires : tie.Need-clear-bits-requires
 clear-bits-requires c κs = let h = page-number _ _ (c .before .before .before .w3 .given .1) (c .before .before .before .before .before .before .pre .0) in let m = c .before .smaller4 .ensures in let l = c .before .before .before .before .before .before .pre .1 in (omega arith, omega arith)
 
@@ -91,55 +68,42 @@ enum-told-5 c = search needs
 enum-told-6 : tie.Need-enum-told-6
 enum-told-6 c = search needs
 
--- src/lib.rt:11:1
 returns : tie.Need-returns
 returns c = in-array (c .before .before .before .args .w) _ (c .before .before .before .args .buffer .now) (c .before .before .before .args .k) (lent (c .before .before .before .args .array .now)) _ (c .enum-told .given .1) (nowhere-finishes _ (c .before .before .before .args .buffer .now) (c .before .before .before .args .array .now) (c .before .before .before .args .k))
 
--- src/lib.rt:11:1
 same-length : tie.Need-same-length
 same-length c = search needs
 
--- src/lib.rt:11:1
 returns-2 : tie.Need-returns-2
 returns-2 c = in-array (c .before .before .before .before .before .before .before .before .before .args .w) _ (c .before .before .before .before .before .before .before .before .before .args .buffer .now) (c .before .before .before .before .before .before .before .before .before .args .k) (lent (c .before .before .before .before .before .before .before .before .before .args .array .now)) _ (c .before .before .before .before .before .before .w .given .1) (patch-finishes true _ 4096 (c .before .before .before .before .before .before .before .before .before .args .k) _ (c .before .before .before .before .before .before .before .before .before .args .buffer .now) _ _ (c .before .before .before .before .smaller .ensures) (c .before .before .set-all .ensures))
 
--- src/lib.rt:11:1
 same-length-2 : tie.Need-same-length-2
 same-length-2 c = search needs
 
--- src/lib.rt:11:1
 returns-3 : tie.Need-returns-3
 returns-3 c = in-array (c .before .before .before .before .before .before .before .before .before .before .args .w) _ (c .before .before .before .before .before .before .before .before .before .before .args .buffer .now) (c .before .before .before .before .before .before .before .before .before .before .args .k) (lent (c .before .before .before .before .before .before .before .before .before .before .args .array .now)) _ (c .before .before .before .before .before .before .before .w2 .given .1) (block-finishes _ (c .before .before .before .before .before .before .before .before .before .before .args .k) _ _ (c .before .before .before .before .before .before .before .before .before .before .args .buffer .now) _ _ (c .before .before .before .before .before .block-at .ensures) (c .before .before .before .before .smaller2 .ensures) (c .before .before .set-all2 .ensures))
 
--- src/lib.rt:11:1
 same-length-3 : tie.Need-same-length-3
 same-length-3 c = search needs
 
--- src/lib.rt:11:1
 returns-4 : tie.Need-returns-4
 returns-4 c = in-array (c .before .before .before .before .before .before .before .before .args .w) _ (c .before .before .before .before .before .before .before .before .args .buffer .now) (c .before .before .before .before .before .before .before .before .args .k) (lent (c .before .before .before .before .before .before .before .before .args .array .now)) _ (c .before .before .before .before .before .enum-told2 .given .1) (patch-finishes true 0 2097152 (c .before .before .before .before .before .before .before .before .args .k) _ (c .before .before .before .before .before .before .before .before .args .buffer .now) _ _ (c .before .before .before .before .smaller3 .ensures) (c .before .before .set-all3 .ensures))
 
--- src/lib.rt:11:1
 same-length-4 : tie.Need-same-length-4
 same-length-4 c = search needs
 
--- src/lib.rt:11:1
 returns-5 : tie.Need-returns-5
 returns-5 c = in-array (c .before .before .before .before .before .before .before .before .before .args .w) _ (c .before .before .before .before .before .before .before .before .before .args .buffer .now) (c .before .before .before .before .before .before .before .before .before .args .k) (lent (c .before .before .before .before .before .before .before .before .before .args .array .now)) _ (c .before .before .before .before .before .before .w3 .given .1) (patch-finishes false _ 256 (c .before .before .before .before .before .before .before .before .before .args .k) _ (c .before .before .before .before .before .before .before .before .before .args .buffer .now) _ _ (c .before .before .before .before .smaller4 .ensures) (c .before .before .clear-bits .ensures))
 
--- src/lib.rt:11:1
 returns-6 : tie.Need-returns-6
 returns-6 c = in-array (c .before .before .before .args .w) _ (c .before .before .before .args .buffer .now) (c .before .before .before .args .k) (lent (c .before .before .before .args .array .now)) _ (c .enum-told3 .given .1) (nowhere-finishes _ (c .before .before .before .args .buffer .now) (c .before .before .before .args .array .now) (c .before .before .before .args .k))
 
--- src/lib.rt:11:1
 returns-7 : tie.Need-returns-7
 returns-7 c = in-array (c .before .before .before .args .w) _ (c .before .before .before .args .buffer .now) (c .before .before .before .args .k) (lent (c .before .before .before .args .array .now)) _ (c .enum-told4 .given .1) (nowhere-finishes _ (c .before .before .before .args .buffer .now) (c .before .before .before .args .array .now) (c .before .before .before .args .k))
 
--- src/lib.rt:11:1
 returns-8 : tie.Need-returns-8
 returns-8 c = in-array (c .before .before .before .args .w) _ (c .before .before .before .args .buffer .now) (c .before .before .before .args .k) (lent (c .before .before .before .args .array .now)) _ (c .enum-told5 .given .1) (nowhere-finishes _ (c .before .before .before .args .buffer .now) (c .before .before .before .args .array .now) (c .before .before .before .args .k))
 
--- src/lib.rt:11:1
 returns-9 : tie.Need-returns-9
 returns-9 c = in-array (c .before .before .before .args .w) _ (c .before .before .before .args .buffer .now) (c .before .before .before .args .k) (lent (c .before .before .before .args .array .now)) _ (c .enum-told6 .given .1) (nowhere-finishes _ (c .before .before .before .args .buffer .now) (c .before .before .before .args .array .now) (c .before .before .before .args .k))
 

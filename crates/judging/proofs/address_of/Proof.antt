@@ -1,54 +1,39 @@
 -- Three bytes, each below 256, highest first. Assumes nothing.
-use mathlib.Core.Path.{_≡_, refl}
 use native.Mathlib.Omega.{arith}
 use borrow.Author.Needs.{needs}
 use Rattle.judging.proofs.address_of.Statement.{statement}
 use Rattle.judging.proofs.address_of.Tie as tie
-use Rattle.judging.proofs.address_of.Reads as reads
-use Rattle.judging.proofs.address_of.Lts as lts
-use Rattle.judging.proofs.wide.Reads as wide-reads
 
--- src/lib.rt:34:11
 shared-slice-read-wide : tie.Need-shared-slice-read-wide
 shared-slice-read-wide c = search needs
 
--- src/lib.rt:34:6
 wide-requires : tie.Need-wide-requires
 wide-requires c κs = search needs
 
--- src/lib.rt:34:6
 mul-result : tie.Need-mul-result
 mul-result c = omega (arith, c .wide .ensures, c .before .before .shared-slice-known .given 1)
 
--- src/lib.rt:34:35
 shared-slice-read-wide-2 : tie.Need-shared-slice-read-wide-2
 shared-slice-read-wide-2 c = search needs
 
--- src/lib.rt:34:30
 wide-requires-2 : tie.Need-wide-requires-2
 wide-requires-2 c κs = search needs
 
--- src/lib.rt:34:30
 mul-result-2 : tie.Need-mul-result-2
 mul-result-2 c = omega (arith, c .wide2 .ensures, c .before .before .before .before .shared-slice-known .given 2)
 
--- src/lib.rt:34:6
 add-result : tie.Need-add-result
 add-result c = omega (arith, c .before .before .wide .ensures, c .before .before .before .before .shared-slice-known .given 1, c .wide2 .ensures, c .before .before .before .before .shared-slice-known .given 2)
 
--- src/lib.rt:34:57
 shared-slice-read-wide-3 : tie.Need-shared-slice-read-wide-3
 shared-slice-read-wide-3 c = search needs
 
--- src/lib.rt:34:52
 wide-requires-3 : tie.Need-wide-requires-3
 wide-requires-3 c κs = search needs
 
--- src/lib.rt:34:6
 add-result-2 : tie.Need-add-result-2
 add-result-2 c = omega (arith, c .before .before .before .before .wide .ensures, c .before .before .before .before .before .before .shared-slice-known .given 1, c .before .before .wide2 .ensures, c .before .before .before .before .before .before .shared-slice-known .given 2, c .wide3 .ensures, c .before .before .before .before .before .before .shared-slice-known .given 3)
 
--- src/lib.rt:30:1
 returns : tie.Need-returns
 returns c = rw (c .before .before .before .before .wide .ensures, c .before .before .wide2 .ensures, c .wide3 .ensures)
 

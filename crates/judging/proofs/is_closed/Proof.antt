@@ -1,129 +1,96 @@
 -- Each kind has its test. Assumes nothing.
-use mathlib.Core.Path.{_≡_, refl, sym, ap, _∙_}
+use mathlib.Core.Path.{sym, ap, _∙_}
 use Rattle.rules.specs.declared.Kind.{Kind}
 use Rattle.judging.specs.ByKind.{closedBy}
 use Rattle.judging.proofs.Judged.{kind-length}
-use native.Mathlib.Omega.{arith}
 use borrow.Author.Needs.{needs}
 use Rattle.judging.proofs.is_closed.Statement.{statement}
 use Rattle.judging.proofs.is_closed.Tie as tie
-use Rattle.judging.proofs.is_closed.Reads as reads
-use Rattle.judging.proofs.is_closed.Lts as lts
-use Rattle.judging.proofs.start_closed.Reads as start-closed-reads
 
--- src/lib.rt:169:26
 enum-told : tie.Need-enum-told
 enum-told c = search needs
 
--- src/lib.rt:170:30
 enum-told-2 : tie.Need-enum-told-2
 enum-told-2 c = search needs
 
--- src/lib.rt:171:24
 enum-told-3 : tie.Need-enum-told-3
 enum-told-3 c = search needs
 
--- src/lib.rt:172:24
 enum-told-4 : tie.Need-enum-told-4
 enum-told-4 c = search needs
 
--- src/lib.rt:173:24
 enum-told-5 : tie.Need-enum-told-5
 enum-told-5 c = search needs
 
--- src/lib.rt:174:26
 enum-told-6 : tie.Need-enum-told-6
 enum-told-6 c = search needs
 
--- src/lib.rt:175:25
 enum-told-7 : tie.Need-enum-told-7
 enum-told-7 c = search needs
 
--- src/lib.rt:176:27
 enum-told-8 : tie.Need-enum-told-8
 enum-told-8 c = search needs
 
--- src/lib.rt:177:21
 enum-known-k : tie.Need-enum-known-k
 enum-known-k c = search needs
 
--- src/lib.rt:177:27
 start-closed-requires : tie.Need-start-closed-requires
 start-closed-requires c κs = (kind-length _ _ (c .before .before .before .before .args .sent .now) (c .before .k .given .1) (c .before .before .before .before .pre .0), c .before .before .before .before .pre .1)
 
--- src/lib.rt:178:34
 enum-told-9 : tie.Need-enum-told-9
 enum-told-9 c = search needs
 
--- src/lib.rt:179:27
 enum-told-10 : tie.Need-enum-told-10
 enum-told-10 c = search needs
 
--- src/lib.rt:180:29
 enum-told-11 : tie.Need-enum-told-11
 enum-told-11 c = search needs
 
--- src/lib.rt:181:26
 enum-told-12 : tie.Need-enum-told-12
 enum-told-12 c = search needs
 
--- src/lib.rt:182:25
 enum-told-13 : tie.Need-enum-told-13
 enum-told-13 c = search needs
 
--- src/lib.rt:164:1
 returns : tie.Need-returns
 returns c = search needs
 
--- src/lib.rt:164:1
 returns-2 : tie.Need-returns-2
 returns-2 c = search needs
 
--- src/lib.rt:164:1
 returns-3 : tie.Need-returns-3
 returns-3 c = search needs
 
--- src/lib.rt:164:1
 returns-4 : tie.Need-returns-4
 returns-4 c = search needs
 
--- src/lib.rt:164:1
 returns-5 : tie.Need-returns-5
 returns-5 c = search needs
 
--- src/lib.rt:164:1
 returns-6 : tie.Need-returns-6
 returns-6 c = search needs
 
--- src/lib.rt:164:1
 returns-7 : tie.Need-returns-7
 returns-7 c = search needs
 
--- src/lib.rt:164:1
 returns-8 : tie.Need-returns-8
 returns-8 c = search needs
 
--- src/lib.rt:164:1
 returns-9 : tie.Need-returns-9
 returns-9 c = c .start-closed .ensures ∙ ap (λ (k : Kind). closedBy k (c .before .before .before .before .before .args .wpld) (c .before .before .before .before .before .args .sec) (c .before .before .before .before .before .args .sent .now)) (sym (c .before .before .k .given .1))
 
--- src/lib.rt:164:1
 returns-10 : tie.Need-returns-10
 returns-10 c = search needs
 
--- src/lib.rt:164:1
 returns-11 : tie.Need-returns-11
 returns-11 c = search needs
 
--- src/lib.rt:164:1
 returns-12 : tie.Need-returns-12
 returns-12 c = search needs
 
--- src/lib.rt:164:1
 returns-13 : tie.Need-returns-13
 returns-13 c = search needs
 
--- src/lib.rt:164:1
 returns-14 : tie.Need-returns-14
 returns-14 c = search needs
 

@@ -1,38 +1,27 @@
 -- Not listed, a wrong length, or the conditions after those. Assumes nothing.
-use mathlib.Core.Path.{_≡_, refl, sym, ap, _∙_}
+use mathlib.Core.Path.{sym, ap, _∙_}
 use borrow.Author.Tests.{not-true, not-false}
 use Rattle.rules.specs.declared.Form.{Form}
 use Rattle.judging.proofs.Judged.{not-listed, is-listed, length-known, after-listed, wrong-length, right-length}
-use native.Mathlib.Omega.{arith}
 use borrow.Author.Needs.{needs}
 use Rattle.judging.proofs.judge.Statement.{statement}
 use Rattle.judging.proofs.judge.Tie as tie
-use Rattle.judging.proofs.judge.Reads as reads
-use Rattle.judging.proofs.judge.Lts as lts
-use Rattle.judging.proofs.least_length.Reads as least-length-reads
-use Rattle.judging.proofs.length_right.Reads as length-right-reads
-use Rattle.judging.proofs.weigh.Reads as weigh-reads
 
--- src/lib.rt:302:8
 least-length-requires : tie.Need-least-length-requires
 least-length-requires c κs = search needs
 
--- src/lib.rt:303:9
 returns : tie.Need-returns
 returns c = not-listed (c .before .before .before .args .c) (c .before .before .before .args .op) (c .before .before .before .args .form) (c .before .before .before .args .sent .now) _ (c .before .before .before .pre) (c .before .least-length .ensures) (c .if1 .taken)
 
--- src/lib.rt:305:9
 length-right-requires : tie.Need-length-right-requires
 length-right-requires c κs = search needs
 
--- src/lib.rt:306:9
 returns-2 : tie.Need-returns-2
 returns-2 c = let a = c .before .before .before .before .before .args in
     let p = c .before .before .before .before .before .pre in
     after-listed (a .c) (a .op) (a .form) (a .sent .now) 4 p (is-listed (a .c) (a .op) (a .form) (a .sent .now) _ p (c .before .before .before .least-length .ensures) (c .before .before .if1 .left))
     (wrong-length (a .c) (a .op) (a .sent .now) _ (length-known (a .c) (a .op) (a .form) (a .sent .now) _ p (c .before .length-right .ensures)) (not-true _ (c .if2 .taken)))
 
--- src/lib.rt:309:5
 weigh-requires : tie.Need-weigh-requires
 weigh-requires c κs = let a = c .before .before .before .before .before .args in
     let p = c .before .before .before .before .before .pre in
@@ -44,7 +33,6 @@ weigh-requires c κs = let a = c .before .before .before .before .before .args i
       fits = p .fits;
     }
 
--- src/lib.rt:297:1
 returns-3 : tie.Need-returns-3
 returns-3 c = let a = c .before .before .before .before .before .before .args in
     let p = c .before .before .before .before .before .before .pre in

@@ -2,18 +2,12 @@
 use mathlib.Core.Path.{sym}
 use mathlib.Core.List.{[], _∷_}
 use Rattle.judging.proofs.Keys.{one-of, none-of}
-use borrow.Author.Needs.{needs}
-use native.Mathlib.Omega.{arith}
 use Rattle.judging.proofs.passes_busy.Statement.{statement}
 use Rattle.judging.proofs.passes_busy.Tie as tie
-use Rattle.judging.proofs.passes_busy.Reads as reads
-use Rattle.judging.proofs.passes_busy.Lts as lts
 
--- src/lib.rt:46:1
 returns : tie.Need-returns
 returns c = sym (one-of 0x05 (0x66 ∷ 0x99 ∷ 0xB0 ∷ []) (c .before .args .op) (c .match .keys1))
 
--- src/lib.rt:46:1
 returns-2 : tie.Need-returns-2
 returns-2 c = sym (none-of 0x05 (0x66 ∷ 0x99 ∷ 0xB0 ∷ []) (c .before .args .op) (c .match .rest .1))
 

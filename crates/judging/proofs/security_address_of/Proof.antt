@@ -1,38 +1,27 @@
 -- Two bytes, each below 256, highest first. Assumes nothing.
-use mathlib.Core.Path.{_≡_, refl}
 use native.Mathlib.Omega.{arith}
 use borrow.Author.Needs.{needs}
 use Rattle.judging.proofs.security_address_of.Statement.{statement}
 use Rattle.judging.proofs.security_address_of.Tie as tie
-use Rattle.judging.proofs.security_address_of.Reads as reads
-use Rattle.judging.proofs.security_address_of.Lts as lts
-use Rattle.judging.proofs.wide.Reads as wide-reads
 
--- src/lib.rt:42:11
 shared-slice-read-wide : tie.Need-shared-slice-read-wide
 shared-slice-read-wide c = search needs
 
--- src/lib.rt:42:6
 wide-requires : tie.Need-wide-requires
 wide-requires c κs = search needs
 
--- src/lib.rt:42:6
 mul-result : tie.Need-mul-result
 mul-result c = omega (arith, c .wide .ensures, c .before .before .shared-slice-known .given 1)
 
--- src/lib.rt:42:33
 shared-slice-read-wide-2 : tie.Need-shared-slice-read-wide-2
 shared-slice-read-wide-2 c = search needs
 
--- src/lib.rt:42:28
 wide-requires-2 : tie.Need-wide-requires-2
 wide-requires-2 c κs = search needs
 
--- src/lib.rt:42:6
 add-result : tie.Need-add-result
 add-result c = omega (arith, c .before .before .wide .ensures, c .before .before .before .before .shared-slice-known .given 1, c .wide2 .ensures, c .before .before .before .before .shared-slice-known .given 2)
 
--- src/lib.rt:38:1
 returns : tie.Need-returns
 returns c = rw (c .before .before .wide .ensures, c .wide2 .ensures)
 

@@ -1,174 +1,124 @@
 -- Each long command's test beside suspended work, from the ranges that were found. Assumes nothing.
-use mathlib.Core.Path.{_≡_, refl}
+use mathlib.Core.Path.{refl}
 use Rattle.judging.proofs.Judged.{long-length, found-inside, block-inside, sector-conflict, block-conflict, page-conflict}
-use native.Mathlib.Omega.{arith}
 use borrow.Author.Needs.{needs}
 use Rattle.judging.proofs.start_conflicts.Statement.{statement}
 use Rattle.judging.proofs.start_conflicts.Tie as tie
-use Rattle.judging.proofs.start_conflicts.Reads as reads
-use Rattle.judging.proofs.start_conflicts.Lts as lts
-use Rattle.blocks.proofs.array_range.Reads as array-range-reads
-use Rattle.blocks.proofs.block_at.Reads as block-at-reads
-use Rattle.blocks.proofs.block_of.Reads as block-of-reads
-use Rattle.blocks.proofs.holds_place.Reads as holds-place-reads
-use Rattle.judging.proofs.address_of.Reads as address-of-reads
-use Rattle.records.proofs.is_erase.Reads as is-erase-reads
-use Rattle.records.proofs.is_nothing.Reads as is-nothing-reads
-use Rattle.records.proofs.is_program.Reads as is-program-reads
 
--- src/lib.rt:80:17
 enum-told : tie.Need-enum-told
 enum-told c = search needs
 
--- src/lib.rt:80:17
 address-of-requires : tie.Need-address-of-requires
 address-of-requires c κs = long-length _ _ (c .before .before .before .args .sent .now) (c .enum-told .given .1) (c .before .before .before .pre .1)
 
--- src/lib.rt:81:17
 array-range-requires : tie.Need-array-range-requires
 array-range-requires c κs = search needs
 
--- src/lib.rt:83:24
 mul-t16 : tie.Need-mul-t16
 mul-t16 c = search needs
 
--- src/lib.rt:86:13
 is-erase-requires : tie.Need-is-erase-requires
 is-erase-requires c κs = search needs
 
--- src/lib.rt:86:36
 is-program-requires : tie.Need-is-program-requires
 is-program-requires c κs = search needs
 
--- src/lib.rt:86:61
 holds-place-requires : tie.Need-holds-place-requires
 holds-place-requires c κs = search needs
 
--- src/lib.rt:89:17
 enum-told-2 : tie.Need-enum-told-2
 enum-told-2 c = search needs
 
--- src/lib.rt:89:17
 address-of-requires-2 : tie.Need-address-of-requires-2
 address-of-requires-2 c κs = long-length _ _ (c .before .before .before .args .sent .now) (c .enum-told2 .given .1) (c .before .before .before .pre .1)
 
--- src/lib.rt:90:17
 array-range-requires-2 : tie.Need-array-range-requires-2
 array-range-requires-2 c κs = search needs
 
--- src/lib.rt:91:17
 block-of-requires : tie.Need-block-of-requires
 block-of-requires c κs = search needs
 
--- src/lib.rt:92:17
 block-at-requires : tie.Need-block-at-requires
 block-at-requires c κs = block-inside _ _ _ (c .before .before .before .before .before .before .args .sent .now) (c .before .before .address-of2 .ensures) (c .block-of .ensures) refl .0
 
--- src/lib.rt:97:13
 is-erase-requires-2 : tie.Need-is-erase-requires-2
 is-erase-requires-2 c κs = search needs
 
--- src/lib.rt:97:36
 is-program-requires-2 : tie.Need-is-program-requires-2
 is-program-requires-2 c κs = search needs
 
--- src/lib.rt:97:61
 holds-place-requires-2 : tie.Need-holds-place-requires-2
 holds-place-requires-2 c κs = block-inside _ _ _ (c .before .before .before .before .before .before .before .before .before .args .sent .now) (c .before .before .before .before .before .address-of2 .ensures) (c .before .before .before .block-of .ensures) (c .before .before .block-at .ensures) .1
 
--- src/lib.rt:99:25
 enum-told-3 : tie.Need-enum-told-3
 enum-told-3 c = search needs
 
--- src/lib.rt:99:25
 is-nothing-requires : tie.Need-is-nothing-requires
 is-nothing-requires c κs = search needs
 
--- src/lib.rt:101:17
 enum-told-4 : tie.Need-enum-told-4
 enum-told-4 c = search needs
 
--- src/lib.rt:101:17
 address-of-requires-3 : tie.Need-address-of-requires-3
 address-of-requires-3 c κs = long-length _ _ (c .before .before .before .args .sent .now) (c .enum-told4 .given .1) (c .before .before .before .pre .1)
 
--- src/lib.rt:102:17
 array-range-requires-3 : tie.Need-array-range-requires-3
 array-range-requires-3 c κs = search needs
 
--- src/lib.rt:103:13
 is-erase-requires-3 : tie.Need-is-erase-requires-3
 is-erase-requires-3 c κs = search needs
 
--- src/lib.rt:103:36
 holds-place-requires-3 : tie.Need-holds-place-requires-3
 holds-place-requires-3 c κs = found-inside (c .before .before .before .before .before .before .args .s) _ (c .before .before .before .before .before .before .pre .0) (c .before .array-range3 .ensures)
 
--- src/lib.rt:103:68
 is-program-requires-3 : tie.Need-is-program-requires-3
 is-program-requires-3 c κs = search needs
 
--- src/lib.rt:105:32
 enum-told-5 : tie.Need-enum-told-5
 enum-told-5 c = search needs
 
--- src/lib.rt:105:32
 is-nothing-requires-2 : tie.Need-is-nothing-requires-2
 is-nothing-requires-2 c κs = search needs
 
--- src/lib.rt:106:32
 enum-told-6 : tie.Need-enum-told-6
 enum-told-6 c = search needs
 
--- src/lib.rt:106:32
 is-nothing-requires-3 : tie.Need-is-nothing-requires-3
 is-nothing-requires-3 c κs = search needs
 
--- src/lib.rt:107:33
 enum-told-7 : tie.Need-enum-told-7
 enum-told-7 c = search needs
 
--- src/lib.rt:107:33
 is-nothing-requires-4 : tie.Need-is-nothing-requires-4
 is-nothing-requires-4 c κs = search needs
 
--- src/lib.rt:108:29
 enum-told-8 : tie.Need-enum-told-8
 enum-told-8 c = search needs
 
--- src/lib.rt:108:29
 is-nothing-requires-5 : tie.Need-is-nothing-requires-5
 is-nothing-requires-5 c κs = search needs
 
--- src/lib.rt:74:1
 returns : tie.Need-returns
 returns c = sector-conflict (c .before .before .before .before .before .before .before .before .args .sent .now) (c .before .before .before .before .before .before .before .before .args .s) _ _ _ _ _ (c .before .before .before .before .address-of .ensures) (c .before .before .before .array-range .ensures) (c .before .before .is-erase .ensures) (c .before .is-program .ensures) _ (c .before .before .before .before .before .enum-told .given .1) (c .holds-place .ensures)
 
--- src/lib.rt:74:1
 returns-2 : tie.Need-returns-2
 returns-2 c = block-conflict (c .before .before .before .before .before .before .before .before .before .before .args .sent .now) (c .before .before .before .before .before .before .before .before .before .before .args .s) _ _ _ _ _ (c .before .before .before .before .before .before .address-of2 .ensures) (c .before .before .before .before .before .array-range2 .ensures) (c .before .before .is-erase2 .ensures) (c .before .is-program2 .ensures) _ _ _ (c .before .before .before .before .before .before .before .enum-told2 .given .1) (c .before .before .before .before .block-of .ensures) (c .before .before .before .block-at .ensures) (c .holds-place2 .ensures)
 
--- src/lib.rt:74:1
 returns-3 : tie.Need-returns-3
 returns-3 c = search needs
 
--- src/lib.rt:74:1
 returns-4 : tie.Need-returns-4
 returns-4 c = page-conflict (c .before .before .before .before .before .before .before .before .args .sent .now) (c .before .before .before .before .before .before .before .before .args .s) _ _ _ _ _ (c .before .before .before .before .address-of3 .ensures) (c .before .before .before .array-range3 .ensures) (c .before .before .is-erase3 .ensures) (c .is-program3 .ensures) _ (c .before .before .before .before .before .enum-told4 .given .1) (c .before .holds-place3 .ensures)
 
--- src/lib.rt:74:1
 returns-5 : tie.Need-returns-5
 returns-5 c = search needs
 
--- src/lib.rt:74:1
 returns-6 : tie.Need-returns-6
 returns-6 c = search needs
 
--- src/lib.rt:74:1
 returns-7 : tie.Need-returns-7
 returns-7 c = search needs
 
--- src/lib.rt:74:1
 returns-8 : tie.Need-returns-8
 returns-8 c = search needs
 

@@ -1,104 +1,76 @@
 -- A sector, a block and a page have the lock of their address; the array has every lock. Assumes nothing.
-use Prim.Native.Nat.{ℕ}
-use mathlib.Core.Path.{_≡_, refl, sym, ap, _∙_}
+use mathlib.Core.Path.{sym, ap, _∙_}
 use Rattle.rules.specs.declared.Long.{Long}
 use Rattle.rules.specs.Blocks.{writeLocked}
 use Rattle.judging.specs.ByKind.{startLocked}
 use Rattle.judging.proofs.Judged.{long-length}
-use native.Mathlib.Omega.{arith}
 use borrow.Author.Needs.{needs}
 use Rattle.judging.proofs.start_locked.Statement.{statement}
 use Rattle.judging.proofs.start_locked.Tie as tie
-use Rattle.judging.proofs.start_locked.Reads as reads
-use Rattle.judging.proofs.start_locked.Lts as lts
-use Rattle.blocks.proofs.write_locked.Reads as write-locked-reads
-use Rattle.judging.proofs.address_of.Reads as address-of-reads
 
--- src/lib.rt:192:49
 enum-told : tie.Need-enum-told
 enum-told c = search needs
 
--- src/lib.rt:192:49
 address-of-requires : tie.Need-address-of-requires
 address-of-requires c κs = long-length _ _ (c .before .before .before .args .sent .now) (c .enum-told .given .1) (c .before .before .before .pre)
 
--- src/lib.rt:192:25
 write-locked-requires : tie.Need-write-locked-requires
 write-locked-requires c κs = search needs
 
--- src/lib.rt:193:48
 enum-told-2 : tie.Need-enum-told-2
 enum-told-2 c = search needs
 
--- src/lib.rt:193:48
 address-of-requires-2 : tie.Need-address-of-requires-2
 address-of-requires-2 c κs = long-length _ _ (c .before .before .before .args .sent .now) (c .enum-told2 .given .1) (c .before .before .before .pre)
 
--- src/lib.rt:193:24
 write-locked-requires-2 : tie.Need-write-locked-requires-2
 write-locked-requires-2 c κs = search needs
 
--- src/lib.rt:194:24
 enum-told-3 : tie.Need-enum-told-3
 enum-told-3 c = search needs
 
--- src/lib.rt:195:47
 enum-told-4 : tie.Need-enum-told-4
 enum-told-4 c = search needs
 
--- src/lib.rt:195:47
 address-of-requires-3 : tie.Need-address-of-requires-3
 address-of-requires-3 c κs = long-length _ _ (c .before .before .before .args .sent .now) (c .enum-told4 .given .1) (c .before .before .before .pre)
 
--- src/lib.rt:195:23
 write-locked-requires-3 : tie.Need-write-locked-requires-3
 write-locked-requires-3 c κs = search needs
 
--- src/lib.rt:196:31
 enum-told-5 : tie.Need-enum-told-5
 enum-told-5 c = search needs
 
--- src/lib.rt:197:31
 enum-told-6 : tie.Need-enum-told-6
 enum-told-6 c = search needs
 
--- src/lib.rt:198:32
 enum-told-7 : tie.Need-enum-told-7
 enum-told-7 c = search needs
 
--- src/lib.rt:199:28
 enum-told-8 : tie.Need-enum-told-8
 enum-told-8 c = search needs
 
--- src/lib.rt:187:1
 returns : tie.Need-returns
 returns c = c .write-locked .ensures ∙ ap (writeLocked (c .before .before .before .before .before .args .p)) (c .before .address-of .ensures) ∙ ap (λ (l : Long). startLocked l (c .before .before .before .before .before .args .p) (c .before .before .before .before .before .args .sent .now)) (sym (c .before .before .enum-told .given .1))
 
--- src/lib.rt:187:1
 returns-2 : tie.Need-returns-2
 returns-2 c = c .write-locked2 .ensures ∙ ap (writeLocked (c .before .before .before .before .before .args .p)) (c .before .address-of2 .ensures) ∙ ap (λ (l : Long). startLocked l (c .before .before .before .before .before .args .p) (c .before .before .before .before .before .args .sent .now)) (sym (c .before .before .enum-told2 .given .1))
 
--- src/lib.rt:187:1
 returns-3 : tie.Need-returns-3
 returns-3 c = ap (λ (l : Long). startLocked l (c .before .before .before .args .p) (c .before .before .before .args .sent .now)) (sym (c .enum-told3 .given .1))
 
--- src/lib.rt:187:1
 returns-4 : tie.Need-returns-4
 returns-4 c = c .write-locked3 .ensures ∙ ap (writeLocked (c .before .before .before .before .before .args .p)) (c .before .address-of3 .ensures) ∙ ap (λ (l : Long). startLocked l (c .before .before .before .before .before .args .p) (c .before .before .before .before .before .args .sent .now)) (sym (c .before .before .enum-told4 .given .1))
 
--- src/lib.rt:187:1
 returns-5 : tie.Need-returns-5
 returns-5 c = search needs
 
--- src/lib.rt:187:1
 returns-6 : tie.Need-returns-6
 returns-6 c = search needs
 
--- src/lib.rt:187:1
 returns-7 : tie.Need-returns-7
 returns-7 c = search needs
 
--- src/lib.rt:187:1
 returns-8 : tie.Need-returns-8
 returns-8 c = search needs
 

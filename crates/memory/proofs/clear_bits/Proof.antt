@@ -1,6 +1,6 @@
 -- The loop patches the slice from `from` on: a byte that it has not reached is still the old one. Assumes nothing.
 use Prim.Native.Nat.{ℕ, _≤_, _-_, _+_}
-use mathlib.Core.Path.{_≡_, refl, sym, ap}
+use mathlib.Core.Path.{_≡_, sym, ap}
 use lib.ListN.{length, getD}
 use lib.Bits.{bitAnd}
 use Rattle.memory.specs.Patched.{Patched}
@@ -9,8 +9,6 @@ use borrow.Author.Needs.{needs}
 use native.Mathlib.Omega.{arith}
 use Rattle.memory.proofs.clear_bits.Statement.{statement}
 use Rattle.memory.proofs.clear_bits.Tie as tie
-use Rattle.memory.proofs.clear_bits.Reads as reads
-use Rattle.memory.proofs.clear_bits.Lts as lts
 
 abbrev Inv-loop : tie.InvT-loop
 Inv-loop s₀ from n buffer i₀ s i = record { low : i ≤ n; fits : from + n ≤ length s₀; small : n ≤ 256; is : Patched s s₀ from i (λ k. bitAnd (getD s₀ (from + k) 0) (getD buffer k 0)) }
@@ -18,39 +16,30 @@ Inv-loop s₀ from n buffer i₀ s i = record { low : i ≤ n; fits : from + n �
 abbrev μ-loop : tie.MeasureT-loop
 μ-loop s₀ from n buffer i₀ s i = n - i
 
--- src/lib.rt:40:5
 loop-holds : tie.Need-loop-holds Inv-loop μ-loop
 loop-holds c = record { low = omega arith; fits = c .pre .0; small = c .pre .1; is = patched-none _ _ _ }
 
--- src/lib.rt:41:25
 add-s : tie.Need-add-s Inv-loop μ-loop
 add-s c = search needs
 
--- src/lib.rt:41:23
 slice-read-s : tie.Need-slice-read-s Inv-loop μ-loop
 slice-read-s c = let h = c .before .before .loop .inv .is .size in omega arith
 
--- src/lib.rt:41:37
 element-copy-out-s : tie.Need-element-copy-out-s Inv-loop μ-loop
 element-copy-out-s c = search needs
 
--- src/lib.rt:41:11
 add-s-2 : tie.Need-add-s-2 Inv-loop μ-loop
 add-s-2 c = search needs
 
--- src/lib.rt:41:9
 slice-write-s : tie.Need-slice-write-s Inv-loop μ-loop
 slice-write-s c = let h = c .before .before .before .loop .inv .is .size in omega arith
 
--- src/lib.rt:42:9
 add-i : tie.Need-add-i Inv-loop μ-loop
 add-i c = search needs
 
--- src/lib.rt:40:5
 loop-less : tie.Need-loop-less Inv-loop μ-loop
 loop-less c = omega arith
 
--- src/lib.rt:40:5
 loop-again : tie.Need-loop-again Inv-loop μ-loop
 loop-again c = let l = c .before .before .before .loop in
     let a = c .before .before .before .before .args in
@@ -62,11 +51,9 @@ loop-again c = let l = c .before .before .before .loop in
           (ap (λ (x : ℕ). bitAnd x (getD (a .buffer .now) (l .i) 0)) (patched-next (l .s) (a .s .now) (a .from) (l .i) _ (l .inv .is)));
     }
 
--- src/lib.rt:35:1
 same-length : tie.Need-same-length Inv-loop μ-loop
 same-length c = c .before .loop .inv .is .size
 
--- src/lib.rt:35:1
 returns : tie.Need-returns Inv-loop μ-loop
 returns c = let e : c .before .loop .i ≡ c .before .before .args .n = omega arith in rw (sym e) (c .before .loop .inv .is)
 

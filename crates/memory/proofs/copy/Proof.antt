@@ -1,6 +1,6 @@
 -- The loop patches the slice from `from` on with the bytes of `src`, one a turn. Assumes nothing.
 use Prim.Native.Nat.{_≤_, _-_, _+_}
-use mathlib.Core.Path.{_≡_, refl, sym, ap}
+use mathlib.Core.Path.{_≡_, refl, sym}
 use lib.ListN.{length, getD}
 use Rattle.memory.specs.Patched.{Patched}
 use Rattle.memory.proofs.Patched.{patched-none, patched-more}
@@ -8,8 +8,6 @@ use borrow.Author.Needs.{needs}
 use native.Mathlib.Omega.{arith}
 use Rattle.memory.proofs.copy.Statement.{statement}
 use Rattle.memory.proofs.copy.Tie as tie
-use Rattle.memory.proofs.copy.Reads as reads
-use Rattle.memory.proofs.copy.Lts as lts
 
 abbrev Inv-loop : tie.InvT-loop
 Inv-loop s₀ from n src at i₀ s i = record { low : i ≤ n; fits : from + n ≤ length s₀; is : Patched s s₀ from i (λ k. getD src (at + k) 0) }
@@ -17,35 +15,27 @@ Inv-loop s₀ from n src at i₀ s i = record { low : i ≤ n; fits : from + n �
 abbrev μ-loop : tie.MeasureT-loop
 μ-loop s₀ from n src at i₀ s i = n - i
 
--- src/lib.rt:28:5
 loop-holds : tie.Need-loop-holds Inv-loop μ-loop
 loop-holds c = record { low = omega arith; fits = c .pre .0; is = patched-none _ _ _ }
 
--- src/lib.rt:29:27
 add-s : tie.Need-add-s Inv-loop μ-loop
 add-s c = search needs
 
--- src/lib.rt:29:23
 shared-slice-read-s : tie.Need-shared-slice-read-s Inv-loop μ-loop
 shared-slice-read-s c = search needs
 
--- src/lib.rt:29:11
 add-s-2 : tie.Need-add-s-2 Inv-loop μ-loop
 add-s-2 c = search needs
 
--- src/lib.rt:29:9
 slice-write-s : tie.Need-slice-write-s Inv-loop μ-loop
 slice-write-s c = let h = c .before .before .loop .inv .is .size in omega arith
 
--- src/lib.rt:30:9
 add-i : tie.Need-add-i Inv-loop μ-loop
 add-i c = search needs
 
--- src/lib.rt:28:5
 loop-less : tie.Need-loop-less Inv-loop μ-loop
 loop-less c = omega arith
 
--- src/lib.rt:28:5
 loop-again : tie.Need-loop-again Inv-loop μ-loop
 loop-again c = let l = c .before .before .loop in
     let a = c .before .before .before .args in
@@ -55,11 +45,9 @@ loop-again c = let l = c .before .before .loop in
       is = patched-more (l .s) (a .s .now) (a .from) (l .i) _ (λ k. getD (a .src .now) (a .at + k) 0) (l .inv .is) (omega arith) refl;
     }
 
--- src/lib.rt:23:1
 same-length : tie.Need-same-length Inv-loop μ-loop
 same-length c = c .before .loop .inv .is .size
 
--- src/lib.rt:23:1
 returns : tie.Need-returns Inv-loop μ-loop
 returns c = let e : c .before .loop .i ≡ c .before .before .args .n = omega arith in rw (sym e) (c .before .loop .inv .is)
 

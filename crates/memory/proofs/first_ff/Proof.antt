@@ -1,6 +1,6 @@
 -- The bits in which some byte so far differs from FF are none exactly where each byte is FF. Assumes nothing.
-use Prim.Native.Nat.{ℕ, _≤_, _-_, _+_}
-use mathlib.Core.Path.{_≡_, refl, sym, ap, _∙_}
+use Prim.Native.Nat.{_≤_, _-_}
+use mathlib.Core.Path.{_≡_, refl, sym}
 use lib.Dec.{eqb}
 use Rattle.rules.specs.WellFormed.{firstFF}
 use Rattle.memory.proofs.Buffers.{ff-next}
@@ -8,8 +8,6 @@ use borrow.Author.Needs.{needs}
 use native.Mathlib.Omega.{arith}
 use Rattle.memory.proofs.first_ff.Statement.{statement}
 use Rattle.memory.proofs.first_ff.Tie as tie
-use Rattle.memory.proofs.first_ff.Reads as reads
-use Rattle.memory.proofs.first_ff.Lts as lts
 
 abbrev Inv-loop : tie.InvT-loop
 Inv-loop buffer n other₀ i₀ other i = record { low : i ≤ n; small : n ≤ 256; is : eqb other 0 ≡ firstFF i buffer }
@@ -17,30 +15,24 @@ Inv-loop buffer n other₀ i₀ other i = record { low : i ≤ n; small : n ≤ 
 abbrev μ-loop : tie.MeasureT-loop
 μ-loop buffer n other₀ i₀ other i = n - i
 
--- src/lib.rt:68:5
 loop-holds : tie.Need-loop-holds Inv-loop μ-loop
 unfolding firstFF
 loop-holds c = record { low = omega arith; small = c .pre; is = refl }
 
--- src/lib.rt:69:26
 element-copy-out-other : tie.Need-element-copy-out-other Inv-loop μ-loop
 element-copy-out-other c = search needs
 
--- src/lib.rt:70:9
 add-i : tie.Need-add-i Inv-loop μ-loop
 add-i c = search needs
 
--- src/lib.rt:68:5
 loop-less : tie.Need-loop-less Inv-loop μ-loop
 loop-less c = omega arith
 
--- src/lib.rt:68:5
 loop-again : tie.Need-loop-again Inv-loop μ-loop
 loop-again c = let l = c .before .before .loop in
     let a = c .before .before .before .args in
     record { low = omega arith; small = l .inv .small; is = ff-next (a .buffer .now) (l .i) (l .other) (l .inv .is) }
 
--- src/lib.rt:62:1
 returns : tie.Need-returns Inv-loop μ-loop
 returns c = let e : c .before .loop .i ≡ c .before .before .args .n = omega arith in rw (sym e) (c .before .loop .inv .is)
 

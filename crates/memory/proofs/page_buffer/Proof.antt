@@ -1,6 +1,6 @@
 -- What is still to come, put into the buffer so far, is the whole buffer. Assumes nothing.
 use Prim.Native.Nat.{ℕ, _≤_, _<_, _-_, _+_, _%_}
-use mathlib.Core.Path.{_≡_, refl, sym, ap, _∙_}
+use mathlib.Core.Path.{_≡_, sym, ap, _∙_}
 use lib.ListN.{length, getD, drop, set}
 use Rattle.rules.specs.Programs.{blank, fill}
 use Rattle.memory.proofs.Buffers.{fill-next, fill-end}
@@ -8,8 +8,6 @@ use borrow.Author.Needs.{needs}
 use native.Mathlib.Omega.{arith}
 use Rattle.memory.proofs.page_buffer.Statement.{statement}
 use Rattle.memory.proofs.page_buffer.Tie as tie
-use Rattle.memory.proofs.page_buffer.Reads as reads
-use Rattle.memory.proofs.page_buffer.Lts as lts
 
 abbrev Inv-loop : tie.InvT-loop
 Inv-loop sent skip at page₀ i₀ page i = record { low : i ≤ length sent; from : skip ≤ i; few : length sent ≤ 65536; place : at < 256; is : fill page (at + (i - skip)) (drop i sent) ≡ fill blank at (drop skip sent) }
@@ -17,37 +15,29 @@ Inv-loop sent skip at page₀ i₀ page i = record { low : i ≤ length sent; fr
 abbrev μ-loop : tie.MeasureT-loop
 μ-loop sent skip at page₀ i₀ page i = length sent - i
 
--- src/lib.rt:53:5
 loop-holds : tie.Need-loop-holds Inv-loop μ-loop
 unfolding blank
 loop-holds c = let e : c .args .at ≡ c .args .at + (c .args .skip - c .args .skip) = omega arith in
     record { low = c .pre .1 .0; from = omega arith; few = c .pre .1 .1; place = c .pre .0; is = ap (λ (p : ℕ). fill blank p (drop (c .args .skip) (c .args .sent .now))) (sym e) }
 
--- src/lib.rt:54:25
 sub-to : tie.Need-sub-to Inv-loop μ-loop
 sub-to c = omega arith
 
--- src/lib.rt:54:19
 add-to : tie.Need-add-to Inv-loop μ-loop
 add-to c = search needs
 
--- src/lib.rt:55:20
 shared-slice-read-page : tie.Need-shared-slice-read-page Inv-loop μ-loop
 shared-slice-read-page c = search needs
 
--- src/lib.rt:55:9
 array-write-page : tie.Need-array-write-page Inv-loop μ-loop
 array-write-page c = search needs
 
--- src/lib.rt:56:9
 add-i : tie.Need-add-i Inv-loop μ-loop
 add-i c = search needs
 
--- src/lib.rt:53:5
 loop-less : tie.Need-loop-less Inv-loop μ-loop
 loop-less c = omega arith
 
--- src/lib.rt:53:5
 loop-again : tie.Need-loop-again Inv-loop μ-loop
 loop-again c = let l = c .before .before .loop in
     let a = c .before .before .before .args in
@@ -62,7 +52,6 @@ loop-again c = let l = c .before .before .loop in
           ∙ sym (fill-next (l .page) (a .sent .now) p (l .i) (c .before .loop-test .taken)) ∙ l .inv .is;
     }
 
--- src/lib.rt:47:1
 returns : tie.Need-returns Inv-loop μ-loop
 returns c = sym (fill-end (c .before .loop .page) (c .before .before .args .sent .now) _ (c .before .loop .i) (c .loop-test .left)) ∙ c .before .loop .inv .is
 

@@ -1,6 +1,6 @@
 -- The loop patches the slice from `from` on, one byte a turn. Assumes nothing.
 use Prim.Native.Nat.{_≤_, _-_, _+_}
-use mathlib.Core.Path.{_≡_, refl, sym, ap}
+use mathlib.Core.Path.{_≡_, refl, sym}
 use lib.ListN.{length}
 use denote.Ref.{now}
 use Rattle.memory.specs.Patched.{Patched}
@@ -9,8 +9,6 @@ use borrow.Author.Needs.{needs}
 use native.Mathlib.Omega.{arith}
 use Rattle.memory.proofs.set_all.Statement.{statement}
 use Rattle.memory.proofs.set_all.Tie as tie
-use Rattle.memory.proofs.set_all.Reads as reads
-use Rattle.memory.proofs.set_all.Lts as lts
 
 abbrev Inv-loop : tie.InvT-loop
 Inv-loop s₀ from n v i₀ s i = record { low : i ≤ n; fits : from + n ≤ length s₀; is : Patched s s₀ from i (λ k. v) }
@@ -18,27 +16,21 @@ Inv-loop s₀ from n v i₀ s i = record { low : i ≤ n; fits : from + n ≤ le
 abbrev μ-loop : tie.MeasureT-loop
 μ-loop s₀ from n v i₀ s i = n - i
 
--- src/lib.rt:16:5
 loop-holds : tie.Need-loop-holds Inv-loop μ-loop
 loop-holds c = record { low = omega arith; fits = c .pre; is = patched-none _ _ _ }
 
--- src/lib.rt:17:11
 add-s : tie.Need-add-s Inv-loop μ-loop
 add-s c = search needs
 
--- src/lib.rt:17:9
 slice-write-s : tie.Need-slice-write-s Inv-loop μ-loop
 slice-write-s c = let h = c .before .loop .inv .is .size in omega arith
 
--- src/lib.rt:18:9
 add-i : tie.Need-add-i Inv-loop μ-loop
 add-i c = search needs
 
--- src/lib.rt:16:5
 loop-less : tie.Need-loop-less Inv-loop μ-loop
 loop-less c = omega arith
 
--- src/lib.rt:16:5
 loop-again : tie.Need-loop-again Inv-loop μ-loop
 loop-again c = let l = c .before .loop in
     let a = c .before .before .args in
@@ -48,11 +40,9 @@ loop-again c = let l = c .before .loop in
       is = patched-more (l .s) (a .s .now) (a .from) (l .i) (a .v) (λ k. a .v) (l .inv .is) (omega arith) refl;
     }
 
--- src/lib.rt:11:1
 same-length : tie.Need-same-length Inv-loop μ-loop
 same-length c = c .before .loop .inv .is .size
 
--- src/lib.rt:11:1
 returns : tie.Need-returns Inv-loop μ-loop
 returns c = let e : c .before .loop .i ≡ c .before .before .args .n = omega arith in rw (sym e) (c .before .loop .inv .is)
 

@@ -1,65 +1,48 @@
 -- Byte i is the register divided by a power of 256. Assumes nothing.
-use Prim.Native.Nat.{ℕ, _-_, _*_, _/_, _%_, _^_, _≤_}
-use mathlib.Core.Path.{_≡_, refl, sym, ap}
-use lib.Dec.{ltb}
+use Prim.Native.Nat.{ℕ, _/_, _%_, _≤_}
+use mathlib.Core.Path.{_≡_, sym, ap}
 use borrow.Author.Tests.{le-ltb}
-use Rattle.rules.specs.Words.{pick}
 use native.Mathlib.Omega.{arith}
 use borrow.Author.Needs.{needs}
 use Rattle.reading.proofs.protection_byte.Statement.{statement}
 use Rattle.reading.proofs.protection_byte.Tie as tie
-use Rattle.reading.proofs.protection_byte.Reads as reads
-use Rattle.reading.proofs.protection_byte.Lts as lts
 
--- src/lib.rt:90:14
 cast-result : tie.Need-cast-result
 cast-result c = search needs
 
--- src/lib.rt:91:14
 cast-result-2 : tie.Need-cast-result-2
 cast-result-2 c = search needs
 
--- src/lib.rt:92:14
 cast-result-3 : tie.Need-cast-result-3
 cast-result-3 c = search needs
 
--- src/lib.rt:93:14
 cast-result-4 : tie.Need-cast-result-4
 cast-result-4 c = search needs
 
--- src/lib.rt:94:14
 cast-result-5 : tie.Need-cast-result-5
 cast-result-5 c = search needs
 
--- src/lib.rt:95:14
 cast-result-6 : tie.Need-cast-result-6
 cast-result-6 c = search needs
 
--- src/lib.rt:86:1
 returns : tie.Need-returns
 returns c = rw (c .match .keys1)
 
--- src/lib.rt:86:1
 returns-2 : tie.Need-returns-2
 returns-2 c = rw (c .match .keys2)
 
--- src/lib.rt:86:1
 returns-3 : tie.Need-returns-3
 returns-3 c = rw (c .match .keys3)
 
--- src/lib.rt:86:1
 returns-4 : tie.Need-returns-4
 returns-4 c = rw (c .match .keys4)
 
--- src/lib.rt:86:1
 returns-5 : tie.Need-returns-5
 returns-5 c = rw (c .match .keys5)
 
--- src/lib.rt:86:1
 returns-6 : tie.Need-returns-6
 returns-6 c = rw (c .match .keys6) (let e : c .before .args .p / 1 ≡ c .before .args .p = omega arith in ap (λ (x : ℕ). x % 256) (sym e))
 
--- src/lib.rt:86:1
 returns-7 : tie.Need-returns-7
 returns-7 c = let r = c .match .rest in
     let h : 6 ≤ c .before .args .i = omega (arith, r .0 .0 .0 .0 .0 .1, r .0 .0 .0 .0 .1, r .0 .0 .0 .1, r .0 .0 .1, r .0 .1, r .1) in

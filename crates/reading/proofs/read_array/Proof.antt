@@ -1,9 +1,8 @@
 -- Each turn adds a piece of one page: its places are the next places of the read. Assumes nothing.
-use Prim.Native.Nat.{ℕ, _+_, _-_, _%_, _≤_, _<_, min}
-use mathlib.Core.Path.{_≡_, refl, sym, ap, _∙_}
+use Prim.Native.Nat.{ℕ, _-_, _≤_}
+use mathlib.Core.Path.{ap}
 use lib.ListN.{length}
 use Rattle.rules.specs.Words.{lent}
-use Rattle.rules.specs.Blocks.{arraySize}
 use Rattle.rules.specs.Reading.{placeCell}
 use Rattle.reading.specs.Upto.{Upto, cellFrom}
 use Rattle.reading.proofs.Upto.{upto-none, upto-piece, upto-all, place-on}
@@ -11,9 +10,6 @@ use borrow.Author.Needs.{needs}
 use native.Mathlib.Omega.{arith}
 use Rattle.reading.proofs.read_array.Statement.{statement}
 use Rattle.reading.proofs.read_array.Tie as tie
-use Rattle.reading.proofs.read_array.Reads as reads
-use Rattle.reading.proofs.read_array.Lts as lts
-use Rattle.reading.proofs.read_piece.Reads as read-piece-reads
 
 abbrev Inv-loop : tie.InvT-loop
 Inv-loop p r array at reply₀ marks₀ i₀ reply marks i = record { low : i ≤ length reply₀; bytes : Upto reply (length reply₀) i (λ k. cellFrom p r array at k .byte); known : Upto marks (length marks₀) i (λ k. cellFrom p r array at k .mark) }
@@ -21,27 +17,21 @@ Inv-loop p r array at reply₀ marks₀ i₀ reply marks i = record { low : i �
 abbrev μ-loop : tie.MeasureT-loop
 μ-loop p r array at reply₀ marks₀ i₀ reply marks i = length reply₀ - i
 
--- src/lib.rt:65:5
 loop-holds : tie.Need-loop-holds Inv-loop μ-loop
 loop-holds c = record { low = omega arith; bytes = upto-none _ _; known = upto-none _ _ }
 
--- src/lib.rt:66:18
 add-a : tie.Need-add-a Inv-loop μ-loop
 add-a c = let s = c .before .before .before .before .before .pre .1 .1 .1 .1 in let l = c .before .loop .inv .low in let p = c .before .before .before .before .before .pre .1 .1 .0 in omega arith
 
--- src/lib.rt:67:25
 sub-smaller : tie.Need-sub-smaller Inv-loop μ-loop
 sub-smaller c = search needs
 
--- src/lib.rt:67:40
 sub-smaller-2 : tie.Need-sub-smaller-2 Inv-loop μ-loop
 sub-smaller-2 c = search needs
 
--- src/lib.rt:67:13
 smaller-requires : tie.Need-smaller-requires Inv-loop μ-loop
 smaller-requires c κs = search needs
 
--- src/lib.rt:68:9
 read-piece-requires : tie.Need-read-piece-requires Inv-loop μ-loop
 read-piece-requires c κs = let s = c .before .before .before .before .before .before .before .before in
     let l = c .before .before .before .before .loop in
@@ -52,7 +42,6 @@ read-piece-requires c κs = let s = c .before .before .before .before .before .b
     let t = c .before .before .before .loop-test .taken in
     (s .pre .0, (s .pre .1 .0, (omega arith, (omega arith, (omega arith, omega arith)))))
 
--- src/lib.rt:69:9
 add-i : tie.Need-add-i Inv-loop μ-loop
 add-i c = let l = c .before .before .before .before .before .before .before .before .before .loop in
     let n = c .before .before .before .before .before .before .before .smaller .ensures in
@@ -61,7 +50,6 @@ add-i c = let l = c .before .before .before .before .before .before .before .bef
     let s = c .before .before .before .before .before .before .before .before .before .before .before .before .before .pre .1 .1 .1 .1 in
     omega arith
 
--- src/lib.rt:65:5
 loop-less : tie.Need-loop-less Inv-loop μ-loop
 loop-less c = let l = c .before .before .before .before .before .before .before .before .before .loop in
     let n = c .before .before .before .before .before .before .before .smaller .ensures in
@@ -70,7 +58,6 @@ loop-less c = let l = c .before .before .before .before .before .before .before 
     let s = c .before .before .before .before .before .before .before .before .before .before .before .before .before .pre .1 .1 .1 .1 in
     omega arith
 
--- src/lib.rt:65:5
 loop-again : tie.Need-loop-again Inv-loop μ-loop
 loop-again c = let s = c .before .before .before .before .before .before .before .before .before .before .before .before .before in
     let l = c .before .before .before .before .before .before .before .before .before .loop in
@@ -85,15 +72,12 @@ loop-again c = let s = c .before .before .before .before .before .before .before
           (λ j below. ap (λ (x : ℕ). placeCell (s .args .p) (s .args .r) (lent (s .args .array .now)) x .mark) (place-on (s .args .at) (l .i) j (omega arith)));
     }
 
--- src/lib.rt:59:1
 same-length : tie.Need-same-length Inv-loop μ-loop
 same-length c = c .before .loop .inv .bytes .size
 
--- src/lib.rt:59:1
 same-length-2 : tie.Need-same-length-2 Inv-loop μ-loop
 same-length-2 c = c .before .loop .inv .known .size
 
--- src/lib.rt:59:1
 returns : tie.Need-returns Inv-loop μ-loop
 returns c = let s = c .before .before .before .before .before in
     let l = c .before .loop in

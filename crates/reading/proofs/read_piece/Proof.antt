@@ -1,39 +1,27 @@
 -- A page is read-locked, suspended or stored as a whole. Assumes nothing.
-use mathlib.Core.Path.{_≡_, refl, ap}
+use mathlib.Core.Path.{ap}
 use Rattle.rules.specs.declared.Cell.{Cell}
 use Rattle.rules.specs.Words.{lent}
 use Rattle.reading.proofs.Upto.{locked-piece, suspended-piece, stored-piece, patched-same}
-use native.Mathlib.Omega.{arith}
 use borrow.Author.Needs.{needs}
 use Rattle.reading.proofs.read_piece.Statement.{statement}
 use Rattle.reading.proofs.read_piece.Tie as tie
-use Rattle.reading.proofs.read_piece.Reads as reads
-use Rattle.reading.proofs.read_piece.Lts as lts
-use Rattle.blocks.proofs.read_locked.Reads as read-locked-reads
-use Rattle.memory.proofs.copy.Reads as copy-reads
-use Rattle.memory.proofs.set_all.Reads as set-all-reads
 
--- src/lib.rt:38:8
 read-locked-requires : tie.Need-read-locked-requires
 read-locked-requires c κs = search needs
 
--- src/lib.rt:39:9
 set-all-requires : tie.Need-set-all-requires
 set-all-requires c κs = search needs
 
--- src/lib.rt:40:9
 set-all-requires-2 : tie.Need-set-all-requires-2
 set-all-requires-2 c κs = search needs
 
--- src/lib.rt:41:9
 same-length : tie.Need-same-length
 same-length c = search needs
 
--- src/lib.rt:41:9
 same-length-2 : tie.Need-same-length-2
 same-length-2 c = search needs
 
--- src/lib.rt:41:9
 returns : tie.Need-returns
 returns c = let a = c .before .before .before .before .before .before .before .before .before .before .before .before .before in
     let cell = locked-piece (a .args .p) (a .args .r) (lent (a .args .array .now)) (a .args .a) (a .args .n) (a .pre .0) (a .pre .1 .1 .1 .0) _ (c .before .before .before .before .before .before .before .before .before .read-locked .ensures) (c .before .before .before .before .before .before .before .before .if1 .taken) in (
@@ -41,27 +29,21 @@ returns c = let a = c .before .before .before .before .before .before .before .b
       patched-same _ _ _ _ _ _ (c .before .before .set-all2 .ensures) (λ j h. ap (λ (x : Cell). x .mark) (cell j h)),
     )
 
--- src/lib.rt:43:8
 holds-place-requires : tie.Need-holds-place-requires
 holds-place-requires c κs = c .before .before .before .before .before .pre .0 .inside
 
--- src/lib.rt:44:9
 set-all-requires-3 : tie.Need-set-all-requires-3
 set-all-requires-3 c κs = search needs
 
--- src/lib.rt:45:9
 set-all-requires-4 : tie.Need-set-all-requires-4
 set-all-requires-4 c κs = search needs
 
--- src/lib.rt:46:9
 same-length-3 : tie.Need-same-length-3
 same-length-3 c = search needs
 
--- src/lib.rt:46:9
 same-length-4 : tie.Need-same-length-4
 same-length-4 c = search needs
 
--- src/lib.rt:46:9
 returns-2 : tie.Need-returns-2
 returns-2 c = let a = c .before .before .before .before .before .before .before .before .before .before .before .before .before .before .before in
     let cell = suspended-piece (a .args .p) (a .args .r) (lent (a .args .array .now)) (a .args .a) (a .args .n) (a .pre .0) (a .pre .1 .1 .1 .0) _ _ (c .before .before .before .before .before .before .before .before .before .before .before .read-locked .ensures) (c .before .before .before .before .before .before .before .before .before .before .if1 .left) (c .before .before .before .before .before .before .before .before .before .holds-place .ensures) (c .before .before .before .before .before .before .before .before .if2 .taken) in (
@@ -69,23 +51,18 @@ returns-2 c = let a = c .before .before .before .before .before .before .before 
       patched-same _ _ _ _ _ _ (c .before .before .set-all4 .ensures) (λ j h. ap (λ (x : Cell). x .mark) (cell j h)),
     )
 
--- src/lib.rt:48:5
 copy-requires : tie.Need-copy-requires
 copy-requires c κs = search needs
 
--- src/lib.rt:49:5
 set-all-requires-5 : tie.Need-set-all-requires-5
 set-all-requires-5 c κs = search needs
 
--- src/lib.rt:24:1
 same-length-5 : tie.Need-same-length-5
 same-length-5 c = search needs
 
--- src/lib.rt:24:1
 same-length-6 : tie.Need-same-length-6
 same-length-6 c = search needs
 
--- src/lib.rt:24:1
 returns-3 : tie.Need-returns-3
 returns-3 c = let a = c .before .before .before .before .before .before .before .before .before .before .before .before .before .before .before in
     let cell = stored-piece (a .args .p) (a .args .r) (lent (a .args .array .now)) (a .args .a) (a .args .n) (a .pre .0) (a .pre .1 .1 .1 .0) _ _ (c .before .before .before .before .before .before .before .before .before .before .before .read-locked .ensures) (c .before .before .before .before .before .before .before .before .before .before .if1 .left) (c .before .before .before .before .before .before .before .before .before .holds-place .ensures) (c .before .before .before .before .before .before .before .before .if2 .left) in (

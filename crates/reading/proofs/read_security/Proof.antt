@@ -1,6 +1,6 @@
 -- One byte more of the reply each turn. Assumes nothing.
-use Prim.Native.Nat.{ℕ, _+_, _-_, _%_, _≤_, _<_}
-use mathlib.Core.Path.{_≡_, refl}
+use Prim.Native.Nat.{_+_, _-_, _%_, _≤_}
+use mathlib.Core.Path.{refl}
 use lib.ListN.{length, getD}
 use Rattle.reading.specs.Upto.{Upto}
 use Rattle.reading.proofs.Upto.{upto-none, upto-set, upto-all}
@@ -8,8 +8,6 @@ use borrow.Author.Needs.{needs}
 use native.Mathlib.Omega.{arith}
 use Rattle.reading.proofs.read_security.Statement.{statement}
 use Rattle.reading.proofs.read_security.Tie as tie
-use Rattle.reading.proofs.read_security.Reads as reads
-use Rattle.reading.proofs.read_security.Lts as lts
 
 abbrev Inv-loop : tie.InvT-loop
 Inv-loop security at reply₀ i₀ reply i = record { low : i ≤ length reply₀; is : Upto reply (length reply₀) i (λ k. getD security ((at + k) % 2048) 0) }
@@ -17,42 +15,33 @@ Inv-loop security at reply₀ i₀ reply i = record { low : i ≤ length reply�
 abbrev μ-loop : tie.MeasureT-loop
 μ-loop security at reply₀ i₀ reply i = length reply₀ - i
 
--- src/lib.rt:79:5
 loop-holds : tie.Need-loop-holds Inv-loop μ-loop
 loop-holds c = record { low = omega arith; is = upto-none _ _ }
 
--- src/lib.rt:80:30
 add-reply : tie.Need-add-reply Inv-loop μ-loop
 add-reply c = let s = c .before .before .pre .1 .1 in let l = c .before .loop .inv .low in let p = c .before .before .pre .1 .0 in omega arith
 
--- src/lib.rt:80:20
 shared-slice-read-reply : tie.Need-shared-slice-read-reply Inv-loop μ-loop
 shared-slice-read-reply c = search needs
 
--- src/lib.rt:80:9
 slice-write-reply : tie.Need-slice-write-reply Inv-loop μ-loop
 slice-write-reply c = search needs
 
--- src/lib.rt:81:9
 add-i : tie.Need-add-i Inv-loop μ-loop
 add-i c = let l = c .before .before .loop in let h = l .inv .is .size in let s = c .before .before .before .pre .1 .1 in omega arith
 
--- src/lib.rt:79:5
 loop-less : tie.Need-loop-less Inv-loop μ-loop
 loop-less c = let h = c .before .before .loop .inv .is .size in omega arith
 
--- src/lib.rt:79:5
 loop-again : tie.Need-loop-again Inv-loop μ-loop
 loop-again c = let l = c .before .before .loop in
     let a = c .before .before .before .args in
     let h = l .inv .is .size in
     record { low = omega arith; is = upto-set (l .reply) (length (a .reply .now)) (l .i) _ (λ k. getD (a .security .now) ((a .at + k) % 2048) 0) (l .inv .is) (omega arith) refl }
 
--- src/lib.rt:74:1
 same-length : tie.Need-same-length Inv-loop μ-loop
 same-length c = c .before .loop .inv .is .size
 
--- src/lib.rt:74:1
 returns : tie.Need-returns Inv-loop μ-loop
 returns c = let l = c .before .loop in
     let h = l .inv .is .size in

@@ -1,21 +1,15 @@
 -- Each start lies before both ends. Assumes nothing.
 use Rattle.records.proofs.Records.{overlap-four}
-use native.Mathlib.Omega.{arith}
 use borrow.Author.Needs.{needs}
 use Rattle.records.proofs.overlaps.Statement.{statement}
 use Rattle.records.proofs.overlaps.Tie as tie
-use Rattle.records.proofs.overlaps.Reads as reads
-use Rattle.records.proofs.overlaps.Lts as lts
 
--- src/lib.rt:105:13
 add-x : tie.Need-add-x
 add-x c = search needs
 
--- src/lib.rt:106:13
 add-y : tie.Need-add-y
 add-y c = search needs
 
--- src/lib.rt:99:1
 returns : tie.Need-returns
 returns c = overlap-four (c .before .before .args .r) (c .before .before .args .s)
 

@@ -1,14 +1,9 @@
 -- The four tests are the rule's. Assumes nothing.
 use mathlib.Core.Path.{refl}
 use Rattle.rules.specs.WellFormed.{registersRight}
-use borrow.Author.Needs.{needs}
-use native.Mathlib.Omega.{arith}
 use Rattle.records.proofs.registers_right.Statement.{statement}
 use Rattle.records.proofs.registers_right.Tie as tie
-use Rattle.records.proofs.registers_right.Reads as reads
-use Rattle.records.proofs.registers_right.Lts as lts
 
--- src/lib.rt:92:1
 returns : tie.Need-returns
 unfolding registersRight
 returns c = refl

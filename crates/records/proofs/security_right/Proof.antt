@@ -1,86 +1,62 @@
 -- Each kind of work has its test. Assumes nothing.
-use mathlib.Core.Path.{_≡_, refl, sym, ap}
-use native.Mathlib.Omega.{arith}
 use borrow.Author.Needs.{needs}
 use Rattle.records.proofs.security_right.Statement.{statement}
 use Rattle.records.proofs.security_right.Tie as tie
-use Rattle.records.proofs.security_right.Reads as reads
-use Rattle.records.proofs.security_right.Lts as lts
-use Rattle.memory.proofs.first_ff.Reads as first-ff-reads
 
--- src/lib.rt:127:26
 enum-told : tie.Need-enum-told
 enum-told c = search needs
 
--- src/lib.rt:128:33
 enum-told-2 : tie.Need-enum-told-2
 enum-told-2 c = search needs
 
--- src/lib.rt:129:32
 enum-told-3 : tie.Need-enum-told-3
 enum-told-3 c = search needs
 
--- src/lib.rt:130:29
 enum-told-4 : tie.Need-enum-told-4
 enum-told-4 c = search needs
 
--- src/lib.rt:131:33
 enum-told-5 : tie.Need-enum-told-5
 enum-told-5 c = search needs
 
--- src/lib.rt:132:31
 enum-known-r : tie.Need-enum-known-r
 enum-known-r c = search needs
 
--- src/lib.rt:132:56
 first-ff-requires : tie.Need-first-ff-requires
 first-ff-requires c κs = search needs
 
--- src/lib.rt:133:31
 enum-told-6 : tie.Need-enum-told-6
 enum-told-6 c = search needs
 
--- src/lib.rt:134:43
 enum-told-7 : tie.Need-enum-told-7
 enum-told-7 c = search needs
 
--- src/lib.rt:135:34
 enum-told-8 : tie.Need-enum-told-8
 enum-told-8 c = search needs
 
--- src/lib.rt:123:1
 returns : tie.Need-returns
 returns c = search needs
 
--- src/lib.rt:123:1
 returns-2 : tie.Need-returns-2
 returns-2 c = search needs
 
--- src/lib.rt:123:1
 returns-3 : tie.Need-returns-3
 returns-3 c = search needs
 
--- src/lib.rt:123:1
 returns-4 : tie.Need-returns-4
 returns-4 c = search needs
 
--- src/lib.rt:123:1
 returns-5 : tie.Need-returns-5
 returns-5 c = search needs
 
--- src/lib.rt:123:1
 returns-6 : tie.Need-returns-6
 returns-6 c = rw (c .first-ff .ensures, c .before .before .r .given .1)
 
--- src/lib.rt:123:1
 returns-7 : tie.Need-returns-7
 returns-7 c = search needs
 
--- src/lib.rt:123:1
 returns-8 : tie.Need-returns-8
 returns-8 c = search needs
 
--- src/lib.rt:123:1
 returns-9 : tie.Need-returns-9
 returns-9 c = search needs
 

@@ -1,46 +1,33 @@
 -- A test that fails decides; where all pass, the rest of the rule decides. Assumes nothing.
-use mathlib.Core.Path.{_≡_, refl, sym, _∙_}
+use mathlib.Core.Path.{sym, _∙_}
 use borrow.Author.Tests.{not-true, not-false}
 use Rattle.records.proofs.Records.{low-register, not-registers, rest-decides, wrong-running, wrong-suspended}
-use native.Mathlib.Omega.{arith}
 use borrow.Author.Needs.{needs}
 use Rattle.records.proofs.well_formed.Statement.{statement}
 use Rattle.records.proofs.well_formed.Tie as tie
-use Rattle.records.proofs.well_formed.Reads as reads
-use Rattle.records.proofs.well_formed.Lts as lts
-use Rattle.records.proofs.numbers_right.Reads as numbers-right-reads
-use Rattle.records.proofs.registers_right.Reads as registers-right-reads
-use Rattle.records.proofs.works_right.Reads as works-right-reads
 
--- src/lib.rt:166:9
 registers-right-requires : tie.Need-registers-right-requires
 registers-right-requires c κs = search needs
 
--- src/lib.rt:167:9
 returns : tie.Need-returns
 returns c = not-registers (c .before .before .args .t1) _ (c .before .registers-right .ensures) (not-true _ (c .if1 .taken))
 
--- src/lib.rt:169:9
 numbers-right-requires : tie.Need-numbers-right-requires
 numbers-right-requires c κs = search needs
 
--- src/lib.rt:170:9
 returns-2 : tie.Need-returns-2
 returns-2 c = let a = c .before .before .before .before .args .t1 in
     rest-decides a _ _ (c .before .before .before .registers-right .ensures) (not-false _ (c .before .before .if1 .left))
     (wrong-running (a .protection) (a .sec) (a .buffer) (a .running) (a .suspended) _ (c .before .numbers-right .ensures) (not-true _ (c .if2 .taken)))
 
--- src/lib.rt:172:9
 numbers-right-requires-2 : tie.Need-numbers-right-requires-2
 numbers-right-requires-2 c κs = search needs
 
--- src/lib.rt:173:9
 returns-3 : tie.Need-returns-3
 returns-3 c = let a = c .before .before .before .before .before .before .args .t1 in
     rest-decides a _ _ (c .before .before .before .before .before .registers-right .ensures) (not-false _ (c .before .before .before .before .if1 .left))
     (wrong-suspended (a .protection) (a .sec) (a .buffer) (a .running) (a .suspended) _ _ (c .before .before .before .numbers-right .ensures) (not-false _ (c .before .before .if2 .left)) (c .before .numbers-right2 .ensures) (not-true _ (c .if3 .taken)))
 
--- src/lib.rt:175:5
 works-right-requires : tie.Need-works-right-requires
 works-right-requires c κs = (
   sym (c .before .before .before .before .before .numbers-right .ensures) ∙ not-false _ (c .before .before .before .before .if2 .left),
@@ -50,7 +37,6 @@ works-right-requires c κs = (
   ),
 )
 
--- src/lib.rt:159:1
 returns-4 : tie.Need-returns-4
 returns-4 c = let a = c .before .before .before .before .before .before .before .before .before .args .t1 in
     rest-decides a _ _ (c .before .before .before .before .before .before .before .before .registers-right .ensures) (not-false _ (c .before .before .before .before .before .before .before .if1 .left)) (c .works-right .ensures)

@@ -1,49 +1,32 @@
 -- The six tests that are left where the numbers are right. Assumes nothing.
-use mathlib.Core.Path.{_≡_, refl, ap₂}
+use mathlib.Core.Path.{ap₂}
 use mathlib.Core.Bool.{_||_}
 use Rattle.records.proofs.Records.{works-parts}
-use native.Mathlib.Omega.{arith}
 use borrow.Author.Needs.{needs}
 use Rattle.records.proofs.works_right.Statement.{statement}
 use Rattle.records.proofs.works_right.Tie as tie
-use Rattle.records.proofs.works_right.Reads as reads
-use Rattle.records.proofs.works_right.Lts as lts
-use Rattle.blocks.proofs.is_unlocked.Reads as is-unlocked-reads
-use Rattle.records.proofs.beside_right.Reads as beside-right-reads
-use Rattle.records.proofs.buffer_right.Reads as buffer-right-reads
-use Rattle.records.proofs.can_suspend.Reads as can-suspend-reads
-use Rattle.records.proofs.is_nothing.Reads as is-nothing-reads
-use Rattle.records.proofs.security_right.Reads as security-right-reads
 
--- src/lib.rt:149:16
 is-nothing-requires : tie.Need-is-nothing-requires
 is-nothing-requires c κs = search needs
 
--- src/lib.rt:149:32
 can-suspend-requires : tie.Need-can-suspend-requires
 can-suspend-requires c κs = search needs
 
--- src/lib.rt:150:9
 beside-right-requires : tie.Need-beside-right-requires
 beside-right-requires c κs = search needs
 
--- src/lib.rt:151:9
 is-unlocked-requires : tie.Need-is-unlocked-requires
 is-unlocked-requires c κs = search needs
 
--- src/lib.rt:152:9
 is-unlocked-requires-2 : tie.Need-is-unlocked-requires-2
 is-unlocked-requires-2 c κs = search needs
 
--- src/lib.rt:153:9
 security-right-requires : tie.Need-security-right-requires
 security-right-requires c κs = search needs
 
--- src/lib.rt:154:9
 buffer-right-requires : tie.Need-buffer-right-requires
 buffer-right-requires c κs = search needs
 
--- src/lib.rt:145:1
 returns : tie.Need-returns
 returns c = let a = c .before .before .before .before .before .before .before in
     works-parts (a .args .p) (a .args .sec) (a .args .buffer .now) (a .args .r) (a .args .s) _ _ _ _ _ _ (a .pre .0) (a .pre .1 .0)
