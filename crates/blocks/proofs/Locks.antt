@@ -1,6 +1,6 @@
 -- From the row that was found to the locks of a place. Assumes nothing.
 use Prim.Native.Nat.{ℕ, _+_, _<_}
-use mathlib.Core.Path.{_≡_, refl, sym, ap, _∙_, subst}
+use mathlib.Core.Path.{_≡_, sym, ap, _∙_}
 use mathlib.Core.Bool.{Bool, true, false, _&&_}
 use Rattle.rules.specs.declared.Block.{Block}
 use Rattle.rules.specs.Words.{bit}

@@ -1,6 +1,6 @@
 -- The range of work, by its kind. Assumes nothing.
 use Prim.Native.Nat.{ℕ, _*_, _/_, _^_, _<_}
-use mathlib.Core.Path.{_≡_, refl, sym, ap, _∙_, subst}
+use mathlib.Core.Path.{_≡_, sym, ap, _∙_, subst}
 use mathlib.Core.Bool.{Bool, true, not}
 use native.Mathlib.Omega.{arith}
 use lib.Dec.{eqb}

@@ -1,6 +1,6 @@
 -- The outcome of each way through an event is the machine's. Assumes nothing.
 use Prim.Native.Nat.{ℕ, zero, suc, _≤_, _<_}
-use mathlib.Core.Path.{_≡_, refl, sym, ap, _∙_, subst}
+use mathlib.Core.Path.{_≡_, refl, sym, ap, _∙_}
 use mathlib.Core.Bool.{Bool, true, false, not, _&&_}
 use mathlib.Core.List.{List, []}
 use mathlib.Core.Logic.{_⊎_, ⊎-elim}
@@ -8,25 +8,23 @@ use native.Mathlib.Omega.{arith}
 use lib.Dec.{eqb, ltb, leb}
 use lib.ListN.{length}
 use borrow.Author.Tests.{eqb-true, leb-true, eq-eqb, ne-eqb}
-use Rattle.rules.specs.declared.After.{After}
 use Rattle.rules.specs.declared.Answer.{Answer}
 use Rattle.rules.specs.declared.Chip.{Chip}
-use Rattle.rules.specs.declared.Form.{Form}
 use Rattle.rules.specs.declared.Kind.{Kind}
 use Rattle.rules.specs.declared.Refusal.{Refusal}
-use Rattle.rules.specs.Words.{pick, Lent, lent, written}
+use Rattle.rules.specs.Words.{pick, lent, written}
 use Rattle.rules.specs.Blocks.{arraySize, securitySize}
 use Rattle.rules.specs.Works.{isNothing, isErase, arrayRange, securityRange, finish}
-use Rattle.rules.specs.Frames.{formOf, opcode, listed, lengthRight}
+use Rattle.rules.specs.Frames.{formOf, opcode}
 use Rattle.rules.specs.Reading.{reply}
 use Rattle.rules.specs.Fields.{withEnable}
 use Rattle.rules.specs.Commands.{act, settled, rested, afterCut}
 use Rattle.rules.specs.WellFormed.{wellFormed}
-use Rattle.rules.specs.Numbers.{refusalNumber, answerNumber, State, Frame, stateRight, frameRight, malformed, emptyFrame, first, commandTests, frameTests, completionTests, cutTests}
+use Rattle.rules.specs.Numbers.{refusalNumber, State, Frame, stateRight, frameRight, malformed, first, commandTests, frameTests}
 use Rattle.rules.specs.Machine.{Outcome, frame, completion, powerCut}
 use Rattle.rules.specs.Promises.{state, carried, came}
 use Rattle.rules.proofs.Bools.{and-split, not-intro}
-use Rattle.rules.proofs.Numbers.{rising, first-above, frame-given, completion-given, cut-given, accepted}
+use Rattle.rules.proofs.Numbers.{first-above, frame-given, completion-given, cut-given, accepted}
 use Rattle.rules.proofs.Refusals.{frame-refused-1, frame-refused-2, frame-refused-more, completion-refused, cut-refused, frame-done-whole, completion-done-whole, cut-done-whole}
 use Rattle.judging.specs.ByKind.{lookedAt}
 use Rattle.judging.proofs.Conditions.{looked-at}

@@ -1,7 +1,7 @@
 -- Replies: from what the loops leave to what the rules show. Assumes nothing.
-use Prim.Native.Nat.{ℕ, _+_, _-_, _*_, _/_, _%_, _^_, _≤_, _<_}
+use Prim.Native.Nat.{ℕ, _+_, _-_, _*_, _/_, _%_, _^_, _≤_}
 use mathlib.Core.Path.{_≡_, refl, sym, ap, _∙_, subst, fun-ext}
-use mathlib.Core.Bool.{Bool, true}
+use mathlib.Core.Bool.{true}
 use mathlib.Core.List.{List, [], _∷_}
 use native.Mathlib.Omega.{arith}
 use lib.Dec.{ltb}
@@ -15,7 +15,7 @@ use Rattle.rules.specs.declared.Source.{Source}
 use Rattle.rules.specs.declared.Work.{Work}
 use Rattle.rules.specs.declared.Work.the-variants.{Nothing, EraseSector, EraseBlock, EraseArray, ProgramPage, ProgramSecurity, LockSecurity, WriteConfiguration, AddPermanent}
 use Rattle.rules.specs.Words.{pick, Lent, lent, written}
-use Rattle.rules.specs.Blocks.{arraySize, securitySize, blockAt}
+use Rattle.rules.specs.Blocks.{securitySize}
 use Rattle.rules.specs.Works.{arrayRange}
 use Rattle.rules.specs.Registers.{status, configuration}
 use Rattle.rules.specs.Frames.{address, securityAddress}

@@ -1,6 +1,6 @@
 -- The parts of the decision, put together. Assumes nothing.
 use Prim.Native.Nat.{ℕ, _+_, _*_, _/_, _≤_, _<_}
-use mathlib.Core.Path.{_≡_, refl, sym, ap, _∙_, subst}
+use mathlib.Core.Path.{_≡_, sym, ap, _∙_, subst}
 use mathlib.Core.Bool.{Bool, true, false, not, _&&_, _||_}
 use mathlib.Core.List.{List, [], _∷_}
 use native.Mathlib.Omega.{arith}
@@ -19,7 +19,7 @@ use Rattle.rules.specs.Blocks.{arraySize, blockOf, blockAt, span}
 use Rattle.rules.specs.Works.{isNothing, isErase, isProgram, arrayRange}
 use Rattle.rules.specs.Frames.{address, formOf, listed, leastLength, lengthRight, opcode}
 use Rattle.rules.specs.WellFormed.{numbersRight}
-use Rattle.rules.specs.Numbers.{notListed, wrongLength, whileBusy, noEnable, noIoc, suspension, noWel, closed, lockedTarget, test, first, commandTests}
+use Rattle.rules.specs.Numbers.{notListed, wrongLength, whileBusy, noEnable, noIoc, suspension, closed, lockedTarget, test, first, commandTests}
 use Rattle.rules.proofs.Blocks.{blockOf-lt, block-placed}
 use Rattle.rules.proofs.WellFormed.{well-of}
 use Rattle.judging.specs.ByKind.{startLength, startConflict, lookedAt, conflict, needsWel, closedBy, lockedBy, laterTests, Judgeable, Weighable}

@@ -1,22 +1,21 @@
 -- Steps of the reads. Assumes nothing.
 use Prim.Native.Nat.{ℕ, _+_, _-_, _%_, _≤_, _<_}
 use mathlib.Core.Path.{_≡_, refl, sym, ap, _∙_, subst}
-use mathlib.Core.Bool.{Bool, true, false, true≢false}
+use mathlib.Core.Bool.{Bool, true, false}
 use mathlib.Core.List.{List}
 use native.Mathlib.Omega.{arith}
 use native.Mathlib.Decide.{ℕ-discrete, decLt}
 use lib.ListN.{length, getD, set, length-set}
 use lib.Seq.{getD-set-same, getD-set-other}
-use Rattle.rules.specs.declared.Cell.{Cell}
 use Rattle.rules.specs.declared.Range.{Range}
-use Rattle.rules.specs.Words.{holds, Lent, lent}
-use Rattle.rules.specs.Blocks.{arraySize, readLocked, blockOf, blockAt}
+use Rattle.rules.specs.Words.{holds, Lent}
+use Rattle.rules.specs.Blocks.{arraySize, readLocked}
 use Rattle.rules.specs.Reading.{placeCell}
 use Rattle.rules.proofs.Bools.{same-test}
 use Rattle.rules.proofs.Blocks.{page-in-one, holds-at, holds-intro}
 use Rattle.rules.proofs.Effects.{read-locked-place, suspended-place, stored-place}
 use Rattle.memory.specs.Patched.{Patched}
-use Rattle.reading.specs.Upto.{Upto, Pages, cellFrom}
+use Rattle.reading.specs.Upto.{Upto, Pages}
 
 pub upto-none : (l : List ℕ) (f : ℕ → ℕ) → Upto l (length l) 0 f
 upto-none l f = record { size = refl; at = λ i h. absurd (omega arith) }

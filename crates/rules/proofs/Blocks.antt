@@ -1,6 +1,6 @@
 -- The forty blocks tile the array, and a sector, a page and a block lie in one block. Facts of the table are tests that antt
 -- computes: over its rows, or over the 256 groups of 8 KB, within which nothing about blocks changes. Assumes nothing.
-use Prim.Native.Nat.{ℕ, zero, suc, _+_, _-_, _*_, _/_, _%_, _^_, _≤_, _<_, min, max}
+use Prim.Native.Nat.{ℕ, suc, _+_, _-_, _*_, _/_, _%_, _^_, _≤_, _<_, min, max}
 use mathlib.Core.Path.{_≡_, refl, sym, ap, ap₂, _∙_, subst}
 use mathlib.Core.Bool.{Bool, true, false, not, _&&_, _||_, Bool·beq, true≢false, false≢true}
 use mathlib.Core.List.{List, [], _∷_}
@@ -9,7 +9,7 @@ use native.Mathlib.Decide.{ℕ-discrete}
 use lib.Dec.{eqb, ltb, leb}
 use lib.ListN.{length, getD}
 use lib.Bits.{bitAnd}
-use borrow.Author.Tests.{eqb-true, ltb-true, leb-true, lt-ltb, le-leb, leb-false, not-true, not-false, eq-eqb}
+use borrow.Author.Tests.{eqb-true, ltb-true, leb-true, lt-ltb, le-leb, not-true, eq-eqb}
 use Rattle.rules.specs.declared.Block.{Block}
 use Rattle.rules.specs.declared.Range.{Range}
 use Rattle.rules.specs.Words.{bit, pick, every, range, holds, overlap}

@@ -1,29 +1,27 @@
 -- What done events leave, sentence by sentence of document 01, so that a wrong definition breaks a law. Assumes nothing.
-use Prim.Native.Nat.{ℕ, zero, suc, _+_, _-_, _*_, _/_, _%_, _^_, _≤_, _<_}
+use Prim.Native.Nat.{ℕ, zero, suc, _+_, _-_, _%_, _≤_, _<_}
 use mathlib.Core.Path.{_≡_, refl, sym, ap, _∙_, subst}
-use mathlib.Core.Bool.{Bool, true, false, not, _&&_, _||_, true≢false, false≢true}
+use mathlib.Core.Bool.{Bool, true, false, _&&_, _||_, false≢true}
 use mathlib.Core.List.{List, [], _∷_}
 use native.Mathlib.Omega.{arith}
-use native.Mathlib.Decide.{ℕ-discrete}
-use lib.Dec.{eqb, ltb, leb}
+use lib.Dec.{ltb}
 use lib.ListN.{length, getD, set, length-set}
 use lib.Seq.{getD-set-same, getD-set-other}
-use lib.Bits.{bitAnd, bitOr}
-use borrow.Author.Tests.{not-false, lt-ltb, le-ltb, ltb-true}
+use lib.Bits.{bitAnd}
+use borrow.Author.Tests.{not-false, lt-ltb, le-ltb}
 use Rattle.rules.specs.declared.Chip.{Chip}
 use Rattle.rules.specs.declared.Kind.{Kind}
 use Rattle.rules.specs.declared.Long.{Long}
 use Rattle.rules.specs.declared.Range.{Range}
 use Rattle.rules.specs.declared.Work.{Work}
 use Rattle.rules.specs.Words.{bit, pick, holds, Lent}
-use Rattle.rules.specs.Blocks.{arraySize, readLocked, readLocks, writeLocks, allLocks, powerUpLocks}
+use Rattle.rules.specs.Blocks.{arraySize, readLocked, readLocks, writeLocks, allLocks}
 use Rattle.rules.specs.Works.{isNothing, isErase, isProgram, arrayRange, securityRange, finished, finish}
-use Rattle.rules.specs.Registers.{busy}
 use Rattle.rules.specs.Frames.{frames, find, formOf, opcode, six}
 use Rattle.rules.specs.Reading.{known, unknown, placeCell}
 use Rattle.rules.specs.Programs.{blank, fill}
-use Rattle.rules.specs.Fields.{withEnable, withSuspended, withRunning}
-use Rattle.rules.specs.Commands.{powerUpIoc, act, settled, rested, afterCut}
+use Rattle.rules.specs.Fields.{withEnable, withSuspended}
+use Rattle.rules.specs.Commands.{powerUpIoc, act, settled, rested}
 use Rattle.rules.specs.Numbers.{State, Frame, first, frameTests, completionTests, cutTests}
 use Rattle.rules.specs.Machine.{frameChip, frame, workedArray, workedSecurity, completedChip, completion, cutChip, powerCut}
 use Rattle.rules.proofs.Bools.{upto, upto-at}

@@ -1,8 +1,7 @@
 -- The two protection registers of a well-formed record, and what changes them. Assumes nothing.
-use Prim.Native.Nat.{ℕ, _^_, _≤_, _<_}
+use Prim.Native.Nat.{ℕ, _^_, _<_}
 use mathlib.Core.Path.{_≡_, refl, sym, ap, _∙_}
 use mathlib.Core.Bool.{Bool, true, false, not, _&&_, _||_, Bool·beq, true≢false, false≢true}
-use native.Mathlib.Omega.{arith}
 use native.Mathlib.Nat.{lt-of-le-of-lt}
 use lib.Dec.{eqb, ltb, lit<}
 use lib.Bits.{bitAnd, bitOr, and-le-l, and-le-r, or-lt}
@@ -10,7 +9,7 @@ use borrow.Author.Tests.{eqb-true, eq-eqb, ltb-true, lt-ltb}
 use Rattle.rules.specs.Words.{bit}
 use Rattle.rules.specs.Blocks.{writeLocks, readLocks, allLocks, powerUpLocks}
 use Rattle.rules.specs.WellFormed.{registersRight}
-use Rattle.rules.proofs.Bools.{and-split, or-left, or-map, upto, upto-at}
+use Rattle.rules.proofs.Bools.{and-split, upto, upto-at}
 use Rattle.rules.proofs.Bits.{bit-or, bit-and, among-at, among-intro, apart-at, apart-intro}
 
 pub record Registers (p q : ℕ) : Type 0 where

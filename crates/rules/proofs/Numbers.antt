@@ -1,7 +1,7 @@
 -- A number is given exactly when its condition holds and no condition before it does; in the base it is the least whose condition holds.
 -- Assumes nothing.
 use Prim.Native.Nat.{ℕ, zero, suc, _≤_, _<_}
-use mathlib.Core.Path.{_≡_, refl, sym, ap, _∙_}
+use mathlib.Core.Path.{_≡_, refl, ap}
 use mathlib.Core.Bool.{Bool, true, false, not, _&&_, true≢false, false≢true}
 use mathlib.Core.List.{List, [], _∷_}
 use mathlib.Core.Logic.{_↔_, _⊎_, inl, inr, ⊎-elim}
@@ -11,8 +11,8 @@ use lib.ListN.{length, getD}
 use borrow.Author.Tests.{ltb-true, leb-true, not-true, not-false}
 use Rattle.rules.specs.declared.Chip.{Chip}
 use Rattle.rules.specs.Words.{pick, every}
-use Rattle.rules.specs.Frames.{Row, frames, formOf, find, listed, lengthRight, opcode}
-use Rattle.rules.specs.Numbers.{State, Frame, stateRight, frameRight, malformed, emptyFrame, notListed, wrongLength, whileBusy, noEnable, noIoc, suspension, noWel, closed, lockedTarget, nothingRuns, Test, test, first, commandTests, frameTests, completionTests, cutTests}
+use Rattle.rules.specs.Frames.{formOf, listed, lengthRight, opcode}
+use Rattle.rules.specs.Numbers.{State, Frame, stateRight, frameRight, whileBusy, noEnable, noIoc, suspension, noWel, closed, lockedTarget, Test, test, first, commandTests, frameTests, completionTests, cutTests}
 use Rattle.rules.specs.Given.{Clear, FrameGiven, CompletionGiven, CutGiven}
 use Rattle.rules.proofs.Bools.{and-split, not-intro}
 

@@ -13,7 +13,7 @@ use Rattle.rules.specs.declared.Answer.{Answer}
 use Rattle.rules.specs.declared.Chip.{Chip}
 use Rattle.rules.specs.declared.Refusal.{Refusal}
 use Rattle.rules.specs.Words.{pick, Lent, lent, written}
-use Rattle.rules.specs.Numbers.{refusalNumber, answerNumber}
+use Rattle.rules.specs.Numbers.{answerNumber}
 use Rattle.rules.specs.Machine.{Outcome}
 use Rattle.rules.specs.Promises.{came, FramePromise, CompletionPromise, CutPromise}
 

@@ -1,7 +1,7 @@
 -- What each refusal leaves: 1 and 12 change nothing at all; 2 to 11 fill the reply with FF and the marks with 0, and nothing else
 -- changes, except that 3 to 11 use up the reset enable. Assumes nothing.
-use Prim.Native.Nat.{ℕ, zero, suc, _+_}
-use mathlib.Core.Path.{_≡_, refl, ap, _∙_}
+use Prim.Native.Nat.{ℕ, suc}
+use mathlib.Core.Path.{_≡_, ap}
 use mathlib.Core.Bool.{false}
 use lib.Dec.{ltb}
 use Rattle.rules.specs.Words.{pick, written, unlent}

@@ -1,31 +1,30 @@
 -- Every event keeps a record well-formed. Assumes nothing.
-use Prim.Native.Nat.{ℕ, zero, suc, _+_, _*_, _/_, _%_, _^_, _≤_, _<_, min, max}
+use Prim.Native.Nat.{ℕ, zero, suc, _+_, _*_, _/_, _%_, _<_, max}
 use mathlib.Core.Path.{_≡_, refl, sym, ap, ap₂, _∙_, subst}
 use mathlib.Core.Bool.{Bool, true, false, not, _&&_, _||_, true≢false, false≢true}
 use mathlib.Core.List.{List, [], _∷_}
 use native.Mathlib.Omega.{arith}
-use lib.Dec.{eqb, ltb, leb}
-use lib.ListN.{length, getD, drop, set}
+use lib.Dec.{eqb, ltb}
+use lib.ListN.{getD, drop, set}
 use lib.Seq.{getD-set-other}
 use lib.Bits.{bitAnd, bitOr}
-use borrow.Author.Tests.{eqb-true, ltb-true, ltb-false, lt-ltb, not-true, not-false}
+use borrow.Author.Tests.{eqb-true, ltb-true, ltb-false, lt-ltb, not-false}
 use Rattle.rules.specs.declared.Chip.{Chip}
 use Rattle.rules.specs.declared.Kind.{Kind}
-use Rattle.rules.specs.declared.Long.{Long}
 use Rattle.rules.specs.declared.Range.{Range}
 use Rattle.rules.specs.declared.Work.{Work}
 use Rattle.rules.specs.declared.Work.the-variants.{Nothing, EraseSector, EraseBlock, EraseArray, ProgramPage, ProgramSecurity, LockSecurity, WriteConfiguration, AddPermanent}
-use Rattle.rules.specs.Words.{bit, pick, every, range, holds, overlap}
-use Rattle.rules.specs.Blocks.{arraySize, span, blockOf, blockAt, writeLocked, unlocked, readLocks, allLocks, writeLocks, powerUpLocks}
+use Rattle.rules.specs.Words.{pick, range, holds, overlap}
+use Rattle.rules.specs.Blocks.{arraySize, blockOf, blockAt, writeLocked, unlocked, writeLocks, powerUpLocks}
 use Rattle.rules.specs.Works.{isNothing, isErase, isProgram, canSuspend, arrayRange}
 use Rattle.rules.specs.Registers.{busy}
 use Rattle.rules.specs.Frames.{frames, formOf, opcode, address, securityAddress, six}
 use Rattle.rules.specs.Programs.{blank, fill, securityBuffer, reaches, reachesFirst}
 use Rattle.rules.specs.Fields.{withEnable}
-use Rattle.rules.specs.Commands.{newChip, act, workOf, bufferOf, settled, settledFirst, rested, poweredUp, afterCut}
+use Rattle.rules.specs.Commands.{newChip, act, settled, rested, afterCut}
 use Rattle.rules.specs.WellFormed.{numbersRight, registersRight, suspendedRight, besideRight, firstFF, securityRight, bufferRight, worksRight, wellFormed}
-use Rattle.rules.specs.Numbers.{State, Frame, whileBusy, suspension, closed, lockedTarget, first, frameTests, completionTests, cutTests}
-use Rattle.rules.specs.Machine.{Outcome, frameChip, frame, completedChip, completion, cutChip, powerCut, Event, sends, completes, cuts, step}
+use Rattle.rules.specs.Numbers.{State, first, frameTests, completionTests, cutTests}
+use Rattle.rules.specs.Machine.{frameChip, frame, completedChip, completion, cutChip, powerCut, Event, sends, completes, cuts, step}
 use Rattle.rules.proofs.Bools.{and-split, and-both, or-split, or-left, or-right, not-intro, never}
 use Rattle.rules.proofs.Blocks.{blockOf-lt, block-placed, holds-at, holds-intro, overlap-at, unlocked-inside, sector-inside, page-inside, block-inside, array-unlocked, unlocked-nowhere}
 use Rattle.rules.proofs.Locks.{Registers, registers-of, registers-right, registers-or, masked-low, read-locks-low, registers-more, registers-powered}

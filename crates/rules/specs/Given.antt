@@ -1,7 +1,7 @@
 -- Which number an event gets: 0 to 12, each with the condition that gives it. Proved in proofs/Numbers.
 use Prim.Native.Nat.{ℕ, zero, suc, _≤_}
 use mathlib.Core.Path.{_≡_}
-use mathlib.Core.Bool.{Bool, true, false, not}
+use mathlib.Core.Bool.{true, false}
 use mathlib.Core.List.{List, [], _∷_}
 use mathlib.Core.Logic.{_↔_}
 use Rattle.rules.specs.Frames.{opcode}

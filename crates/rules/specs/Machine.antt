@@ -1,8 +1,7 @@
 -- The command machine: a frame, a completion, a power cut, and runs of them.
 use Prim.Native.Nat.{ℕ, zero, suc}
-use mathlib.Core.Bool.{Bool, false}
+use mathlib.Core.Bool.{false}
 use mathlib.Core.List.{List, [], _∷_}
-use lib.ListN.{getD}
 use Rattle.rules.specs.declared.Cell.{Cell}
 use Rattle.rules.specs.declared.Chip.{Chip}
 use Rattle.rules.specs.Words.{Lent, written, unlent}

@@ -1,8 +1,8 @@
 -- 01, Numbers the bench gives back: the conditions, each from its row, and the order in which they are tested.
-use Prim.Native.Nat.{ℕ, _+_, _*_, _/_}
-use mathlib.Core.Bool.{Bool, true, false, not, _&&_, _||_}
+use Prim.Native.Nat.{ℕ, _*_, _/_}
+use mathlib.Core.Bool.{Bool, not, _&&_, _||_}
 use mathlib.Core.List.{List, [], _∷_}
-use lib.Dec.{eqb, ltb, leb}
+use lib.Dec.{eqb, leb}
 use lib.ListN.{length}
 use lib.Bits.{bitAnd}
 use Rattle.rules.specs.declared.Chip.{Chip}

@@ -6,8 +6,8 @@ use Rattle.rules.specs.Words.{written}
 use Rattle.rules.specs.Blocks.{arraySize, securitySize}
 use Rattle.rules.specs.Works.{arrayRange}
 use Rattle.rules.specs.Commands.{newChip}
-use Rattle.rules.specs.Numbers.{State, Frame}
-use Rattle.rules.specs.Machine.{Outcome, Event, sends, completes, cuts, run, step, left}
+use Rattle.rules.specs.Numbers.{State}
+use Rattle.rules.specs.Machine.{Outcome, Event, sends, completes, run, step}
 
 -- ---- how a row is written
 

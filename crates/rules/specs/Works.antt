@@ -1,5 +1,5 @@
 -- What runs or is suspended: its kind, and its range (01, Long and short; Suspension; Power cut).
-use Prim.Native.Nat.{ℕ, _+_, _-_, _*_}
+use Prim.Native.Nat.{ℕ, _-_, _*_}
 use mathlib.Core.Bool.{Bool, true, false, _&&_}
 use mathlib.Core.List.{List}
 use lib.Dec.{ltb}
