@@ -1,3 +1,4 @@
 -- Laws that the proofs cite.
 pub mod Flags
 pub mod Acts
+pub mod Unique

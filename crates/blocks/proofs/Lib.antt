@@ -1,3 +1,4 @@
 -- Laws that the proofs cite.
 pub mod Locks
 pub mod Ranges
+pub mod Unique

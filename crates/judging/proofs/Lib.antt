@@ -3,3 +3,4 @@ pub mod Conditions
 pub mod Reaches
 pub mod Keys
 pub mod Judged
+pub mod Unique

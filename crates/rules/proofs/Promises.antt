@@ -110,3 +110,7 @@ pub cut-one : (c : Chip) (array security : List ℕ) (k : ℕ) (r₁ r₂ : Afte
     → CutPromise c array security k r₁ a₁ s₁ → CutPromise c array security k r₂ a₂ s₂
     → Same r₁ r₂ a₁ a₂ s₁ s₂ [] [] [] []
 cut-one c array security k r₁ r₂ a₁ a₂ s₁ s₂ p q = came-one r₁ r₂ a₁ a₂ s₁ s₂ [] [] [] [] (p .outcome ∙ sym (q .outcome))
+
+-- an equation leaves no second value
+pub one : {A : Type 0} {x y v : A} → x ≡ v → y ≡ v → x ≡ y
+one p q = p ∙ sym q

@@ -9,8 +9,8 @@ use Rattle.rules.specs.Words.{holds}
 use Rattle.rules.specs.Blocks.{wide, blocks, seek, blockOf}
 use Rattle.rules.proofs.Bools.{upto-at}
 use borrow.Author.Needs.{needs}
-use Rattle.blocks.proofs.group_block.Statement.{statement}
-use Rattle.blocks.proofs.group_block.Tie as tie
+use Rattle.blocks.proofs.table.group_block.Statement.{statement}
+use Rattle.blocks.proofs.table.group_block.Tie as tie
 
 groups : List ℕ
 groups =

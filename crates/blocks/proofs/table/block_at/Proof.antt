@@ -7,8 +7,8 @@ use Rattle.rules.specs.declared.Block.{Block}
 use Rattle.rules.specs.Blocks.{wide, blocks, blockAt, single}
 use native.Mathlib.Omega.{arith}
 use borrow.Author.Needs.{needs}
-use Rattle.blocks.proofs.block_at.Statement.{statement}
-use Rattle.blocks.proofs.block_at.Tie as tie
+use Rattle.blocks.proofs.table.block_at.Statement.{statement}
+use Rattle.blocks.proofs.table.block_at.Tie as tie
 
 -- below the length the default does not matter
 getD-any : (l : List Block) (n : ℕ) (d e : Block) → n < length l → getD l n d ≡ getD l n e
