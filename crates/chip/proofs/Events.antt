@@ -7,7 +7,8 @@ use mathlib.Core.Logic.{_⊎_, ⊎-elim}
 use native.Mathlib.Omega.{arith}
 use lib.Dec.{eqb, ltb, leb}
 use lib.ListN.{length}
-use borrow.Author.Tests.{eqb-true, leb-true, eq-eqb, ne-eqb}
+use borrow.Author.Tests.{eqb-true, leb-true, eq-eqb, ne-eqb, ltb-false}
+use Rattle.rules.specs.declared.After.{After}
 use Rattle.rules.specs.declared.Answer.{Answer}
 use Rattle.rules.specs.declared.Chip.{Chip}
 use Rattle.rules.specs.declared.Kind.{Kind}
@@ -20,7 +21,7 @@ use Rattle.rules.specs.Reading.{reply}
 use Rattle.rules.specs.Fields.{withEnable}
 use Rattle.rules.specs.Commands.{act, settled, rested, afterCut}
 use Rattle.rules.specs.WellFormed.{wellFormed}
-use Rattle.rules.specs.Numbers.{refusalNumber, State, Frame, stateRight, frameRight, malformed, first, commandTests, frameTests}
+use Rattle.rules.specs.Numbers.{refusalNumber, answerNumber, State, Frame, stateRight, frameRight, malformed, first, commandTests, frameTests}
 use Rattle.rules.specs.Machine.{Outcome, frame, completion, powerCut}
 use Rattle.rules.specs.Promises.{state, carried, came}
 use Rattle.rules.proofs.Bools.{and-split, not-intro}
@@ -28,7 +29,7 @@ use Rattle.rules.proofs.Numbers.{first-above, frame-given, completion-given, cu
 use Rattle.rules.proofs.Refusals.{frame-refused-1, frame-refused-2, frame-refused-more, completion-refused, cut-refused, frame-done-whole, completion-done-whole, cut-done-whole}
 use Rattle.judging.specs.ByKind.{lookedAt}
 use Rattle.judging.proofs.Conditions.{looked-at}
-use Rattle.chip.specs.Showing.{Replied, Commandable}
+use Rattle.chip.specs.Showing.{Replied, Commandable, TurnedAway}
 
 -- two outcomes are the same where their parts are
 outcome-ext : {o q : Outcome} → o .number ≡ q .number → o .chip ≡ q .chip → o .array ≡ q .array → o .security ≡ q .security → o .reply ≡ q .reply → o .marks ≡ q .marks → o ≡ q
@@ -57,22 +58,24 @@ module _ (c : Chip) (array security sent y m : List ℕ) where
   abbrev with : Frame
   with = carried sent y m
 
-  pub frame-malformed : (k f : Bool) → k ≡ stateRight at → f ≡ frameRight with → (k && f) ≡ false
-      → came (record { answer = Answer.Refused Refusal.Malformed; chip = c }) array security y m ≡ frame at with
-  frame-malformed k f ek ef e =
-      let b : malformed at with ≡ true = not-intro (stateRight at && frameRight with) (ap (λ (x : Bool). x && frameRight with) (sym ek) ∙ ap (λ (x : Bool). k && x) (sym ef) ∙ e) in
-      sym (frame-refused-1 at with (frame-given at with .is-1 .1 b))
-
   -- the first condition does not hold
   right-lengths : stateRight at ≡ true → frameRight with ≡ true → malformed at with ≡ false
   right-lengths ek ef = ap not (ap (λ (x : Bool). x && frameRight with) ek ∙ ef)
 
-  pub frame-empty : (y′ m′ : List ℕ) → stateRight at ≡ true → frameRight with ≡ true → length sent ≡ 0 → Replied y m y′ m′ (λ i. record { byte = 255; mark = 0 })
-      → came (record { answer = Answer.Refused Refusal.Empty; chip = c }) array security y′ m′ ≡ frame at with
+  pub frame-turned-away : (k f : Bool) (r : After) (y′ m′ : List ℕ) → k ≡ stateRight at → f ≡ frameRight with → (k && f && ltb 0 (length sent)) ≡ false → TurnedAway c (k && f) y m r y′ m′
+      → came r array security y′ m′ ≡ frame at with
   unfolding frameTests
-  frame-empty y′ m′ ek ef n r =
-      outcome-ext refl refl refl refl (r .bytes) (r .known)
-      ∙ sym (frame-refused-2 at with (frame-given at with .is-2 .1 ((right-lengths ek ef, tt), eq-eqb (length sent) 0 n)))
+  frame-turned-away k f r y′ m′ ek ef n t = go (k && f) refl n t
+    where
+      go : (b : Bool) → (k && f) ≡ b → (b && ltb 0 (length sent)) ≡ false → TurnedAway c b y m r y′ m′ → came r array security y′ m′ ≡ frame at with
+      go true e n t =
+          let h = and-split k f e in
+          outcome-ext (ap answerNumber (t .answer)) (t .chip) refl refl (t .bytes) (t .known)
+          ∙ sym (frame-refused-2 at with (frame-given at with .is-2 .1 ((right-lengths (sym ek ∙ h .0) (sym ef ∙ h .1), tt), eq-eqb (length sent) 0 (let l = ltb-false 0 (length sent) n in omega arith))))
+      go false e n t =
+          let b : malformed at with ≡ true = not-intro (stateRight at && frameRight with) (ap (λ (x : Bool). x && frameRight with) (sym ek) ∙ ap (λ (x : Bool). k && x) (sym ef) ∙ e) in
+          outcome-ext (ap answerNumber (t .answer)) (t .chip) refl refl (t .bytes) (t .known)
+          ∙ sym (frame-refused-1 at with (frame-given at with .is-1 .1 b))
 
   -- where the lengths are right and something was sent, the command's conditions decide
   pub command-decides : Commandable c array security sent y m → first (frameTests at with) ≡ first (commandTests c sent)

@@ -1,14 +1,17 @@
 -- What a kind of frame shows: nothing, or a source.
 use Prim.Native.Nat.{ℕ, _≤_, _<_}
 use mathlib.Core.Path.{_≡_}
-use mathlib.Core.Bool.{true}
+use mathlib.Core.Bool.{Bool, true}
 use mathlib.Core.List.{List}
 use lib.ListN.{length}
+use Rattle.rules.specs.declared.After.{After}
+use Rattle.rules.specs.declared.Answer.{Answer}
 use Rattle.rules.specs.declared.Cell.{Cell}
 use Rattle.rules.specs.declared.Chip.{Chip}
 use Rattle.rules.specs.declared.Kind.{Kind}
+use Rattle.rules.specs.declared.Refusal.{Refusal}
 use Rattle.rules.specs.declared.Source.{Source}
-use Rattle.rules.specs.Words.{Lent, lent, written}
+use Rattle.rules.specs.Words.{pick, Lent, lent, written}
 use Rattle.rules.specs.Blocks.{arraySize, securitySize}
 use Rattle.rules.specs.Reading.{silent, shown}
 use Rattle.rules.specs.WellFormed.{wellFormed}
@@ -66,3 +69,10 @@ pub record Commandable (c : Chip) (array security sent reply marks : List ℕ) :
   pub right : stateRight (state c array security) ≡ true
   pub fits : frameRight (carried sent reply marks) ≡ true
   pub some : 0 < length sent
+
+-- what a frame gets that is malformed (not right) or empty
+pub record TurnedAway (c : Chip) (right : Bool) (reply marks : List ℕ) (r : After) (reply′ marks′ : List ℕ) : Type 0 where
+  pub answer : r .answer ≡ Answer.Refused (pick right Refusal.Empty Refusal.Malformed)
+  pub chip : r .chip ≡ c
+  pub bytes : lent reply′ ≡ pick right (written (length reply) (λ i. 0xFF)) (lent reply)
+  pub known : lent marks′ ≡ pick right (written (length marks) (λ i. 0)) (lent marks)

@@ -10,13 +10,13 @@ ghost use mathlib.Core.Bool.{true, _&&_};
 ghost use Prim.Native.Nat.{_≤_};
 ghost use lib.Dec.{eqb, leb};
 ghost use lib.ListN.{length};
-ghost use Rattle.rules.specs.Words.{lent};
+ghost use Rattle.rules.specs.Words.{lent, pick};
 ghost use Rattle.rules.specs.Blocks.{arraySize, securitySize};
 ghost use Rattle.rules.specs.Reading.{silent, shown};
 ghost use Rattle.rules.specs.Commands.{newChip};
 ghost use Rattle.rules.specs.WellFormed.{wellFormed};
 ghost use Rattle.rules.specs.Promises.{FramePromise, CompletionPromise, CutPromise};
-ghost use Rattle.chip.specs.Showing.{showing, cellOf, Replied, Showable, Respondable, Commandable};
+ghost use Rattle.chip.specs.Showing.{showing, cellOf, Replied, Showable, Respondable, Commandable, TurnedAway};
 
 // What a frame replies: nothing, or bytes of a source.
 pub enum Showing {
@@ -174,6 +174,33 @@ fn command(
     }
 }
 
+fn why_not(right: bool) -> Refusal
+    ensures { λ r. ⌜ r ≡ pick right Refusal.Empty Refusal.Malformed ⌝ }
+{
+    if right {
+        Refusal::Empty
+    } else {
+        Refusal::Malformed
+    }
+}
+
+// Refusal 1 leaves every byte; 2 fills the reply and the marks.
+fn turned_away(c: Chip, right: bool, reply: &mut [u8], marks: &mut [u8]) -> After
+    ensures { λ r. ⌜ TurnedAway c right (now (reply .entry)) (now (marks .entry)) r (now (reply .exit)) (now (marks .exit)) ⌝ }
+{
+    if right {
+        fill_both(reply, marks, 255, 0);
+        return After {
+            answer: Answer::Refused(why_not(right)),
+            chip: c,
+        };
+    }
+    After {
+        answer: Answer::Refused(why_not(right)),
+        chip: c,
+    }
+}
+
 // A frame: the bytes sent while CE# is low, and the two reply buffers.
 pub fn frame(
     c: Chip,
@@ -187,20 +214,11 @@ pub fn frame(
 {
     let known = state_right(c, array.len(), security.len());
     let fits = frame_right(sent.len(), reply.len(), marks.len());
-    if !(known & fits) {
-        return After {
-            answer: Answer::Refused(Refusal::Malformed),
-            chip: c,
-        };
+    let right = known & fits;
+    if right & (0 < sent.len()) {
+        return command(c, array, security, sent, reply, marks);
     }
-    if sent.len() == 0 {
-        fill_both(reply, marks, 255, 0);
-        return After {
-            answer: Answer::Refused(Refusal::Empty),
-            chip: c,
-        };
-    }
-    command(c, array, security, sent, reply, marks)
+    turned_away(c, right, reply, marks)
 }
 
 // The running operation ends.
