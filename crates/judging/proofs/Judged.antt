@@ -21,6 +21,7 @@ use Rattle.rules.specs.Frames.{address, formOf, listed, leastLength, lengthRigh
 use Rattle.rules.specs.WellFormed.{numbersRight}
 use Rattle.rules.specs.Numbers.{notListed, wrongLength, whileBusy, noEnable, noIoc, suspension, closed, lockedTarget, test, first, commandTests}
 use Rattle.rules.proofs.Blocks.{blockOf-lt, block-placed}
+use Rattle.rules.proofs.Ranges.{array-inside}
 use Rattle.rules.proofs.WellFormed.{well-of}
 use Rattle.judging.specs.ByKind.{startLength, startConflict, lookedAt, conflict, needsWel, closedBy, lockedBy, laterTests, Judgeable, Weighable}
 use Rattle.judging.proofs.Conditions.{or-none, conflict-is, latched-is, closed-is, locked-is, looked-at}
@@ -37,7 +38,7 @@ pub address-low : (a : ℕ) (sent : List ℕ) → a ≡ address sent → a < arr
 address-low a sent e = omega arith
 
 pub found-inside : (w : Work) (r : Range) → numbersRight w ≡ true → r ≡ arrayRange w → r .start + r .size ≤ arraySize
-found-inside w r h e = rw e (Rattle.records.proofs.Records.range-inside w h)
+found-inside w r h e = rw e (array-inside w h)
 
 pub block-inside : (a n : ℕ) (b : Block) (sent : List ℕ) → a ≡ address sent → n ≡ blockOf a → b ≡ blockAt n → (n < 40) × (b .start + b .size ≤ arraySize)
 block-inside a n b sent e f g =

@@ -9,14 +9,14 @@ use borrow.Author.Tests.{ltb-true, lt-ltb}
 use Rattle.rules.specs.declared.Chip.{Chip}
 use Rattle.rules.specs.declared.Range.{Range}
 use Rattle.rules.specs.declared.Work.{Work}
-use Rattle.rules.specs.declared.Work.the-variants.{Nothing, EraseSector, EraseBlock, EraseArray, ProgramPage, ProgramSecurity, LockSecurity, WriteConfiguration, AddPermanent}
 use Rattle.rules.specs.Words.{overlap}
 use Rattle.rules.specs.Blocks.{unlocked}
 use Rattle.rules.specs.Works.{arrayRange}
 use Rattle.rules.specs.WellFormed.{numbersRight, registersRight, suspendedRight, besideRight, securityRight, bufferRight, worksRight, wellFormed}
 use Rattle.rules.proofs.Bools.{and-split, and-both, same-test}
-use Rattle.rules.proofs.Blocks.{block-placed, overlap-at}
+use Rattle.rules.proofs.Blocks.{overlap-at}
 use Rattle.rules.proofs.Locks.{registers-of}
+use Rattle.rules.proofs.Ranges.{array-inside}
 
 -- two ranges overlap where each start lies before both ends
 pub overlap-four : (r s : Range)
@@ -48,20 +48,9 @@ overlap-four r s =
     y : ℕ
     y = s .start + s .size
 
--- the range of well-numbered work ends within the array
-pub range-inside : (w : Work) → numbersRight w ≡ true → arrayRange w .start + arrayRange w .size ≤ 2097152
-range-inside Nothing e = omega arith
-range-inside (EraseSector n) e = let h = ltb-true n 512 e in omega arith
-range-inside (EraseBlock n) e = block-placed n (ltb-true n 40 e) .inside
-range-inside EraseArray e = omega arith
-range-inside (ProgramPage n) e = let h = ltb-true n 8192 e in omega arith
-range-inside (ProgramSecurity n) e = omega arith
-range-inside LockSecurity e = omega arith
-range-inside (WriteConfiguration i w) e = omega arith
-range-inside (AddPermanent v) e = omega arith
-
+-- the range that was found ends within the array
 pub found-inside : (w : Work) (r : Range) → numbersRight w ≡ true → r ≡ arrayRange w → r .start + r .size ≤ 2097152
-found-inside w r h e = rw e (range-inside w h)
+found-inside w r h e = rw e (array-inside w h)
 
 pub low-register : (p q : ℕ) (x : Bool) → x ≡ registersRight p q → x ≡ true → p < 2 ^ 48
 low-register p q x e t = registers-of p q (sym e ∙ t) .low

@@ -9,4 +9,7 @@ pub mod WellFormed
 pub mod Refusals
 pub mod Effects
 pub mod Promises
+pub mod Ranges
+pub mod Runs
+pub mod Keys
 pub mod Starred

@@ -1,13 +1,14 @@
 -- A promise leaves no second outcome: whatever meets it at the same input is the same result and the same lent memory. Assumes nothing.
-use Prim.Native.Nat.{ℕ, _<_}
+use Prim.Native.Nat.{ℕ, _≤_, _<_}
 use mathlib.Core.Path.{_≡_, refl, sym, ap, _∙_, fun-ext}
 use mathlib.Core.Bool.{Bool, true, false}
 use mathlib.Core.List.{List, []}
 use native.Mathlib.Omega.{arith}
-use lib.Dec.{ltb}
+use lib.Dec.{eqb, ltb}
 use lib.ListN.{length, getD, List·getD-eq-default}
 use lib.Seq.{ext-getD}
-use borrow.Author.Tests.{ltb-true, ltb-false}
+use borrow.Author.Tests.{eqb-true, ltb-true, ltb-false}
+use Rattle.rules.proofs.Bools.{upto, upto-at}
 use Rattle.rules.specs.declared.After.{After}
 use Rattle.rules.specs.declared.Answer.{Answer}
 use Rattle.rules.specs.declared.Chip.{Chip}
@@ -51,7 +52,7 @@ refusalOf n =
     (pick (ltb n 11) Refusal.Closed
     (pick (ltb n 12) Refusal.WriteLocked Refusal.NothingRuns))))))))))
 
-answerOf : ℕ → Answer
+pub answerOf : ℕ → Answer
 answerOf n = pick (ltb n 1) Answer.Done (Answer.Refused (refusalOf n))
 
 answer-back : (a : Answer) → answerOf (answerNumber a) ≡ a
@@ -114,3 +115,11 @@ cut-one c array security k r₁ r₂ a₁ a₂ s₁ s₂ p q = came-one r₁ r�
 -- an equation leaves no second value
 pub one : {A : Type 0} {x y v : A} → x ≡ v → y ≡ v → x ≡ y
 one p q = p ∙ sym q
+
+-- each number up to 12 is an answer's
+numbers-back : upto 13 (λ n. eqb (answerNumber (answerOf n)) n) ≡ true
+unfolding answerOf refusalOf
+numbers-back = refl
+
+pub answer-number : (n : ℕ) → n ≤ 12 → answerNumber (answerOf n) ≡ n
+answer-number n h = eqb-true (answerNumber (answerOf n)) n (upto-at 13 (λ n. eqb (answerNumber (answerOf n)) n) numbers-back n (omega arith))

@@ -13,4 +13,5 @@ pub mod Numbers
 pub mod Given
 pub mod Machine
 pub mod Promises
+pub mod Demands
 pub mod Starred

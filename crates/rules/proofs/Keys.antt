@@ -1,0 +1,409 @@
+-- Demand 3. With the lock-down and no power cut the read locks stand and the write locks only grow, so a key byte is never shown, and
+-- work, which runs only in ranges with no write lock, never changes it. That the chips are idle at the start is not needed. Assumes nothing.
+use Prim.Native.Nat.{ℕ, zero, suc, _+_, _-_, _%_, _<_}
+use mathlib.Core.Path.{_≡_, refl, sym, ap, _∙_, subst, fun-ext}
+use mathlib.Core.Bool.{Bool, true, false, not, _&&_, _||_, true≢false}
+use mathlib.Core.List.{List, [], _∷_}
+use native.Mathlib.Omega.{arith}
+use lib.Dec.{ltb}
+use lib.Bits.{bitAnd, bitOr}
+use Rattle.rules.specs.declared.Cell.{Cell}
+use Rattle.rules.specs.declared.Chip.{Chip}
+use Rattle.rules.specs.declared.Kind.{Kind}
+use Rattle.rules.specs.declared.Range.{Range}
+use Rattle.rules.specs.declared.Source.{Source}
+use Rattle.rules.specs.declared.Work.{Work}
+use Rattle.rules.specs.declared.Work.the-variants.{Nothing, EraseSector, EraseBlock, EraseArray, ProgramPage, ProgramSecurity, LockSecurity, WriteConfiguration, AddPermanent}
+use Rattle.rules.specs.Words.{bit, pick, holds, Lent, lent, written}
+use Rattle.rules.specs.Blocks.{arraySize, blockOf, blockAt, readLocked, writeLocked, writeLocks}
+use Rattle.rules.specs.Works.{isErase, arrayRange, finished, finish}
+use Rattle.rules.specs.Frames.{frames, formOf, opcode, address}
+use Rattle.rules.specs.Reading.{known, unknown, placeCell, shown, reply}
+use Rattle.rules.specs.Fields.{withEnable}
+use Rattle.rules.specs.Commands.{act, settled, rested}
+use Rattle.rules.specs.WellFormed.{wellFormed}
+use Rattle.rules.specs.Numbers.{State, Frame, stateRight, first, frameTests, completionTests}
+use Rattle.rules.specs.Machine.{Outcome, frameChip, frameCell, frameReply, frameMarks, frame, workedArray, workedSecurity, completedChip, completion, Event, sends, completes, cuts, step, run}
+use Rattle.rules.specs.Demands.{Bench, stateOf, Call, Given, Chain, eventsOf, outcomesOf, keyPlace, TwoChips, Uncut, Kept, AllKept, Demand3, Demand3OfCode}
+use Rattle.rules.proofs.Bools.{and-split, never}
+use Rattle.rules.proofs.Bits.{bit-or}
+use Rattle.rules.proofs.Blocks.{unlocked-place}
+use Rattle.rules.proofs.Effects.{finish-outside}
+use Rattle.rules.proofs.Numbers.{Accepted, accepted, completion-given}
+use Rattle.rules.proofs.Rows.{EachRow, by-rows}
+use Rattle.rules.proofs.Runs.{demand-2}
+use Rattle.rules.proofs.WellFormed.{well-of}
+
+-- ---- the locks of the key blocks of the start, under the record of now
+
+pub record Locked (p₀ : ℕ) (c : Chip) : Type 0 where
+  pub down : c .wpld ≡ true
+  pub held : (a : ℕ) → keyPlace p₀ a ≡ true → (readLocked (c .protection) a ≡ true) × (writeLocked (c .protection) a ≡ true)
+
+-- a done frame under the lock-down leaves it and the protection register
+Stands : ℕ → Kind → Type 0
+Stands o k = (c : Chip) (sent : List ℕ) → Accepted c o sent → c .wpld ≡ true → (act k sent (withEnable false c) .wpld ≡ true) × (act k sent (withEnable false c) .protection ≡ c .protection)
+
+-- 42 and 98 are refused under the lock-down
+refused : (w : Bool) → w ≡ true → (w || false || false) ≡ false → ⊥
+refused true e h = true≢false h
+refused false e h = true≢false (sym e)
+
+rows-stand : EachRow Stands frames
+unfolding Stands frames
+rows-stand = (
+  λ c sent a d. (d, refl),
+  (
+    λ c sent a d. (d, refl),
+    (
+      λ c sent a d. (d, refl),
+      (
+        λ c sent a d. (d, refl),
+        (
+          λ c sent a d. (d, refl),
+          (
+            λ c sent a d. (d, refl),
+            (
+              λ c sent a d. (d, refl),
+              (
+                λ c sent a d. (d, refl),
+                (
+                  λ c sent a d. (d, refl),
+                  (
+                    λ c sent a d. (d, refl),
+                    (
+                      λ c sent a d. (d, refl),
+                      (
+                        λ c sent a d. (d, refl),
+                        (
+                          λ c sent a d. (d, refl),
+                          (
+                            λ c sent a d. (d, refl),
+                            (
+                              λ c sent a d. (d, refl),
+                              (
+                                λ c sent a d. (d, refl),
+                                (
+                                  λ c sent a d. (d, refl),
+                                  (
+                                    λ c sent a d. (d, refl),
+                                    (
+                                      λ c sent a d. (d, refl),
+                                      (
+                                        λ c sent a d. (d, refl),
+                                        (
+                                          λ c sent a d. (d, refl),
+                                          (
+                                            λ c sent a d. (d, refl),
+                                            (
+                                              λ c sent a d. (d, refl),
+                                              (
+                                                λ c sent a d. (d, refl),
+                                                (
+                                                  λ c sent a d. absurd (refused (c .wpld) d (a .opened)),
+                                                  (
+                                                    λ c sent a d. (d, refl),
+                                                    (
+                                                      λ c sent a d. (refl, refl),
+                                                      (
+                                                        λ c sent a d. absurd (refused (c .wpld) d (a .opened)),
+                                                        (
+                                                          λ c sent a d. (d, refl),
+                                                          (
+                                                            λ c sent a d. (d, refl),
+                                                            tt,
+                                                          ),
+                                                        ),
+                                                      ),
+                                                    ),
+                                                  ),
+                                                ),
+                                              ),
+                                            ),
+                                          ),
+                                        ),
+                                      ),
+                                    ),
+                                  ),
+                                ),
+                              ),
+                            ),
+                          ),
+                        ),
+                      ),
+                    ),
+                  ),
+                ),
+              ),
+            ),
+          ),
+        ),
+      ),
+    ),
+  ),
+)
+
+stands : (c : Chip) (sent : List ℕ) → Accepted c (opcode sent) sent → c .wpld ≡ true
+    → (act (formOf (opcode sent) .kind) sent (withEnable false c) .wpld ≡ true) × (act (formOf (opcode sent) .kind) sent (withEnable false c) .protection ≡ c .protection)
+unfolding Stands
+stands c sent a d = by-rows Stands rows-stand (c .sqi) (opcode sent) (a .known) c sent a d
+
+module _ (p₀ : ℕ) where
+  same-locks : (c d : Chip) → Locked p₀ c → d .wpld ≡ true → d .protection ≡ c .protection → Locked p₀ d
+  same-locks c d l down e =
+      record {
+        down = down;
+        held = λ a k. let h = l .held a k in (ap (λ (p : ℕ). readLocked p a) e ∙ h .0, ap (λ (p : ℕ). writeLocked p a) e ∙ h .1);
+      }
+
+  frame-locked : (n : ℕ) (c : Chip) (sent : List ℕ) → Locked p₀ c → (n ≡ 0 → Accepted c (opcode sent) sent) → Locked p₀ (frameChip n c sent)
+  unfolding frameChip
+  frame-locked zero c sent l a = let h = stands c sent (a refl) (l .down) in same-locks c _ l (h .0) (h .1)
+  frame-locked (suc zero) c sent l a = l
+  frame-locked (suc (suc zero)) c sent l a = l
+  frame-locked (suc (suc (suc n))) c sent l a = same-locks c _ l (l .down) refl
+
+  -- E8 adds locks and takes none
+  more-read : (p v a : ℕ) → readLocked p a ≡ true → readLocked (bitOr p v) a ≡ true
+  unfolding readLocked
+  more-read p v a e = go (blockAt (blockOf a) .paired) (bit (blockAt (blockOf a) .write + 1) p) (bit (blockAt (blockOf a) .write + 1) v) (bit-or (blockAt (blockOf a) .write + 1) p v) e
+    where
+      go : (q x y : Bool) {z : Bool} → z ≡ (x || y) → (q && x) ≡ true → (q && z) ≡ true
+      go true true y e h = e
+      go true false y e h = absurd (true≢false (sym h))
+      go false x y e h = h
+
+  more-write : (p v a : ℕ) → writeLocked p a ≡ true → writeLocked (bitOr p v) a ≡ true
+  unfolding writeLocked
+  more-write p v a e = bit-or (blockAt (blockOf a) .write) p v ∙ ap (λ (x : Bool). x || bit (blockAt (blockOf a) .write) v) e
+
+  settled-locked : (w : Work) (c : Chip) → Locked p₀ c → Locked p₀ (rested (settled w c))
+  settled-locked Nothing c l = same-locks c _ l (l .down) refl
+  settled-locked (EraseSector n) c l = same-locks c _ l (l .down) refl
+  settled-locked (EraseBlock n) c l = same-locks c _ l (l .down) refl
+  settled-locked EraseArray c l = same-locks c _ l (l .down) refl
+  settled-locked (ProgramPage n) c l = same-locks c _ l (l .down) refl
+  settled-locked (ProgramSecurity n) c l = same-locks c _ l (l .down) refl
+  settled-locked LockSecurity c l = same-locks c _ l (l .down) refl
+  settled-locked (WriteConfiguration i w) c l = same-locks c _ l (l .down) refl
+  settled-locked (AddPermanent v) c l =
+      record {
+        down = l .down;
+        held = λ a k. let h = l .held a k in (more-read (c .protection) (bitAnd v writeLocks) a (h .0), more-write (c .protection) (bitAnd v writeLocks) a (h .1));
+      }
+
+  completed-locked : (n : ℕ) (c : Chip) → Locked p₀ c → Locked p₀ (completedChip n c)
+  unfolding completedChip
+  completed-locked zero c l = settled-locked (c .running) c l
+  completed-locked (suc n) c l = l
+
+  -- ---- what is seen of a frame
+
+  -- the same state with other bytes in the array
+  with-bytes : State → (ℕ → ℕ) → State
+  with-bytes s g = record { chip = s .chip; array = record { size = s .array .size; byte = g }; security = s .security }
+
+  module _ (s : State) (g : ℕ → ℕ) (l : Locked p₀ (s .chip)) (agree : (a : ℕ) → a < arraySize → keyPlace p₀ a ≡ false → s .array .byte a ≡ g a) where
+    cell-same : (r : Range) (a : ℕ) → a < arraySize → placeCell (s .chip .protection) r (s .array) a ≡ placeCell (s .chip .protection) r (with-bytes s g .array) a
+    unfolding placeCell with-bytes
+    cell-same r a below = go (readLocked (s .chip .protection) a) refl
+      where
+        go : (x : Bool) → readLocked (s .chip .protection) a ≡ x
+            → pick x (known 0) (pick (holds r a) unknown (known (s .array .byte a))) ≡ pick x (known 0) (pick (holds r a) unknown (known (g a)))
+        go true e = refl
+        go false e =
+            ap (λ (b : ℕ). pick (holds r a) unknown (known b))
+            (agree a below (never (keyPlace p₀ a) (λ k. true≢false (sym (l .held a k .0) ∙ e))))
+
+    shown-same : (x : Source) (sent : List ℕ) (i : ℕ) → shown x (s .chip) (s .array) (s .security) sent i ≡ shown x (s .chip) (with-bytes s g .array) (s .security) sent i
+    unfolding shown
+    shown-same Source.Status sent i = refl
+    shown-same Source.Configuration sent i = refl
+    shown-same Source.Protection sent i = refl
+    shown-same Source.Identity sent i = refl
+    shown-same Source.Array sent i = cell-same (arrayRange (s .chip .suspended)) ((address sent + i) % arraySize) (omega arith)
+    shown-same Source.Security sent i = refl
+
+    reply-same : (k : Kind) (sent : List ℕ) (i : ℕ) → reply k (s .chip) (s .array) (s .security) sent i ≡ reply k (s .chip) (with-bytes s g .array) (s .security) sent i
+    reply-same Kind.Nothing sent i = refl
+    reply-same Kind.EnableReset sent i = refl
+    reply-same Kind.Reset sent i = refl
+    reply-same Kind.ToSqi sent i = refl
+    reply-same Kind.ToSpi sent i = refl
+    reply-same (Kind.Show x) sent i = shown-same x sent i
+    reply-same Kind.SetWel sent i = refl
+    reply-same Kind.ClearWel sent i = refl
+    reply-same (Kind.Begin x) sent i = refl
+    reply-same Kind.WriteProtection sent i = refl
+    reply-same Kind.LockDown sent i = refl
+    reply-same Kind.ClearLocks sent i = refl
+    reply-same Kind.Suspend sent i = refl
+    reply-same Kind.Resume sent i = refl
+
+    frameReply-same : (n : ℕ) (f : Frame) → frameReply n s f ≡ frameReply n (with-bytes s g) f
+    unfolding frameReply frameCell with-bytes
+    frameReply-same zero f =
+        ap (λ (h : ℕ → ℕ). written (f .reply .size) h) (fun-ext (λ i. ap (λ (x : Cell). x .byte) (reply-same (formOf (opcode (f .sent)) .kind) (f .sent) i)))
+    frameReply-same (suc zero) f = refl
+    frameReply-same (suc (suc n)) f = refl
+
+    frameMarks-same : (n : ℕ) (f : Frame) → frameMarks n s f ≡ frameMarks n (with-bytes s g) f
+    unfolding frameMarks frameCell with-bytes
+    frameMarks-same zero f =
+        ap (λ (h : ℕ → ℕ). written (f .marks .size) h) (fun-ext (λ i. ap (λ (x : Cell). x .mark) (reply-same (formOf (opcode (f .sent)) .kind) (f .sent) i)))
+    frameMarks-same (suc zero) f = refl
+    frameMarks-same (suc (suc n)) f = refl
+
+  -- ---- what a completion does to the array
+
+  worked-alike : (n : ℕ) (s : State) (g : ℕ → ℕ) (a : ℕ) → s .array .byte a ≡ g a → workedArray n arraySize s .byte a ≡ workedArray n arraySize (with-bytes s g) .byte a
+  unfolding workedArray finish with-bytes
+  worked-alike zero s g a e =
+      ap (λ (x : ℕ). pick (holds (arrayRange (s .chip .running)) a && ltb (a - arrayRange (s .chip .running) .start) arraySize)
+      (finished (isErase (s .chip .running)) (s .chip .buffer) (a - arrayRange (s .chip .running) .start) x) x) e
+  worked-alike (suc n) s g a e = e
+
+  worked-size : (n : ℕ) (s : State) → workedArray n arraySize s .size ≡ s .array .size
+  unfolding workedArray finish
+  worked-size zero s = refl
+  worked-size (suc n) s = refl
+
+  worked-security : (n : ℕ) (s : State) (g : ℕ → ℕ) → workedSecurity n arraySize s ≡ workedSecurity n arraySize (with-bytes s g)
+  unfolding workedSecurity with-bytes
+  worked-security zero s g = refl
+  worked-security (suc n) s g = refl
+
+  -- a key byte lies in no range that runs
+  worked-key : (n : ℕ) (s : State) (a : ℕ) → Locked p₀ (s .chip) → (n ≡ 0 → stateRight s ≡ true) → a < arraySize → keyPlace p₀ a ≡ true → workedArray n arraySize s .byte a ≡ s .array .byte a
+  unfolding workedArray
+  worked-key zero s a l r below k =
+      finish-outside (isErase (s .chip .running)) (arrayRange (s .chip .running)) (s .chip .buffer) arraySize (s .array) a
+      (never (holds (arrayRange (s .chip .running)) a)
+      (λ h. true≢false (sym (l .held a k .1) ∙ unlocked-place (s .chip .protection) (arrayRange (s .chip .running)) a (well-of (s .chip) (formed (r refl)) .works .running-open) below h)))
+    where
+      formed : stateRight s ≡ true → wellFormed (s .chip) ≡ true
+      formed e = and-split (wellFormed (s .chip)) _ (and-split _ _ e .0) .0
+  worked-key (suc n) s a l r below k = refl
+
+  -- ---- two states on the way
+
+  record Twins (s₀ t₀ s t : State) : Type 0 where
+    chip : s .chip ≡ t .chip
+    security : s .security ≡ t .security
+    size : s .array .size ≡ t .array .size
+    locked : Locked p₀ (s .chip)
+    alike : (a : ℕ) → a < arraySize → keyPlace p₀ a ≡ false → s .array .byte a ≡ t .array .byte a
+    first-keys : (a : ℕ) → a < arraySize → keyPlace p₀ a ≡ true → s .array .byte a ≡ s₀ .array .byte a
+    second-keys : (a : ℕ) → a < arraySize → keyPlace p₀ a ≡ true → t .array .byte a ≡ t₀ .array .byte a
+
+  -- the second is the first with other bytes
+  other-bytes : (s₀ t₀ s t : State) → Twins s₀ t₀ s t → with-bytes s (t .array .byte) ≡ t
+  unfolding with-bytes
+  other-bytes s₀ t₀ s t w =
+      let c = w .chip in
+      let y = w .security in
+      let z = w .size in
+      λ i. record { chip = c i; array = record { size = z i; byte = t .array .byte }; security = y i }
+
+  -- what an event leaves, and what tells two outcomes apart
+  record After (s₀ t₀ : State) (o q : Outcome) : Type 0 where
+    number : o .number ≡ q .number
+    reply : o .reply ≡ q .reply
+    marks : o .marks ≡ q .marks
+    twins : Twins s₀ t₀ (record { chip = o .chip; array = o .array; security = o .security }) (record { chip = q .chip; array = q .array; security = q .security })
+
+  frame-after : (s₀ t₀ s t : State) (f : Frame) → Twins s₀ t₀ s t → After s₀ t₀ (frame s f) (frame (with-bytes s (t .array .byte)) f)
+  unfolding frame with-bytes frameTests
+  frame-after s₀ t₀ s t f w =
+      record {
+        number = refl;
+        reply = frameReply-same s (t .array .byte) (w .locked) (w .alike) (first (frameTests s f)) f;
+        marks = frameMarks-same s (t .array .byte) (w .locked) (w .alike) (first (frameTests s f)) f;
+        twins = record {
+          chip = refl;
+          security = refl;
+          size = refl;
+          locked = frame-locked (first (frameTests s f)) (s .chip) (f .sent) (w .locked) (λ e. accepted s f e);
+          alike = w .alike;
+          first-keys = w .first-keys;
+          second-keys = w .second-keys;
+        };
+      }
+
+  completion-after : (s₀ t₀ s t : State) → Twins s₀ t₀ s t → After s₀ t₀ (completion s) (completion (with-bytes s (t .array .byte)))
+  unfolding completion with-bytes completionTests
+  completion-after s₀ t₀ s t w =
+      let n = first (completionTests s) in
+      let right : n ≡ 0 → stateRight s ≡ true = λ z. completion-given s .is-0 .0 z .0 in
+      let u = with-bytes s (t .array .byte) in
+      record {
+        number = refl;
+        reply = refl;
+        marks = refl;
+        twins = record {
+          chip = refl;
+          security = worked-security n s (t .array .byte);
+          size = worked-size n s ∙ sym (worked-size n u);
+          locked = completed-locked n (s .chip) (w .locked);
+          alike = λ a below k. worked-alike n s (t .array .byte) a (w .alike a below k);
+          first-keys = λ a below k. worked-key n s a (w .locked) right below k ∙ w .first-keys a below k;
+          second-keys = λ a below k. worked-key n u a (w .locked) right below k ∙ w .second-keys a below k;
+        };
+      }
+
+  step-after : (s₀ t₀ s t : State) (e : Event) → Uncut (e ∷ []) → Twins s₀ t₀ s t → After s₀ t₀ (step s e) (step t e)
+  unfolding step
+  step-after s₀ t₀ s t (sends f) n w = subst (λ (t : State). After s₀ t₀ (frame s f) (frame t f)) (other-bytes s₀ t₀ s t w) (frame-after s₀ t₀ s t f w)
+  step-after s₀ t₀ s t completes n w = subst (λ (t : State). After s₀ t₀ (completion s) (completion t)) (other-bytes s₀ t₀ s t w) (completion-after s₀ t₀ s t w)
+  step-after s₀ t₀ s t (cuts k) n w = absurd n
+
+  kept : (s₀ t₀ : State) (o q : Outcome) → s₀ .chip .protection ≡ p₀ → After s₀ t₀ o q → Kept s₀ t₀ o q
+  kept s₀ t₀ o q e w =
+      let back : (a : ℕ) → keyPlace p₀ a ≡ keyPlace (s₀ .chip .protection) a = λ a. ap (λ (p : ℕ). keyPlace p a) (sym e) in
+      record {
+        same-number = w .number;
+        same-reply = w .reply;
+        same-marks = w .marks;
+        same-record = w .twins .chip;
+        same-security = w .twins .security;
+        same-size = w .twins .size;
+        alike = λ a below k. w .twins .alike a below (back a ∙ k);
+        first-keys = λ a below k. w .twins .first-keys a below (back a ∙ k);
+        second-keys = λ a below k. w .twins .second-keys a below (back a ∙ k);
+      }
+
+  kept-run : (s₀ t₀ s t : State) (es : List Event) → s₀ .chip .protection ≡ p₀ → Uncut es → Twins s₀ t₀ s t → AllKept s₀ t₀ (run s es) (run t es)
+  unfolding run
+  kept-run s₀ t₀ s t [] p u w = tt
+  kept-run s₀ t₀ s t (sends f ∷ es) p u w =
+      let h = step-after s₀ t₀ s t (sends f) tt w in
+      (kept s₀ t₀ _ _ p h, kept-run s₀ t₀ _ _ es p u (h .twins))
+  kept-run s₀ t₀ s t (completes ∷ es) p u w =
+      let h = step-after s₀ t₀ s t completes tt w in
+      (kept s₀ t₀ _ _ p h, kept-run s₀ t₀ _ _ es p u (h .twins))
+  kept-run s₀ t₀ s t (cuts k ∷ es) p u w = absurd u
+
+-- ---- the demand
+
+-- at the start both locks stand
+start-locked : (s : State) → s .chip .wpld ≡ true → Locked (s .chip .protection) (s .chip)
+start-locked s d = record { down = d; held = λ a k. and-split (readLocked (s .chip .protection) a) (writeLocked (s .chip .protection) a) k }
+
+pub demand-3 : Demand3
+demand-3 s t es c u =
+    kept-run (s .chip .protection) s t s t es refl u
+    (record {
+      chip = c .same-record;
+      security = c .same-security;
+      size = c .same-size;
+      locked = start-locked s (c .locked-down);
+      alike = c .alike;
+      first-keys = λ a below k. refl;
+      second-keys = λ a below k. refl;
+    })
+
+pub demand-3-of-code : Demand3OfCode
+demand-3-of-code b d es gs hs c u p q =
+    subst (λ (os : List Outcome). AllKept (stateOf b) (stateOf d) os (outcomesOf hs)) (sym (demand-2 b es gs p .machine))
+    (subst (λ (os : List Outcome). AllKept (stateOf b) (stateOf d) (run (stateOf b) (eventsOf es)) os) (sym (demand-2 d es hs q .machine))
+    (demand-3 (stateOf b) (stateOf d) (eventsOf es) c u))

@@ -1,0 +1,240 @@
+-- Demand 2 over runs: a chain of outcomes that meet the guarantees is the machine's run; it exists, and there is one only. Assumes nothing.
+use Prim.Native.Nat.{ℕ, zero, suc, _+_, _-_, _*_, _≤_, _<_}
+use mathlib.Core.Path.{_≡_, refl, sym, ap, ap₂, _∙_, subst}
+use mathlib.Core.Bool.{Bool, true, false, not, _&&_}
+use mathlib.Core.List.{List, [], _∷_}
+use native.Mathlib.Omega.{arith}
+use lib.Dec.{eqb, ltb}
+use lib.ListN.{length, getD, List·getD-eq-default}
+use borrow.Author.Tests.{eqb-true, ltb-true, le-ltb}
+use Rattle.rules.specs.declared.After.{After}
+use Rattle.rules.specs.declared.Answer.{Answer}
+use Rattle.rules.specs.declared.Chip.{Chip}
+use Rattle.rules.specs.declared.Range.{Range}
+use Rattle.rules.specs.declared.Work.{Work}
+use Rattle.rules.specs.declared.Work.the-variants.{Nothing, EraseSector, EraseBlock, EraseArray, ProgramPage, ProgramSecurity, LockSecurity, WriteConfiguration, AddPermanent}
+use Rattle.rules.specs.Words.{pick, holds, Lent, lent, written, unlent}
+use Rattle.rules.specs.Blocks.{arraySize, securitySize}
+use Rattle.rules.specs.Works.{isNothing, isErase, arrayRange, securityRange, finish}
+use Rattle.rules.specs.WellFormed.{numbersRight, wellFormed}
+use Rattle.rules.specs.Numbers.{answerNumber, State, Frame, stateRight, first, frameTests, completionTests, cutTests}
+use Rattle.rules.specs.Machine.{Outcome, frameReply, frameMarks, frame, workedArray, workedSecurity, completion, powerCut, Event, sends, completes, cuts, step, run}
+use Rattle.rules.specs.Promises.{state, carried, came}
+use Rattle.rules.specs.Demands.{Bench, stateOf, Call, frames, Given, Meets, benchAfter, Chain, eventOf, outcomeOf, eventsOf, outcomesOf, AllWellFormed, Demand2}
+use Rattle.rules.proofs.Bools.{and-split, never}
+use Rattle.rules.proofs.Blocks.{holds-at}
+use Rattle.rules.proofs.Ranges.{array-inside, security-inside}
+use Rattle.rules.proofs.Effects.{finish-outside}
+use Rattle.rules.proofs.Numbers.{frame-given, completion-given, cut-given}
+use Rattle.rules.proofs.Promises.{lent-ext, answerOf, answer-number, frame-one, completion-one, cut-one, Same}
+use Rattle.rules.proofs.WellFormed.{well-of, step-well-formed}
+
+-- ---- each outcome is the machine's
+
+meets-machine : (b : Bench) (e : Call) (g : Given) → Meets b e g → outcomeOf g ≡ step (stateOf b) (eventOf e)
+unfolding step
+meets-machine b (frames sent y m) g h = h .outcome
+meets-machine b Call.completion g h = ap₂ (λ (y m : List ℕ). came (g .after) (g .array) (g .security) y m) (h .1) (h .2) ∙ h .0 .outcome
+meets-machine b (Call.powerCut k) g h = ap₂ (λ (y m : List ℕ). came (g .after) (g .array) (g .security) y m) (h .1) (h .2) ∙ h .0 .outcome
+
+chain-machine : (b : Bench) (es : List Call) (gs : List Given) → Chain b es gs → outcomesOf gs ≡ run (stateOf b) (eventsOf es)
+unfolding run
+chain-machine b [] [] h = refl
+chain-machine b [] (g ∷ gs) h = absurd h
+chain-machine b (e ∷ es) [] h = absurd h
+chain-machine b (e ∷ es) (g ∷ gs) h =
+    ap (λ (os : List Outcome). outcomeOf g ∷ os) (chain-machine (benchAfter g) es gs (h .1))
+    ∙ ap (λ (o : Outcome). o ∷ run (record { chip = o .chip; array = o .array; security = o .security }) (eventsOf es)) (meets-machine b e g (h .0))
+
+chain-formed : (b : Bench) (es : List Call) (gs : List Given) → Chain b es gs → wellFormed (b .chip) ≡ true → AllWellFormed gs
+chain-formed b [] [] h w = tt
+chain-formed b [] (g ∷ gs) h w = absurd h
+chain-formed b (e ∷ es) [] h w = absurd h
+chain-formed b (e ∷ es) (g ∷ gs) h w =
+    let f : wellFormed (g .after .chip) ≡ true =
+    ap wellFormed (ap (λ (o : Outcome). o .chip) (meets-machine b e g (h .0))) ∙ step-well-formed (stateOf b) (eventOf e) w in
+    (f, chain-formed (benchAfter g) es gs (h .1) f)
+
+pub demand-2 : (b : Bench) (es : List Call) (gs : List Given) → Chain b es gs → Demand2 b es gs
+demand-2 b es gs h = record { machine = chain-machine b es gs h; formed = chain-formed b es gs h }
+
+-- ---- there is one chain only
+
+given-ext : {g k : Given} → g .after ≡ k .after → g .array ≡ k .array → g .security ≡ k .security → g .reply ≡ k .reply → g .marks ≡ k .marks → g ≡ k
+given-ext r a s y m = λ i. record { after = r i; array = a i; security = s i; reply = y i; marks = m i }
+
+meets-one : (b : Bench) (e : Call) (g k : Given) → Meets b e g → Meets b e k → g ≡ k
+meets-one b (frames sent y m) g k p q =
+    let s = frame-one (b .chip) (b .array) (b .security) sent y m (g .after) (k .after) (g .array) (k .array) (g .security) (k .security) (g .reply) (k .reply) (g .marks) (k .marks) p q in
+    given-ext (s .result) (s .array-same) (s .security-same) (s .reply-same) (s .marks-same)
+meets-one b Call.completion g k p q =
+    let s = completion-one (b .chip) (b .array) (b .security) (g .after) (k .after) (g .array) (k .array) (g .security) (k .security) (p .0) (q .0) in
+    given-ext (s .result) (s .array-same) (s .security-same) (p .1 ∙ sym (q .1)) (p .2 ∙ sym (q .2))
+meets-one b (Call.powerCut n) g k p q =
+    let s = cut-one (b .chip) (b .array) (b .security) n (g .after) (k .after) (g .array) (k .array) (g .security) (k .security) (p .0) (q .0) in
+    given-ext (s .result) (s .array-same) (s .security-same) (p .1 ∙ sym (q .1)) (p .2 ∙ sym (q .2))
+
+pub chain-one : (b : Bench) (es : List Call) (gs ks : List Given) → Chain b es gs → Chain b es ks → gs ≡ ks
+chain-one b [] [] [] p q = refl
+chain-one b [] [] (k ∷ ks) p q = absurd q
+chain-one b [] (g ∷ gs) ks p q = absurd p
+chain-one b (e ∷ es) [] ks p q = absurd p
+chain-one b (e ∷ es) (g ∷ gs) [] p q = absurd q
+chain-one b (e ∷ es) (g ∷ gs) (k ∷ ks) p q =
+    let h = meets-one b e g k (p .0) (q .0) in
+    ap₂ (λ (x : Given) (xs : List Given). x ∷ xs) h (chain-one (benchAfter g) es gs ks (p .1) (subst (λ (x : Given). Chain (benchAfter x) es ks) (sym h) (q .1)))
+
+-- ---- and it exists: the machine's memories are lists
+
+-- the bytes of a memory, from place i on
+bytes : ℕ → ℕ → (ℕ → ℕ) → List ℕ
+bytes i zero f = []
+bytes i (suc n) f = f i ∷ bytes (suc i) n f
+
+length-bytes : (i n : ℕ) (f : ℕ → ℕ) → length (bytes i n f) ≡ n
+unfolding bytes
+length-bytes i zero f = refl
+length-bytes i (suc n) f = ap suc (length-bytes (suc i) n f)
+
+getD-bytes : (i n : ℕ) (f : ℕ → ℕ) (k : ℕ) → k < n → getD (bytes i n f) k 0 ≡ f (i + k)
+unfolding bytes
+getD-bytes i zero f k h = absurd (omega arith)
+getD-bytes i (suc n) f zero h = let e : i ≡ i + 0 = omega arith in ap f e
+getD-bytes i (suc n) f (suc k) h = let e : suc i + k ≡ i + suc k = omega arith in getD-bytes (suc i) n f k (omega arith) ∙ ap f e
+
+listOf : Lent → List ℕ
+listOf m = bytes 0 (m .size) (m .byte)
+
+-- a memory with nothing past its end is that of a list
+Tame : Lent → Type 0
+Tame m = (i : ℕ) → m .size ≤ i → m .byte i ≡ 0
+
+listed : (m : Lent) → Tame m → lent (listOf m) ≡ m
+unfolding listOf Tame
+listed m t = lent-ext (length-bytes 0 (m .size) (m .byte)) (λ i. go i (ltb i (m .size)) refl)
+  where
+    go : (i : ℕ) (b : Bool) → ltb i (m .size) ≡ b → getD (listOf m) i 0 ≡ m .byte i
+    go i true e = let z : 0 + i ≡ i = omega arith in getD-bytes 0 (m .size) (m .byte) i (ltb-true i (m .size) e) ∙ ap (m .byte) z
+    go i false e =
+        let l = length-bytes 0 (m .size) (m .byte) in
+        let h = borrow.Author.Tests.ltb-false i (m .size) e in
+        List·getD-eq-default (listOf m) 0 (omega arith) ∙ sym (t i h)
+
+tame-lent : (l : List ℕ) → Tame (lent l)
+unfolding Tame
+tame-lent l i h = List·getD-eq-default l 0 h
+
+tame-written : (n : ℕ) (f : ℕ → ℕ) → Tame (written n f)
+unfolding Tame
+tame-written n f i h = rw (le-ltb i n h)
+
+tame-finish : (erases : Bool) (r : Range) (b : List ℕ) (k : ℕ) (m : Lent) → Tame m → r .start + r .size ≤ m .size → Tame (finish erases r b k m)
+unfolding Tame finish
+tame-finish erases r b k m t fits i h = finish-outside erases r b k m i (never (holds r i) (λ e. let g = holds-at r i e in omega arith)) ∙ t i h
+
+right-parts : (b : Bench) → stateRight (stateOf b) ≡ true → (numbersRight (b .chip .running) ≡ true) × (length (b .array) ≡ arraySize) × (length (b .security) ≡ securitySize)
+right-parts b e =
+    let h₂ = and-split (wellFormed (b .chip) && eqb (length (b .array)) arraySize) (eqb (length (b .security)) securitySize) e in
+    let h₁ = and-split (wellFormed (b .chip)) (eqb (length (b .array)) arraySize) (h₂ .0) in
+    (well-of (b .chip) (h₁ .0) .works .running, eqb-true (length (b .array)) arraySize (h₁ .1), eqb-true (length (b .security)) securitySize (h₂ .1))
+
+module _ (b : Bench) (k : ℕ) where
+  tame-array : (n : ℕ) → (n ≡ 0 → stateRight (stateOf b) ≡ true) → Tame (workedArray n k (stateOf b))
+  unfolding workedArray
+  tame-array zero h =
+      let p = right-parts b (h refl) in
+      let i = array-inside (b .chip .running) (p .0) in
+      let z = p .1 in
+      tame-finish (isErase (b .chip .running)) (arrayRange (b .chip .running)) (b .chip .buffer) k (lent (b .array)) (tame-lent (b .array)) (omega arith)
+  tame-array (suc n) h = tame-lent (b .array)
+
+  tame-security : (n : ℕ) → (n ≡ 0 → stateRight (stateOf b) ≡ true) → Tame (workedSecurity n k (stateOf b))
+  unfolding workedSecurity
+  tame-security zero h =
+      let p = right-parts b (h refl) in
+      let i = security-inside (b .chip .running) (p .0) in
+      let z = p .2 in
+      tame-finish (isErase (b .chip .running)) (securityRange (b .chip .running)) (b .chip .buffer) k (lent (b .security)) (tame-lent (b .security)) (omega arith)
+  tame-security (suc n) h = tame-lent (b .security)
+
+tame-reply : (n : ℕ) (s : State) (sent y m : List ℕ) → Tame (frameReply n s (carried sent y m))
+unfolding frameReply
+tame-reply zero s sent y m = tame-written (length y) _
+tame-reply (suc zero) s sent y m = tame-lent y
+tame-reply (suc (suc n)) s sent y m = tame-written (length y) _
+
+tame-marks : (n : ℕ) (s : State) (sent y m : List ℕ) → Tame (frameMarks n s (carried sent y m))
+unfolding frameMarks
+tame-marks zero s sent y m = tame-written (length m) _
+tame-marks (suc zero) s sent y m = tame-lent m
+tame-marks (suc (suc n)) s sent y m = tame-written (length m) _
+
+-- what a call gives, made of the machine's outcome
+givenOf : Outcome → Given
+givenOf o =
+    record { after = record { answer = answerOf (o .number); chip = o .chip }; array = listOf (o .array); security = listOf (o .security); reply = listOf (o .reply); marks = listOf (o .marks) }
+
+given-back : (o : Outcome) → o .number ≤ 12 → Tame (o .array) → Tame (o .security) → Tame (o .reply) → Tame (o .marks) → outcomeOf (givenOf o) ≡ o
+unfolding givenOf
+given-back o n a s y m =
+    let p = answer-number (o .number) n in
+    let q = listed (o .array) a in
+    let r = listed (o .security) s in
+    let t = listed (o .reply) y in
+    let u = listed (o .marks) m in
+    λ i. record { number = p i; chip = o .chip; array = q i; security = r i; reply = t i; marks = u i }
+
+completion-low : (s : State) → first (completionTests s) ≤ 12
+unfolding completionTests
+completion-low s = go (stateRight s) (isNothing (s .chip .running))
+  where
+    go : (a b : Bool) → pick (not a) 1 (pick b 12 0) ≤ 12
+    go true true = omega arith
+    go true false = omega arith
+    go false b = omega arith
+
+cut-low : (s : State) → first (cutTests s) ≤ 12
+unfolding cutTests
+cut-low s = go (stateRight s)
+  where
+    go : (a : Bool) → pick (not a) 1 0 ≤ 12
+    go true = omega arith
+    go false = omega arith
+
+pub meets-some : (b : Bench) (e : Call) → (g : Given) × Meets b e g
+unfolding frame completion powerCut givenOf listOf bytes
+meets-some b (frames sent y m) =
+    let s = stateOf b in
+    let f = carried sent y m in
+    let n : first (frameTests s f) ≤ 11 = frame-given s f .no-other in
+    let o = frame s f in
+    (givenOf o, record { outcome = given-back o (omega arith) (tame-lent (b .array)) (tame-lent (b .security)) (tame-reply (first (frameTests s f)) s sent y m) (tame-marks (first (frameTests s f)) s sent y m) })
+meets-some b Call.completion =
+    let s = stateOf b in
+    let o = completion s in
+    let right : first (completionTests s) ≡ 0 → stateRight s ≡ true = λ z. completion-given s .is-0 .0 z .0 in (
+      givenOf o,
+      (
+        record { outcome = given-back o (completion-low s) (tame-array b arraySize (first (completionTests s)) right) (tame-security b arraySize (first (completionTests s)) right) (tame-lent []) (tame-lent []) },
+        refl,
+        refl,
+      ),
+    )
+meets-some b (Call.powerCut k) =
+    let s = stateOf b in
+    let o = powerCut s k in
+    let right : first (cutTests s) ≡ 0 → stateRight s ≡ true = λ z. cut-given s .is-0 .0 z in (
+      givenOf o,
+      (
+        record { outcome = given-back o (cut-low s) (tame-array b k (first (cutTests s)) right) (tame-security b k (first (cutTests s)) right) (tame-lent []) (tame-lent []) },
+        refl,
+        refl,
+      ),
+    )
+
+pub chain-some : (b : Bench) (es : List Call) → (gs : List Given) × Chain b es gs
+chain-some b [] = ([], tt)
+chain-some b (e ∷ es) =
+    let g = meets-some b e in
+    let r = chain-some (benchAfter (g .0)) es in
+    (g .0 ∷ r .0, (g .1, r .1))

@@ -1,0 +1,134 @@
+-- Demands 2 and 3 over runs. Proved in proofs/Runs and proofs/Keys.
+use Prim.Native.Nat.{ℕ, _<_}
+use mathlib.Core.Path.{_≡_}
+use mathlib.Core.Bool.{Bool, true, false, _&&_}
+use mathlib.Core.List.{List, [], _∷_}
+use Rattle.rules.specs.declared.After.{After}
+use Rattle.rules.specs.declared.Chip.{Chip}
+use Rattle.rules.specs.declared.Work.{Work}
+use Rattle.rules.specs.Words.{Lent}
+use Rattle.rules.specs.Blocks.{arraySize, readLocked, writeLocked}
+use Rattle.rules.specs.WellFormed.{wellFormed}
+use Rattle.rules.specs.Numbers.{State}
+use Rattle.rules.specs.Machine.{Outcome, Event, sends, completes, cuts, run}
+use Rattle.rules.specs.Promises.{state, carried, came, FramePromise, CompletionPromise, CutPromise}
+
+-- ---- Demand 2: it is the rule book, over every run of events
+
+-- a chip with the bytes of its array and its Security ID
+pub record Bench : Type 0 where
+  pub chip : Chip
+  pub array : List ℕ
+  pub security : List ℕ
+
+abbrev pub stateOf : Bench → State
+stateOf b = state (b .chip) (b .array) (b .security)
+
+-- a call of a public function, with all that it carries: the bytes sent and the lent reply and marks as they are; a count
+pub data Call : Type 0 where
+  frames : List ℕ → List ℕ → List ℕ → Call
+  completion : Call
+  powerCut : ℕ → Call
+
+-- what a call gives back, and what all lent memory holds then
+pub record Given : Type 0 where
+  pub after : After
+  pub array : List ℕ
+  pub security : List ℕ
+  pub reply : List ℕ
+  pub marks : List ℕ
+
+-- the guarantee of the public function, at the state that it finds
+abbrev pub Meets : Bench → Call → Given → Type 0
+Meets b (frames sent reply marks) g =
+    FramePromise (b .chip) (b .array) (b .security) sent reply marks (g .after) (g .array) (g .security) (g .reply) (g .marks)
+Meets b completion g = CompletionPromise (b .chip) (b .array) (b .security) (g .after) (g .array) (g .security) × (g .reply ≡ []) × (g .marks ≡ [])
+Meets b (powerCut k) g = CutPromise (b .chip) (b .array) (b .security) k (g .after) (g .array) (g .security) × (g .reply ≡ []) × (g .marks ≡ [])
+
+-- the state that it leaves to the next call
+abbrev pub benchAfter : Given → Bench
+benchAfter g = record { chip = g .after .chip; array = g .array; security = g .security }
+
+-- each call's guarantee holds at the state that the call before it left
+abbrev pub Chain : Bench → List Call → List Given → Type 0
+Chain b [] [] = Unit {0}
+Chain b [] (g ∷ gs) = ⊥
+Chain b (e ∷ es) [] = ⊥
+Chain b (e ∷ es) (g ∷ gs) = Meets b e g × Chain (benchAfter g) es gs
+
+-- the machine's event and outcome
+abbrev pub eventOf : Call → Event
+eventOf (frames sent reply marks) = sends (carried sent reply marks)
+eventOf completion = completes
+eventOf (powerCut k) = cuts k
+
+abbrev pub outcomeOf : Given → Outcome
+outcomeOf g = came (g .after) (g .array) (g .security) (g .reply) (g .marks)
+
+abbrev pub eventsOf : List Call → List Event
+eventsOf [] = []
+eventsOf (e ∷ es) = eventOf e ∷ eventsOf es
+
+abbrev pub outcomesOf : List Given → List Outcome
+outcomesOf [] = []
+outcomesOf (g ∷ gs) = outcomeOf g ∷ outcomesOf gs
+
+abbrev pub AllWellFormed : List Given → Type 0
+AllWellFormed [] = Unit {0}
+AllWellFormed (g ∷ gs) = (wellFormed (g .after .chip) ≡ true) × AllWellFormed gs
+
+-- every outcome is the machine's, event by event, and every record on the way is well-formed
+pub record Demand2 (b : Bench) (es : List Call) (gs : List Given) : Type 0 where
+  pub machine : outcomesOf gs ≡ run (stateOf b) (eventsOf es)
+  pub formed : wellFormed (b .chip) ≡ true → AllWellFormed gs
+
+-- ---- Demand 3: it keeps keys
+
+-- a place of a block whose read lock and write lock are both set: such a block is one of 8 KB
+abbrev pub keyPlace : ℕ → ℕ → Bool
+keyPlace p a = readLocked p a && writeLocked p a
+
+-- two such chips, idle, nothing suspended, locked down, alike in everything but those blocks
+pub record TwoChips (s t : State) : Type 0 where
+  pub same-record : s .chip ≡ t .chip
+  pub locked-down : s .chip .wpld ≡ true
+  pub idle : s .chip .running ≡ Work.Nothing
+  pub nothing-suspended : s .chip .suspended ≡ Work.Nothing
+  pub same-security : s .security ≡ t .security
+  pub same-size : s .array .size ≡ t .array .size
+  pub alike : (a : ℕ) → a < arraySize → keyPlace (s .chip .protection) a ≡ false → s .array .byte a ≡ t .array .byte a
+
+-- frames and completions, no power cut
+abbrev pub Uncut : List Event → Type 0
+Uncut [] = Unit {0}
+Uncut (sends f ∷ es) = Uncut es
+Uncut (completes ∷ es) = Uncut es
+Uncut (cuts k ∷ es) = ⊥
+
+-- after an event: nothing tells the two apart, the rest stays alike, and each chip's own key bytes are what they were at the start.
+-- The key blocks are those of the start
+pub record Kept (s t : State) (o q : Outcome) : Type 0 where
+  pub same-number : o .number ≡ q .number
+  pub same-reply : o .reply ≡ q .reply
+  pub same-marks : o .marks ≡ q .marks
+  pub same-record : o .chip ≡ q .chip
+  pub same-security : o .security ≡ q .security
+  pub same-size : o .array .size ≡ q .array .size
+  pub alike : (a : ℕ) → a < arraySize → keyPlace (s .chip .protection) a ≡ false → o .array .byte a ≡ q .array .byte a
+  pub first-keys : (a : ℕ) → a < arraySize → keyPlace (s .chip .protection) a ≡ true → o .array .byte a ≡ s .array .byte a
+  pub second-keys : (a : ℕ) → a < arraySize → keyPlace (s .chip .protection) a ≡ true → q .array .byte a ≡ t .array .byte a
+
+abbrev pub AllKept : State → State → List Outcome → List Outcome → Type 0
+AllKept s t [] [] = Unit {0}
+AllKept s t [] (q ∷ qs) = ⊥
+AllKept s t (o ∷ os) [] = ⊥
+AllKept s t (o ∷ os) (q ∷ qs) = Kept s t o q × AllKept s t os qs
+
+abbrev pub Demand3 : Type 0
+Demand3 = (s t : State) (es : List Event) → TwoChips s t → Uncut es → AllKept s t (run s es) (run t es)
+
+-- the same of code: two chains of outcomes that meet the public guarantees, with the same calls
+abbrev pub Demand3OfCode : Type 0
+Demand3OfCode =
+    (b d : Bench) (es : List Call) (gs hs : List Given) → TwoChips (stateOf b) (stateOf d) → Uncut (eventsOf es) → Chain b es gs → Chain d es hs
+    → AllKept (stateOf b) (stateOf d) (outcomesOf gs) (outcomesOf hs)
