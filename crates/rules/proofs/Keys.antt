@@ -14,7 +14,7 @@ use Rattle.rules.specs.declared.Range.{Range}
 use Rattle.rules.specs.declared.Source.{Source}
 use Rattle.rules.specs.declared.Work.{Work}
 use Rattle.rules.specs.declared.Work.the-variants.{Nothing, EraseSector, EraseBlock, EraseArray, ProgramPage, ProgramSecurity, LockSecurity, WriteConfiguration, AddPermanent}
-use Rattle.rules.specs.Words.{bit, pick, holds, Lent, lent, written}
+use Rattle.rules.specs.Words.{bit, pick, holds, written}
 use Rattle.rules.specs.Blocks.{arraySize, blockOf, blockAt, readLocked, writeLocked, writeLocks}
 use Rattle.rules.specs.Works.{isErase, arrayRange, finished, finish}
 use Rattle.rules.specs.Frames.{frames, formOf, opcode, address}
@@ -24,7 +24,7 @@ use Rattle.rules.specs.Commands.{act, settled, rested}
 use Rattle.rules.specs.WellFormed.{wellFormed}
 use Rattle.rules.specs.Numbers.{State, Frame, stateRight, first, frameTests, completionTests}
 use Rattle.rules.specs.Machine.{Outcome, frameChip, frameCell, frameReply, frameMarks, frame, workedArray, workedSecurity, completedChip, completion, Event, sends, completes, cuts, step, run}
-use Rattle.rules.specs.Demands.{Bench, stateOf, Call, Given, Chain, eventsOf, outcomesOf, keyPlace, TwoChips, Uncut, Kept, AllKept, Demand3, Demand3OfCode}
+use Rattle.rules.specs.Demands.{stateOf, eventsOf, outcomesOf, keyPlace, Uncut, Kept, AllKept, Demand3, Demand3OfCode}
 use Rattle.rules.proofs.Bools.{and-split, never}
 use Rattle.rules.proofs.Bits.{bit-or}
 use Rattle.rules.proofs.Blocks.{unlocked-place}
@@ -357,7 +357,7 @@ module _ (p₀ : ℕ) where
   step-after s₀ t₀ s t completes n w = subst (λ (t : State). After s₀ t₀ (completion s) (completion t)) (other-bytes s₀ t₀ s t w) (completion-after s₀ t₀ s t w)
   step-after s₀ t₀ s t (cuts k) n w = absurd n
 
-  kept : (s₀ t₀ : State) (o q : Outcome) → s₀ .chip .protection ≡ p₀ → After s₀ t₀ o q → Kept s₀ t₀ o q
+  kept : (s₀ t₀ : State) (o q : Outcome) → s₀ .chip .protection ≡ p₀ → After s₀ t₀ o q → Kept keyPlace s₀ t₀ o q
   kept s₀ t₀ o q e w =
       let back : (a : ℕ) → keyPlace p₀ a ≡ keyPlace (s₀ .chip .protection) a = λ a. ap (λ (p : ℕ). keyPlace p a) (sym e) in
       record {
@@ -372,7 +372,7 @@ module _ (p₀ : ℕ) where
         second-keys = λ a below k. w .twins .second-keys a below (back a ∙ k);
       }
 
-  kept-run : (s₀ t₀ s t : State) (es : List Event) → s₀ .chip .protection ≡ p₀ → Uncut es → Twins s₀ t₀ s t → AllKept s₀ t₀ (run s es) (run t es)
+  kept-run : (s₀ t₀ s t : State) (es : List Event) → s₀ .chip .protection ≡ p₀ → Uncut es → Twins s₀ t₀ s t → AllKept keyPlace s₀ t₀ (run s es) (run t es)
   unfolding run
   kept-run s₀ t₀ s t [] p u w = tt
   kept-run s₀ t₀ s t (sends f ∷ es) p u w =
@@ -404,6 +404,6 @@ demand-3 s t es c u =
 
 pub demand-3-of-code : Demand3OfCode
 demand-3-of-code b d es gs hs c u p q =
-    subst (λ (os : List Outcome). AllKept (stateOf b) (stateOf d) os (outcomesOf hs)) (sym (demand-2 b es gs p .machine))
-    (subst (λ (os : List Outcome). AllKept (stateOf b) (stateOf d) (run (stateOf b) (eventsOf es)) os) (sym (demand-2 d es hs q .machine))
+    subst (λ (os : List Outcome). AllKept keyPlace (stateOf b) (stateOf d) os (outcomesOf hs)) (sym (demand-2 b es gs p .machine))
+    (subst (λ (os : List Outcome). AllKept keyPlace (stateOf b) (stateOf d) (run (stateOf b) (eventsOf es)) os) (sym (demand-2 d es hs q .machine))
     (demand-3 (stateOf b) (stateOf d) (eventsOf es) c u))

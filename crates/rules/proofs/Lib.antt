@@ -13,3 +13,4 @@ pub mod Ranges
 pub mod Runs
 pub mod Keys
 pub mod Starred
+pub mod KeyCases

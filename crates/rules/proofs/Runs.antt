@@ -1,5 +1,5 @@
 -- Demand 2 over runs: a chain of outcomes that meet the guarantees is the machine's run; it exists, and there is one only. Assumes nothing.
-use Prim.Native.Nat.{ℕ, zero, suc, _+_, _-_, _*_, _≤_, _<_}
+use Prim.Native.Nat.{ℕ, zero, suc, _+_, _≤_, _<_}
 use mathlib.Core.Path.{_≡_, refl, sym, ap, ap₂, _∙_, subst}
 use mathlib.Core.Bool.{Bool, true, false, not, _&&_}
 use mathlib.Core.List.{List, [], _∷_}
@@ -7,26 +7,21 @@ use native.Mathlib.Omega.{arith}
 use lib.Dec.{eqb, ltb}
 use lib.ListN.{length, getD, List·getD-eq-default}
 use borrow.Author.Tests.{eqb-true, ltb-true, le-ltb}
-use Rattle.rules.specs.declared.After.{After}
-use Rattle.rules.specs.declared.Answer.{Answer}
-use Rattle.rules.specs.declared.Chip.{Chip}
 use Rattle.rules.specs.declared.Range.{Range}
-use Rattle.rules.specs.declared.Work.{Work}
-use Rattle.rules.specs.declared.Work.the-variants.{Nothing, EraseSector, EraseBlock, EraseArray, ProgramPage, ProgramSecurity, LockSecurity, WriteConfiguration, AddPermanent}
-use Rattle.rules.specs.Words.{pick, holds, Lent, lent, written, unlent}
+use Rattle.rules.specs.Words.{pick, holds, Lent, lent, written}
 use Rattle.rules.specs.Blocks.{arraySize, securitySize}
 use Rattle.rules.specs.Works.{isNothing, isErase, arrayRange, securityRange, finish}
 use Rattle.rules.specs.WellFormed.{numbersRight, wellFormed}
-use Rattle.rules.specs.Numbers.{answerNumber, State, Frame, stateRight, first, frameTests, completionTests, cutTests}
-use Rattle.rules.specs.Machine.{Outcome, frameReply, frameMarks, frame, workedArray, workedSecurity, completion, powerCut, Event, sends, completes, cuts, step, run}
-use Rattle.rules.specs.Promises.{state, carried, came}
+use Rattle.rules.specs.Numbers.{State, stateRight, first, frameTests, completionTests, cutTests}
+use Rattle.rules.specs.Machine.{Outcome, frameReply, frameMarks, frame, workedArray, workedSecurity, completion, powerCut, step, run}
+use Rattle.rules.specs.Promises.{carried, came}
 use Rattle.rules.specs.Demands.{Bench, stateOf, Call, frames, Given, Meets, benchAfter, Chain, eventOf, outcomeOf, eventsOf, outcomesOf, AllWellFormed, Demand2}
 use Rattle.rules.proofs.Bools.{and-split, never}
 use Rattle.rules.proofs.Blocks.{holds-at}
 use Rattle.rules.proofs.Ranges.{array-inside, security-inside}
 use Rattle.rules.proofs.Effects.{finish-outside}
 use Rattle.rules.proofs.Numbers.{frame-given, completion-given, cut-given}
-use Rattle.rules.proofs.Promises.{lent-ext, answerOf, answer-number, frame-one, completion-one, cut-one, Same}
+use Rattle.rules.proofs.Promises.{lent-ext, answerOf, answer-number, frame-one, completion-one, cut-one}
 use Rattle.rules.proofs.WellFormed.{well-of, step-well-formed}
 
 -- ---- each outcome is the machine's

@@ -6,7 +6,6 @@ use mathlib.Core.List.{List, [], _∷_}
 use Rattle.rules.specs.declared.After.{After}
 use Rattle.rules.specs.declared.Chip.{Chip}
 use Rattle.rules.specs.declared.Work.{Work}
-use Rattle.rules.specs.Words.{Lent}
 use Rattle.rules.specs.Blocks.{arraySize, readLocked, writeLocked}
 use Rattle.rules.specs.WellFormed.{wellFormed}
 use Rattle.rules.specs.Numbers.{State}
@@ -88,15 +87,18 @@ pub record Demand2 (b : Bench) (es : List Call) (gs : List Given) : Type 0 where
 abbrev pub keyPlace : ℕ → ℕ → Bool
 keyPlace p a = readLocked p a && writeLocked p a
 
--- two such chips, idle, nothing suspended, locked down, alike in everything but those blocks
-pub record TwoChips (s t : State) : Type 0 where
+-- The demand is KeepsKeys below of keyPlace, a register that is locked down, and runs with no power cut.
+-- With less than these it is wrong: proofs/KeyCases refutes it for other places, for no lock-down, and for runs with a power cut.
+
+-- two such chips, idle, nothing suspended, the register locked down or not, alike in everything but those blocks
+pub record TwoChips (key : ℕ → ℕ → Bool) (down : Bool) (s t : State) : Type 0 where
   pub same-record : s .chip ≡ t .chip
-  pub locked-down : s .chip .wpld ≡ true
+  pub locked-down : s .chip .wpld ≡ down
   pub idle : s .chip .running ≡ Work.Nothing
   pub nothing-suspended : s .chip .suspended ≡ Work.Nothing
   pub same-security : s .security ≡ t .security
   pub same-size : s .array .size ≡ t .array .size
-  pub alike : (a : ℕ) → a < arraySize → keyPlace (s .chip .protection) a ≡ false → s .array .byte a ≡ t .array .byte a
+  pub alike : (a : ℕ) → a < arraySize → key (s .chip .protection) a ≡ false → s .array .byte a ≡ t .array .byte a
 
 -- frames and completions, no power cut
 abbrev pub Uncut : List Event → Type 0
@@ -107,28 +109,33 @@ Uncut (cuts k ∷ es) = ⊥
 
 -- after an event: nothing tells the two apart, the rest stays alike, and each chip's own key bytes are what they were at the start.
 -- The key blocks are those of the start
-pub record Kept (s t : State) (o q : Outcome) : Type 0 where
+pub record Kept (key : ℕ → ℕ → Bool) (s t : State) (o q : Outcome) : Type 0 where
   pub same-number : o .number ≡ q .number
   pub same-reply : o .reply ≡ q .reply
   pub same-marks : o .marks ≡ q .marks
   pub same-record : o .chip ≡ q .chip
   pub same-security : o .security ≡ q .security
   pub same-size : o .array .size ≡ q .array .size
-  pub alike : (a : ℕ) → a < arraySize → keyPlace (s .chip .protection) a ≡ false → o .array .byte a ≡ q .array .byte a
-  pub first-keys : (a : ℕ) → a < arraySize → keyPlace (s .chip .protection) a ≡ true → o .array .byte a ≡ s .array .byte a
-  pub second-keys : (a : ℕ) → a < arraySize → keyPlace (s .chip .protection) a ≡ true → q .array .byte a ≡ t .array .byte a
+  pub alike : (a : ℕ) → a < arraySize → key (s .chip .protection) a ≡ false → o .array .byte a ≡ q .array .byte a
+  pub first-keys : (a : ℕ) → a < arraySize → key (s .chip .protection) a ≡ true → o .array .byte a ≡ s .array .byte a
+  pub second-keys : (a : ℕ) → a < arraySize → key (s .chip .protection) a ≡ true → q .array .byte a ≡ t .array .byte a
 
-abbrev pub AllKept : State → State → List Outcome → List Outcome → Type 0
-AllKept s t [] [] = Unit {0}
-AllKept s t [] (q ∷ qs) = ⊥
-AllKept s t (o ∷ os) [] = ⊥
-AllKept s t (o ∷ os) (q ∷ qs) = Kept s t o q × AllKept s t os qs
+-- after every event of two runs
+abbrev pub AllKept : (ℕ → ℕ → Bool) → State → State → List Outcome → List Outcome → Type 0
+AllKept key s t [] [] = Unit {0}
+AllKept key s t [] (q ∷ qs) = ⊥
+AllKept key s t (o ∷ os) [] = ⊥
+AllKept key s t (o ∷ os) (q ∷ qs) = Kept key s t o q × AllKept key s t os qs
+
+abbrev pub KeepsKeys : (ℕ → ℕ → Bool) → Bool → (List Event → Type 0) → Type 0
+KeepsKeys key down Allowed = (s t : State) (es : List Event) → TwoChips key down s t → Allowed es → AllKept key s t (run s es) (run t es)
 
 abbrev pub Demand3 : Type 0
-Demand3 = (s t : State) (es : List Event) → TwoChips s t → Uncut es → AllKept s t (run s es) (run t es)
+Demand3 = KeepsKeys keyPlace true Uncut
 
 -- the same of code: two chains of outcomes that meet the public guarantees, with the same calls
 abbrev pub Demand3OfCode : Type 0
 Demand3OfCode =
-    (b d : Bench) (es : List Call) (gs hs : List Given) → TwoChips (stateOf b) (stateOf d) → Uncut (eventsOf es) → Chain b es gs → Chain d es hs
-    → AllKept (stateOf b) (stateOf d) (outcomesOf gs) (outcomesOf hs)
+    (b d : Bench) (es : List Call) (gs hs : List Given) → TwoChips keyPlace true (stateOf b) (stateOf d) → Uncut (eventsOf es)
+    → Chain b es gs → Chain d es hs
+    → AllKept keyPlace (stateOf b) (stateOf d) (outcomesOf gs) (outcomesOf hs)

@@ -15,3 +15,4 @@ pub mod Machine
 pub mod Promises
 pub mod Demands
 pub mod Starred
+pub mod KeyCases
