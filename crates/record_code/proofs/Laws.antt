@@ -1,5 +1,4 @@
--- The code is faithful: a record read back from its code is the record, and bytes that are a code are the code of what is read from them.
--- Typed and Bytes say what the Rattle types hold a record and a slice of bytes to, so both hold of every value. Assumes nothing.
+-- Numbers and their bytes, parts of lists, and the places of the parts of a code. Assumes nothing.
 use Prim.Native.Nat.{ℕ, zero, suc, _+_, _*_, _/_, _%_, _^_, _≤_, _<_}
 use mathlib.Core.Path.{_≡_, refl, sym, ap, _∙_}
 use mathlib.Core.Bool.{Bool, true, false, _&&_, true≢false, false≢true}
@@ -155,38 +154,38 @@ work-is-right (WriteConfiguration false true) = refl
 work-is-right (WriteConfiguration false false) = refl
 work-is-right (AddPermanent v) = refl
 
-work-length : (w : Work) → length (workCode w) ≡ 9
+pub work-length : (w : Work) → length (workCode w) ≡ 9
 unfolding workCode
 work-length w = ap suc (bytes-length 8 (numberOf w))
 
 -- the kind and the number that stand in a work's nine bytes
-kind-in : (l : List ℕ) (at : ℕ) (w : Work) → part l at 9 ≡ workCode w → getD l at 0 ≡ kindOf w
+pub kind-in : (l : List ℕ) (at : ℕ) (w : Work) → part l at 9 ≡ workCode w → getD l at 0 ≡ kindOf w
 unfolding workCode
 kind-in l at w e =
     ap (λ (n : ℕ). getD l n 0) (let k : at ≡ at + 0 = omega arith in k) ∙ sym (part-at l at 9 0 (omega arith)) ∙ ap (λ (xs : List ℕ). getD xs 0 0) e
 
-number-in : (l : List ℕ) (at k : ℕ) (w : Work) → k ≡ at + 1 → at < length l → numberOf w < 2 ^ 64 → part l at 9 ≡ workCode w → word l k ≡ numberOf w
+pub number-in : (l : List ℕ) (at k : ℕ) (w : Work) → k ≡ at + 1 → at < length l → numberOf w < 2 ^ 64 → part l at 9 ≡ workCode w → word l k ≡ numberOf w
 unfolding workCode word
 number-in l at k w ek h small e =
     ap (λ (xs : List ℕ). number (drop 1 xs)) (sym (part-cons l at 8 k h ek) ∙ e) ∙ number-bytes 8 (numberOf w) small
 
 -- ---- flags
 
-flag-back : (b : Bool) → eqb (num b) 1 ≡ b
+pub flag-back : (b : Bool) → eqb (num b) 1 ≡ b
 flag-back true = refl
 flag-back false = refl
 
-flag-right : (b : Bool) → ltb (num b) 2 ≡ true
+pub flag-right : (b : Bool) → ltb (num b) 2 ≡ true
 flag-right true = refl
 flag-right false = refl
 
 -- ---- a record read back from its code
 
 module _ (c : Chip) (t : Typed c) where
-  flagged : List ℕ
+  unfoldable pub flagged : List ℕ
   flagged = flags (c .sqi) (c .wel) (c .ioc) (c .wpen) (c .wpld) (c .sec) (c .enable)
 
-  flags-length : length flagged ≡ 7
+  pub flags-length : length flagged ≡ 7
   unfolding flagged flags
   flags-length = refl
 
@@ -196,7 +195,7 @@ module _ (c : Chip) (t : Typed c) where
       l₅ (c .buffer) (bytes 8 (c .protection)) (bytes 8 (c .permanent)) (workCode (c .running)) (workCode (c .suspended)) flagged
       (t .buffer) (bytes-length 8 _) (bytes-length 8 _) (work-length (c .running)) (work-length (c .suspended)) flags-length
 
-  flag-in : (i v : ℕ) → i < 7 → getD flagged i 0 ≡ v → getD (code c) (290 + i) 0 ≡ v
+  pub flag-in : (i v : ℕ) → i < 7 → getD flagged i 0 ≡ v → getD (code c) (290 + i) 0 ≡ v
   unfolding code flagged
   flag-in i v h e =
       sym (part-at (code c) 290 7 i h)
