@@ -133,13 +133,18 @@ fn wide(b: u8) -> u64
     b as u64
 }
 
-// Low byte first.
+// Low byte first. A sum of shifted bytes, which becomes one load.
 fn joined(a: u8, b: u8, c: u8, d: u8, e: u8, f: u8, g: u8, h: u8) -> u64
     ensures { λ r. ⌜ r ≡ a + 256 * (b + 256 * (c + 256 * (d + 256 * (e + 256 * (f + 256 * (g + 256 * (h + 256 * 0))))))) ⌝ }
 {
-    let high = wide(e) + 256 * (wide(f) + 256 * (wide(g) + 256 * wide(h)));
-    let low = wide(a) + 256 * (wide(b) + 256 * (wide(c) + 256 * wide(d)));
-    low + 4294967296 * high
+    wide(a)
+        + 256 * wide(b)
+        + 65536 * wide(c)
+        + 16777216 * wide(d)
+        + 4294967296 * wide(e)
+        + 1099511627776 * wide(f)
+        + 281474976710656 * wide(g)
+        + 72057594037927936 * wide(h)
 }
 
 fn get_word(coded: &[u8], at: usize) -> u64
@@ -233,23 +238,35 @@ pub fn is_code(coded: &[u8]) -> bool
         & (coded[296] < 2)
 }
 
-// The record whose code the bytes are.
+// The record whose code the bytes are. The buffer comes last: the loads before it are then free to be joined.
 pub fn decode(coded: &[u8]) -> Chip
     requires { ⌜ length (now coded) ≡ 297 ⌝ }
     ensures { λ r. ⌜ r ≡ chipIn (now (coded .entry)) ⌝ }
 {
+    let protection = get_word(coded, 256);
+    let permanent = get_word(coded, 264);
+    let running = work_of(coded[272], get_word(coded, 273));
+    let suspended = work_of(coded[281], get_word(coded, 282));
+    let sqi = coded[290] == 1;
+    let wel = coded[291] == 1;
+    let ioc = coded[292] == 1;
+    let wpen = coded[293] == 1;
+    let wpld = coded[294] == 1;
+    let sec = coded[295] == 1;
+    let enable = coded[296] == 1;
+    let buffer = get_buffer(coded);
     Chip {
-        buffer: get_buffer(coded),
-        protection: get_word(coded, 256),
-        permanent: get_word(coded, 264),
-        running: work_of(coded[272], get_word(coded, 273)),
-        suspended: work_of(coded[281], get_word(coded, 282)),
-        sqi: coded[290] == 1,
-        wel: coded[291] == 1,
-        ioc: coded[292] == 1,
-        wpen: coded[293] == 1,
-        wpld: coded[294] == 1,
-        sec: coded[295] == 1,
-        enable: coded[296] == 1,
+        buffer,
+        protection,
+        permanent,
+        running,
+        suspended,
+        sqi,
+        wel,
+        ioc,
+        wpen,
+        wpld,
+        sec,
+        enable,
     }
 }
