@@ -1,0 +1,3 @@
+-- The boundary to other languages.
+pub mod Boundary
+pub mod Meanings

@@ -1,0 +1,2 @@
+-- The chip record as bytes.
+pub mod Layout
