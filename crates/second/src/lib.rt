@@ -1,0 +1,1155 @@
+// A bench chip, the SST26WF016B, written from the rules of the bench chip (document 01) and the part's data sheet (002).
+// One flat state, and three events over it: a frame, a completion, a power cut. The text goes through document 01 in its order;
+// the words in quotation marks are its own. Every function is proved to be safe and to end, and says nothing more than that.
+ghost use Prim.Native.Nat.{_≤_, _<_};
+
+// What runs (run_) or is suspended (sus_), as a kind and a number:
+// 0 nothing; 1 sector erase, the sector; 2 protection block erase, the block's place in the table of forty;
+// 3 array erase; 4 page program, the page; 5 Security ID program, its page there; 6 Security ID lock;
+// 7 configuration write, IOC + 2 * WPEN; 8 permanent bits, the 48 bits as sent.
+pub struct Flat {
+    pub buffer: [u8; 256],
+    pub protection: u64,
+    pub permanent: u64,
+    pub run_kind: u8,
+    pub run_number: u64,
+    pub sus_kind: u8,
+    pub sus_number: u64,
+    pub sqi: bool,
+    pub wel: bool,
+    pub ioc: bool,
+    pub wpen: bool,
+    pub wpld: bool,
+    pub sec: bool,
+    // the reset enable
+    pub enable: bool,
+}
+
+// What an event gives back: its number, 0 for done, and the record after it.
+pub struct Step {
+    pub number: u8,
+    pub state: Flat,
+}
+
+// A byte of a reply, with its mark.
+struct Out {
+    value: u8,
+    mark: u8,
+}
+
+// ---- The chip on the bench ----
+
+// "array 2,097,152 bytes", "Security ID 2,048 bytes", "Frame at most 65,536 bytes".
+const ARRAY_BYTES: usize = 2097152;
+
+const SECURITY_BYTES: usize = 2048;
+
+const FRAME_LIMIT: usize = 65536;
+
+// The write locks of the register: bits 0 to 31, and the even bits of the pairs.
+const WRITE_LOCKS: u64 = 0x5555FFFFFFFF;
+// The read locks: the odd bits of the pairs.
+const READ_LOCKS: u64 = 0xAAAA00000000;
+
+// "A new chip record is the power-up state with SEC 0, WPEN 0 and nothing permanent."
+pub fn fresh() -> Flat {
+    Flat {
+        buffer: [255u8; 256],
+        protection: 0x5555FFFFFFFF,
+        permanent: 0,
+        run_kind: 0,
+        run_number: 0,
+        sus_kind: 0,
+        sus_number: 0,
+        sqi: false,
+        wel: false,
+        ioc: false,
+        wpen: false,
+        wpld: false,
+        sec: false,
+        enable: false,
+    }
+}
+
+// "array 2,097,152 bytes", "Security ID 2,048 bytes".
+fn memories_sized(array: usize, security: usize) -> bool {
+    if array != ARRAY_BYTES {
+        return false;
+    }
+    security == SECURITY_BYTES
+}
+
+// "Frame at most 65,536 bytes. Reply and marks of equal length, at most 65,536."
+fn frame_sized(sent: usize, reply: usize, marks: usize) -> bool {
+    if FRAME_LIMIT < sent {
+        return false;
+    }
+    if reply != marks {
+        return false;
+    }
+    reply <= FRAME_LIMIT
+}
+
+// The byte at a place of a slice. All uses are inside the slice; outside it the answer is 0.
+fn byte_at(from: &[u8], place: usize) -> u8 {
+    if place < from.len() {
+        return from[place];
+    }
+    0
+}
+
+// The same, as a number.
+fn number_at(from: &[u8], place: usize) -> usize
+    ensures { λ r. ⌜ r < 256 ⌝ }
+{
+    byte_at(from, place) as usize
+}
+
+// A byte stored at a place of a slice. All uses are inside the slice; outside it nothing happens.
+fn put(to: &mut [u8], place: usize, value: u8) {
+    if place < to.len() {
+        to[place] = value;
+    }
+}
+
+// ---- Protection blocks ----
+
+// The place in the table of forty of the block that holds an array address.
+fn block_at(address: usize) -> usize {
+    // "39/38, 37/36, 35/34, 33/32: 8 KB from 006000, 004000, 002000, 000000"
+    if address < 0x8000 {
+        return 7 - address / 0x2000 % 4;
+    }
+    // "30: 32 KB from 008000"
+    if address < 0x10000 {
+        return 9;
+    }
+    // "29 down to 0: 64 KB; bit n from (n + 1) × 10000": the block from m × 10000 has bit m - 1 and place 40 - m
+    if address < 0x1F0000 {
+        return 40 - address / 0x10000 % 32;
+    }
+    // "31: 32 KB from 1F0000"
+    if address < 0x1F8000 {
+        return 8;
+    }
+    // "47/46, 45/44, 43/42, 41/40: 8 KB from 1FE000, 1FC000, 1FA000, 1F8000"
+    3 - (address - 0x1F8000) / 0x2000 % 4
+}
+
+// The first address of the block at a place of the table.
+fn block_start(place: usize) -> usize
+    ensures { λ r. ⌜ r ≤ 2097152 ⌝ }
+{
+    if place < 4 {
+        return 0x1FE000 - place * 0x2000;
+    }
+    if place < 8 {
+        return (7 - place) * 0x2000;
+    }
+    if place == 8 {
+        return 0x1F0000;
+    }
+    if place == 9 {
+        return 0x8000;
+    }
+    if place < 40 {
+        return (40 - place) * 0x10000;
+    }
+    0
+}
+
+// How many bytes it has: "8 KB", "32 KB", "64 KB".
+fn block_size(place: usize) -> usize
+    ensures { λ r. ⌜ r ≤ 2097152 ⌝ }
+{
+    if place < 8 {
+        return 0x2000;
+    }
+    if place < 10 {
+        return 0x8000;
+    }
+    if place < 40 {
+        return 0x10000;
+    }
+    0
+}
+
+fn has_bit(register: u64, bit: usize) -> bool {
+    let low = register >> (bit % 64);
+    low % 2 == 1
+}
+
+// "the even bit the write lock. Single bits are write locks."
+fn write_locked(protection: u64, address: usize) -> bool {
+    let place = block_at(address);
+    if place < 8 {
+        return has_bit(protection, 46 - 2 * place);
+    }
+    if place < 40 {
+        return has_bit(protection, 39 - place);
+    }
+    false
+}
+
+// "In a pair the odd bit is the read lock": only the 8 KB blocks have one.
+fn read_locked(protection: u64, address: usize) -> bool {
+    let place = block_at(address);
+    if place < 8 {
+        return has_bit(protection, 47 - 2 * place);
+    }
+    false
+}
+
+// The range of array work: a sector, a block, the array, a page. Where it starts.
+fn range_start(kind: u8, number: u64) -> usize
+    ensures { λ r. ⌜ r ≤ 2097152 ⌝ }
+{
+    let n = number as usize;
+    match kind {
+        1 => n % 512 * 4096,
+        2 => block_start(n),
+        4 => n % 8192 * 256,
+        _ => 0,
+    }
+}
+
+// And how many bytes it has; none where the work is not in the array.
+fn range_size(kind: u8, number: u64) -> usize
+    ensures { λ r. ⌜ r ≤ 2097152 ⌝ }
+{
+    let n = number as usize;
+    match kind {
+        1 => 4096,
+        2 => block_size(n),
+        3 => ARRAY_BYTES,
+        4 => 256,
+        _ => 0,
+    }
+}
+
+// Whether the range of this work holds an array place.
+fn range_holds(kind: u8, number: u64, place: usize) -> bool {
+    let start = range_start(kind, number);
+    if place < start {
+        return false;
+    }
+    place - start < range_size(kind, number)
+}
+
+// Whether a write lock lies on the range of this work. A sector, a page and a block lie each in one block.
+fn range_locked(protection: u64, kind: u8, number: u64) -> bool {
+    match kind {
+        1 | 2 | 4 => write_locked(protection, range_start(kind, number)),
+        3 => protection & WRITE_LOCKS != 0,
+        _ => false,
+    }
+}
+
+// Whether two ranges have a place in common: one of them holds the other's start.
+fn ranges_meet(kind: u8, number: u64, other_kind: u8, other_number: u64) -> bool {
+    if range_holds(kind, number, range_start(other_kind, other_number)) {
+        return true;
+    }
+    range_holds(other_kind, other_number, range_start(kind, number))
+}
+
+// ---- The registers as read ----
+
+fn is_erase(kind: u8) -> bool {
+    match kind {
+        1 | 2 | 3 => true,
+        _ => false,
+    }
+}
+
+// 02, 32 and A5 fill the page buffer.
+fn is_program(kind: u8) -> bool {
+    match kind {
+        4 | 5 => true,
+        _ => false,
+    }
+}
+
+fn flag(on: bool, value: u8) -> u8 {
+    if on { value } else { 0 }
+}
+
+// "bit 0 BUSY, 1 WEL, 2 WSE (erase suspended), 3 WSP (program suspended), 4 WPLD, 5 SEC, 6 zero, 7 BUSY again"
+fn status(s: Flat) -> u8 {
+    let busy = s.run_kind != 0;
+    let wse = is_erase(s.sus_kind);
+    let wsp = is_program(s.sus_kind);
+    let low = flag(busy, 1) | flag(s.wel, 2) | flag(wse, 4) | flag(wsp, 8);
+    low | flag(s.wpld, 16) | flag(s.sec, 32) | flag(busy, 128)
+}
+
+// "bit 1 IOC, bit 3 BPNV, bit 7 WPEN, others zero. BPNV is 1 exactly while the permanent register is zero."
+fn configuration(s: Flat) -> u8 {
+    let bpnv = s.permanent == 0;
+    flag(s.ioc, 2) | flag(bpnv, 8) | flag(s.wpen, 128)
+}
+
+// ---- Frames ----
+
+// In which protocols an opcode is listed: 0 in none, 1 in both, 2 "SPI only", 3 "SQI only".
+fn protocols(opcode: u8) -> u8 {
+    match opcode {
+        0x38 | 0x9F | 0x03 | 0x6B | 0x32 => 2,
+        0xAF => 3,
+        0x00 | 0x66 | 0x99 | 0xFF | 0x05 | 0x35 | 0x72 | 0x0B | 0x88 => 1,
+        0x06 | 0x04 | 0x20 | 0xD8 | 0xC7 | 0x02 | 0xA5 | 0x85 | 0x01 => 1,
+        0x42 | 0xE8 | 0x8D | 0x98 | 0xB0 | 0x30 => 1,
+        _ => 0,
+    }
+}
+
+fn listed(opcode: u8, sqi: bool) -> bool {
+    let where_listed = protocols(opcode);
+    if where_listed == 1 {
+        return true;
+    }
+    if sqi {
+        return where_listed == 3;
+    }
+    where_listed == 2
+}
+
+fn either(sqi: bool, in_sqi: usize, in_spi: usize) -> usize {
+    if sqi { in_sqi } else { in_spi }
+}
+
+// The "Length" column: "counts all bytes, opcode included". For "or more" it is the least length.
+fn table_length(opcode: u8, sqi: bool) -> usize {
+    match opcode {
+        0x05 | 0x35 | 0x72 => either(sqi, 2, 1),
+        0xAF => 2,
+        0x03 | 0x20 | 0xD8 => 4,
+        0x0B => either(sqi, 7, 5),
+        0x6B => 5,
+        0x88 => either(sqi, 6, 4),
+        0x02 | 0x32 => 5,
+        0xA5 => 4,
+        0x01 => 3,
+        0x42 | 0xE8 => 7,
+        _ => 1,
+    }
+}
+
+// "5 or more" for 02 and 32, "4 or more" for A5, and for the others exactly the length.
+fn length_listed(opcode: u8, sqi: bool, length: usize) -> bool {
+    let asked = table_length(opcode, sqi);
+    match opcode {
+        0x02 | 0x32 | 0xA5 => asked <= length,
+        _ => length == asked,
+    }
+}
+
+// "Address bytes are highest first; an array address counts modulo 200000"
+fn array_address(sent: &[u8]) -> usize {
+    let high = number_at(sent, 1);
+    let middle = number_at(sent, 2);
+    let low = number_at(sent, 3);
+    (high * 65536 + middle * 256 + low) % ARRAY_BYTES
+}
+
+// "a Security ID address modulo 800"
+fn security_address(sent: &[u8]) -> usize {
+    let high = number_at(sent, 1);
+    let low = number_at(sent, 2);
+    (high * 256 + low) % SECURITY_BYTES
+}
+
+// "It travels as six bytes, highest first."
+fn six_bytes(sent: &[u8]) -> u64 {
+    let mut value: u64 = 0;
+    let mut i = 1;
+    while i < 7 {
+        value = value % 0x10000000000 * 256 + number_at(sent, i) as u64;
+        i += 1;
+    }
+    value
+}
+
+fn protection_byte(protection: u64, i: usize) -> u8 {
+    // "After six bytes 72 gives 00."
+    if 5 < i {
+        return 0;
+    }
+    let low = protection >> ((5 - i) * 8);
+    (low % 256) as u8
+}
+
+// "The identity bytes are BF, 26 and the device byte printed in 002; they repeat": the sheet's table 5-4 has 51.
+fn identity_byte(i: usize) -> u8 {
+    match i % 3 {
+        0 => 0xBF,
+        1 => 0x26,
+        _ => 0x51,
+    }
+}
+
+// The opcodes with a reply.
+fn replies(opcode: u8) -> bool {
+    match opcode {
+        0x05 | 0x35 | 0x72 | 0x9F | 0xAF => true,
+        0x03 | 0x0B | 0x6B | 0x88 => true,
+        _ => false,
+    }
+}
+
+fn register_byte(opcode: u8, s: Flat, i: usize) -> u8 {
+    match opcode {
+        0x05 => status(s),
+        0x35 => configuration(s),
+        0x72 => protection_byte(s.protection, i),
+        _ => identity_byte(i),
+    }
+}
+
+// "Register and identity bytes, and the 00 after 72's six, have mark 1."
+fn answer_register(opcode: u8, s: Flat, reply: &mut [u8], marks: &mut [u8]) {
+    let n = reply.len();
+    let mut i = 0;
+    while i < n {
+        let value = register_byte(opcode, s, i);
+        put(reply, i, value);
+        put(marks, i, 1);
+        i += 1;
+    }
+}
+
+fn array_out(protection: u64, kind: u8, number: u64, array: &[u8], place: usize) -> Out {
+    // "A byte in a read-locked block reads 00, mark 1."
+    if read_locked(protection, place) {
+        return Out { value: 0, mark: 1 };
+    }
+    // "Otherwise a byte in the suspended range reads 00, mark 0"
+    if range_holds(kind, number, place) {
+        return Out { value: 0, mark: 0 };
+    }
+    // "All others: the stored byte, mark 1."
+    Out {
+        value: byte_at(array, place),
+        mark: 1,
+    }
+}
+
+// "Reads go up one place a byte; after the last array or Security ID place comes place 0."
+fn answer_array(s: Flat, array: &[u8], start: usize, reply: &mut [u8], marks: &mut [u8]) {
+    let n = reply.len();
+    let mut place = start;
+    let mut i = 0;
+    while i < n {
+        let out = array_out(s.protection, s.sus_kind, s.sus_number, array, place);
+        put(reply, i, out.value);
+        put(marks, i, out.mark);
+        place = (place % ARRAY_BYTES + 1) % ARRAY_BYTES;
+        i += 1;
+    }
+}
+
+// The same in the Security ID, which no lock and no suspended range touches.
+fn answer_security(security: &[u8], start: usize, reply: &mut [u8], marks: &mut [u8]) {
+    let n = reply.len();
+    let mut place = start;
+    let mut i = 0;
+    while i < n {
+        let value = byte_at(security, place);
+        put(reply, i, value);
+        put(marks, i, 1);
+        place = (place % SECURITY_BYTES + 1) % SECURITY_BYTES;
+        i += 1;
+    }
+}
+
+fn fill(to: &mut [u8], value: u8) {
+    let n = to.len();
+    let mut i = 0;
+    while i < n {
+        put(to, i, value);
+        i += 1;
+    }
+}
+
+// "A frame without a reply fills the reply with FF and the marks with 0."
+fn no_reply(reply: &mut [u8], marks: &mut [u8]) {
+    fill(reply, 255);
+    fill(marks, 0);
+}
+
+fn answer(s: Flat, array: &[u8], security: &[u8], sent: &[u8], reply: &mut [u8], marks: &mut [u8]) {
+    let opcode = byte_at(sent, 0);
+    if !replies(opcode) {
+        no_reply(reply, marks);
+        return;
+    }
+    match opcode {
+        0x03 | 0x0B | 0x6B => answer_array(s, array, array_address(sent), reply, marks),
+        0x88 => answer_security(security, security_address(sent), reply, marks),
+        _ => answer_register(opcode, s, reply, marks),
+    }
+}
+
+// "Programs fill a page buffer of 256 bytes, all FF at first. Data go to rising places in the page and wrap from its end
+// to its start; a later byte replaces an earlier one in the buffer." The data start at sent[first].
+fn filled(sent: &[u8], first: usize, address: usize) -> [u8; 256] {
+    let mut buffer = [255u8; 256];
+    let mut place = address % 256;
+    let mut i = first;
+    while i < sent.len() {
+        buffer[place % 256] = sent[i];
+        place = place % 256 + 1;
+        i += 1;
+    }
+    buffer
+}
+
+// What a long opcode runs: its kind. 0 for the others.
+fn work_kind(opcode: u8) -> u8 {
+    match opcode {
+        0x20 => 1,
+        0xD8 => 2,
+        0xC7 => 3,
+        0x02 | 0x32 => 4,
+        0xA5 => 5,
+        0x85 => 6,
+        0x01 => 7,
+        0xE8 => 8,
+        _ => 0,
+    }
+}
+
+// "first data byte ignored; second sets IOC and WPEN": bits 1 and 7, as the register is read.
+fn configuration_number(sent: &[u8]) -> u64 {
+    let second = number_at(sent, 2) as u64;
+    second / 2 % 2 + second / 128 % 2 * 2
+}
+
+// And its number.
+fn work_number(opcode: u8, sent: &[u8]) -> u64 {
+    match opcode {
+        0x20 => (array_address(sent) / 4096) as u64,
+        0xD8 => block_at(array_address(sent)) as u64,
+        0x02 | 0x32 => (array_address(sent) / 256) as u64,
+        0xA5 => (security_address(sent) / 256) as u64,
+        0x01 => configuration_number(sent),
+        0xE8 => six_bytes(sent),
+        _ => 0,
+    }
+}
+
+// "20, D8, C7, 02, 32, A5, 85, 01 and E8 run until completion, and only then act; BUSY is 1 meanwhile."
+fn started(s: Flat, opcode: u8, sent: &[u8]) -> Flat {
+    let mut next = s;
+    next.run_kind = work_kind(opcode);
+    next.run_number = work_number(opcode, sent);
+    match opcode {
+        0x02 | 0x32 => {
+            let b = filled(sent, 4, array_address(sent));
+            next.buffer = b;
+        }
+        0xA5 => {
+            let b = filled(sent, 3, security_address(sent));
+            next.buffer = b;
+        }
+        _ => {}
+    }
+    next
+}
+
+// "42 replaces all 48 bits, but a write lock with its permanent bit set stays 1."
+// "All others act at once; 42, 8D and 98 then set WEL to 0."
+fn protection_written(s: Flat, sent: &[u8]) -> Flat {
+    let mut next = s;
+    next.protection = six_bytes(sent) | s.permanent;
+    next.wel = false;
+    next
+}
+
+// "lock protection down (WPLD 1)"
+fn locked_down(s: Flat) -> Flat {
+    let mut next = s;
+    next.wpld = true;
+    next.wel = false;
+    next
+}
+
+// "98 clears every write lock not permanent and no read lock."
+fn locks_cleared(s: Flat) -> Flat {
+    let mut next = s;
+    next.protection = s.protection & (READ_LOCKS | s.permanent);
+    next.wel = false;
+    next
+}
+
+// "B0 puts aside a running 20, D8, 02 or 32 at once: BUSY 0, WSE or WSP 1, WEL unchanged."
+fn suspended(s: Flat) -> Flat {
+    let mut next = s;
+    next.sus_kind = s.run_kind;
+    next.sus_number = s.run_number;
+    next.run_kind = 0;
+    next.run_number = 0;
+    next
+}
+
+// "30 runs it again and needs no WEL."
+fn resumed(s: Flat) -> Flat {
+    let mut next = s;
+    next.run_kind = s.sus_kind;
+    next.run_number = s.sus_number;
+    next.sus_kind = 0;
+    next.sus_number = 0;
+    next
+}
+
+// "running and suspended work dropped"; then no program runs or is suspended, and the buffer is all FF.
+fn dropped(s: Flat) -> Flat {
+    let mut next = s;
+    next.run_kind = 0;
+    next.run_number = 0;
+    next.sus_kind = 0;
+    next.sus_number = 0;
+    next.buffer = [255u8; 256];
+    next
+}
+
+// "Reset (99): SPI, BUSY, WEL, WSE, WSP 0, IOC at its power-up value, running and suspended work dropped with its target
+// unchanged. WPLD, SEC, WPEN and both protection registers stay."
+fn reset(s: Flat) -> Flat {
+    let mut next = dropped(s);
+    next.sqi = false;
+    next.wel = false;
+    next.ioc = false;
+    next
+}
+
+fn with_enable(s: Flat, enable: bool) -> Flat {
+    let mut next = s;
+    next.enable = enable;
+    next
+}
+
+fn with_sqi(s: Flat, sqi: bool) -> Flat {
+    let mut next = s;
+    next.sqi = sqi;
+    next
+}
+
+fn with_wel(s: Flat, wel: bool) -> Flat {
+    let mut next = s;
+    next.wel = wel;
+    next
+}
+
+// The record after a frame that is done; s has its enable used up already.
+fn acted(s: Flat, opcode: u8, sent: &[u8]) -> Flat {
+    if work_kind(opcode) != 0 {
+        return started(s, opcode, sent);
+    }
+    match opcode {
+        0x66 => with_enable(s, true),
+        0x99 => reset(s),
+        0x38 => with_sqi(s, true),
+        0xFF => with_sqi(s, false),
+        0x06 => with_wel(s, true),
+        0x04 => with_wel(s, false),
+        0x42 => protection_written(s, sent),
+        0x8D => locked_down(s),
+        0x98 => locks_cleared(s),
+        0xB0 => suspended(s),
+        0x30 => resumed(s),
+        _ => s,
+    }
+}
+
+// ---- Completion and power cut ----
+
+// The first k bytes of a range of this size.
+fn cut_to(size: usize, k: u64) -> usize
+    ensures { λ r. ⌜ r ≤ size ⌝ }
+{
+    let count = k as usize;
+    if count < size {
+        return count;
+    }
+    size
+}
+
+// "Erase sets FF."
+fn erase(array: &mut [u8], start: usize, end: usize) {
+    let mut place = start;
+    while place < end {
+        put(array, place, 255);
+        place += 1;
+    }
+}
+
+// "each page byte becomes its old value AND the buffer byte", for the first count bytes of the page.
+fn program(memory: &mut [u8], start: usize, buffer: [u8; 256], count: usize)
+    requires { ⌜ start ≤ 2097152 ⌝ }
+    requires { ⌜ count ≤ 256 ⌝ }
+{
+    let mut i = 0;
+    while i < count {
+        let old = byte_at(memory, start + i);
+        put(memory, start + i, old & buffer[i]);
+        i += 1;
+    }
+}
+
+// "The running operation's range, in rising address order, has its first k bytes finished and the rest unchanged (all
+// finished if k is larger). The range of 02, 32 and A5 is the whole page."
+fn finish_bytes(s: Flat, array: &mut [u8], security: &mut [u8], k: u64) {
+    let kind = s.run_kind;
+    let number = s.run_number;
+    let buffer = s.buffer;
+    let start = range_start(kind, number);
+    let size = range_size(kind, number);
+    match kind {
+        1 | 2 | 3 => erase(array, start, start + cut_to(size, k)),
+        4 => program(array, start, buffer, cut_to(256, k)),
+        5 => {
+            let page = number as usize % 8;
+            program(security, page * 256, buffer, cut_to(256, k));
+        }
+        _ => {}
+    }
+}
+
+// What 85, 01 and E8 do: "lock Security ID"; "sets IOC and WPEN"; "E8 adds its write-lock bits to the permanent register
+// and to the protection register; WPLD does not stop it."
+fn finish_registers(s: Flat) -> Flat {
+    let mut next = s;
+    let kind = s.run_kind;
+    let number = s.run_number;
+    match kind {
+        6 => {
+            next.sec = true;
+        }
+        7 => {
+            next.ioc = number % 2 == 1;
+            next.wpen = number / 2 % 2 == 1;
+        }
+        8 => {
+            next.permanent = s.permanent | number & WRITE_LOCKS;
+            next.protection = s.protection | number & WRITE_LOCKS;
+        }
+        _ => {}
+    }
+    next
+}
+
+// "Completion sets BUSY and WEL to 0." After a program the buffer is all FF again.
+fn completed(s: Flat) -> Flat {
+    let mut next = finish_registers(s);
+    if is_program(s.run_kind) {
+        next.buffer = [255u8; 256];
+    }
+    next.run_kind = 0;
+    next.run_number = 0;
+    next.wel = false;
+    next
+}
+
+// "Then power-up: SPI, WPLD 0, WEL 0, IOC 0, nothing running, no reset enable, protection 5555FFFFFFFF; SEC, WPEN and the
+// permanent register stay." "Suspended work is dropped."
+fn powered_up(s: Flat) -> Flat {
+    let mut next = dropped(s);
+    next.sqi = false;
+    next.wpld = false;
+    next.wel = false;
+    next.ioc = false;
+    next.enable = false;
+    next.protection = 0x5555FFFFFFFF;
+    next
+}
+
+// ---- A well-formed chip record ----
+
+// "Page numbers below 8,192, in the Security ID below 8; erase ranges are a sector, a block or the array."
+fn work_listed(kind: u8, number: u64) -> bool {
+    match kind {
+        0 | 3 | 6 | 7 | 8 => true,
+        1 => number < 512,
+        2 => number < 40,
+        4 => number < 8192,
+        5 => number < 8,
+        _ => false,
+    }
+}
+
+// "Suspended work is one sector or block erase or one page program."
+fn suspended_listed(kind: u8, number: u64) -> bool {
+    match kind {
+        0 => true,
+        1 | 2 | 4 => work_listed(kind, number),
+        _ => false,
+    }
+}
+
+// "Registers below 2^48, no permanent read lock, each permanent bit set in the protection register."
+fn registers_fit(protection: u64, permanent: u64) -> bool {
+    if 0xFFFFFFFFFFFF < protection {
+        return false;
+    }
+    if 0xFFFFFFFFFFFF < permanent {
+        return false;
+    }
+    if permanent & READ_LOCKS != 0 {
+        return false;
+    }
+    permanent & protection == permanent
+}
+
+// "one erase and one program"
+fn one_of_each(run_kind: u8, sus_kind: u8) -> bool {
+    if is_erase(sus_kind) {
+        return is_program(run_kind);
+    }
+    is_erase(run_kind)
+}
+
+// "If something runs beside it, they do not overlap and are one erase and one program."
+fn side_by_side(run_kind: u8, run_number: u64, sus_kind: u8, sus_number: u64) -> bool {
+    if run_kind == 0 {
+        return true;
+    }
+    if sus_kind == 0 {
+        return true;
+    }
+    if !one_of_each(run_kind, sus_kind) {
+        return false;
+    }
+    // A running A5 is in the Security ID, and meets no range of the array.
+    if run_kind == 5 {
+        return true;
+    }
+    !ranges_meet(run_kind, run_number, sus_kind, sus_number)
+}
+
+fn all_erased(buffer: [u8; 256], count: usize) -> bool
+    requires { ⌜ count ≤ 256 ⌝ }
+{
+    let mut i = 0;
+    while i < count {
+        if buffer[i] != 255 {
+            return false;
+        }
+        i += 1;
+    }
+    true
+}
+
+// "Running Security ID work has SEC 0; a running A5 of page 0 has FF in its first eight buffer bytes."
+fn security_fits(kind: u8, number: u64, sec: bool, buffer: [u8; 256]) -> bool {
+    if kind == 6 {
+        return !sec;
+    }
+    if kind != 5 {
+        return true;
+    }
+    if sec {
+        return false;
+    }
+    if number != 0 {
+        return true;
+    }
+    all_erased(buffer, 8)
+}
+
+// "The buffer is all FF when no program runs or is suspended."
+fn buffer_fits(run_kind: u8, sus_kind: u8, buffer: [u8; 256]) -> bool {
+    if is_program(run_kind) {
+        return true;
+    }
+    if is_program(sus_kind) {
+        return true;
+    }
+    all_erased(buffer, 256)
+}
+
+fn well_formed(s: Flat) -> bool {
+    let buffer = s.buffer;
+    if !work_listed(s.run_kind, s.run_number) {
+        return false;
+    }
+    if !suspended_listed(s.sus_kind, s.sus_number) {
+        return false;
+    }
+    if !registers_fit(s.protection, s.permanent) {
+        return false;
+    }
+    if !side_by_side(s.run_kind, s.run_number, s.sus_kind, s.sus_number) {
+        return false;
+    }
+    // "A running or suspended range has no write lock."
+    if range_locked(s.protection, s.run_kind, s.run_number) {
+        return false;
+    }
+    if range_locked(s.protection, s.sus_kind, s.sus_number) {
+        return false;
+    }
+    if !security_fits(s.run_kind, s.run_number, s.sec, buffer) {
+        return false;
+    }
+    buffer_fits(s.run_kind, s.sus_kind, buffer)
+}
+
+// ---- Numbers the bench gives back ----
+
+// 5: "BUSY, and opcode not 05, 66, 99, B0"
+fn refused_busy(s: Flat, opcode: u8) -> bool {
+    if s.run_kind == 0 {
+        return false;
+    }
+    match opcode {
+        0x05 | 0x66 | 0x99 | 0xB0 => false,
+        _ => true,
+    }
+}
+
+// 7: "6B or 32 with IOC 0"
+fn refused_quad(s: Flat, opcode: u8) -> bool {
+    match opcode {
+        0x6B | 0x32 => !s.ioc,
+        _ => false,
+    }
+}
+
+// 8: "B0 unless 20, D8, 02 or 32 runs and nothing is suspended"
+fn refused_suspend(s: Flat) -> bool {
+    if s.sus_kind != 0 {
+        return true;
+    }
+    let kind = s.run_kind;
+    match kind {
+        1 | 2 | 4 => false,
+        _ => true,
+    }
+}
+
+// 8: "with WSE 1, 20 and D8, and 02 or 32 into the range"
+fn refused_beside_erase(s: Flat, opcode: u8, sent: &[u8]) -> bool {
+    match opcode {
+        0x20 | 0xD8 => true,
+        0x02 | 0x32 => range_holds(s.sus_kind, s.sus_number, array_address(sent)),
+        _ => false,
+    }
+}
+
+// 8: "with WSP 1, 02 and 32, and 20 or D8 whose range holds the page"
+fn refused_beside_program(s: Flat, opcode: u8, sent: &[u8]) -> bool {
+    let page = range_start(s.sus_kind, s.sus_number);
+    match opcode {
+        0x02 | 0x32 => true,
+        0x20 | 0xD8 => range_holds(work_kind(opcode), work_number(opcode, sent), page),
+        _ => false,
+    }
+}
+
+// 8: "C7, 01, 42, 8D, E8, 98, A5, 85 while anything is" suspended, and the two rules above.
+fn refused_beside(s: Flat, opcode: u8, sent: &[u8]) -> bool {
+    match opcode {
+        0xC7 | 0x01 | 0x42 | 0x8D | 0xE8 | 0x98 | 0xA5 | 0x85 => true,
+        _ => {
+            if is_erase(s.sus_kind) {
+                return refused_beside_erase(s, opcode, sent);
+            }
+            refused_beside_program(s, opcode, sent)
+        }
+    }
+}
+
+// 8: "suspension rule below"
+fn refused_suspension(s: Flat, opcode: u8, sent: &[u8]) -> bool {
+    if opcode == 0xB0 {
+        return refused_suspend(s);
+    }
+    // "30 with nothing suspended"
+    if opcode == 0x30 {
+        return s.sus_kind == 0;
+    }
+    if s.sus_kind == 0 {
+        return false;
+    }
+    refused_beside(s, opcode, sent)
+}
+
+// "20, D8, C7, 02, 32, A5, 85, 01, E8, 42, 8D and 98 need WEL 1."
+fn needs_wel(opcode: u8) -> bool {
+    match opcode {
+        0x20 | 0xD8 | 0xC7 | 0x02 | 0x32 | 0xA5 => true,
+        0x85 | 0x01 | 0xE8 | 0x42 | 0x8D | 0x98 => true,
+        _ => false,
+    }
+}
+
+// 9: "WEL needed and 0"
+fn refused_wel(s: Flat, opcode: u8) -> bool {
+    if s.wel {
+        return false;
+    }
+    needs_wel(opcode)
+}
+
+// "A5 that sends a byte to places 0 to 7": only page 0 has them, and data wrap in the page.
+fn sends_to_factory(sent: &[u8]) -> bool {
+    let address = security_address(sent);
+    if 255 < address {
+        return false;
+    }
+    let mut place = address;
+    let mut i = 3;
+    while i < sent.len() {
+        if place % 256 < 8 {
+            return true;
+        }
+        place = place % 256 + 1;
+        i += 1;
+    }
+    false
+}
+
+// 10: "42 or 98 with WPLD 1; A5 or 85 with SEC 1; A5 that sends a byte to places 0 to 7"
+fn refused_locked(s: Flat, opcode: u8, sent: &[u8]) -> bool {
+    match opcode {
+        0x42 | 0x98 => s.wpld,
+        0x85 => s.sec,
+        0xA5 => {
+            if s.sec {
+                return true;
+            }
+            sends_to_factory(sent)
+        }
+        _ => false,
+    }
+}
+
+// 11: "20, D8, 02, 32 in a write-locked block; C7 with a write lock set"
+fn refused_protected(s: Flat, opcode: u8, sent: &[u8]) -> bool {
+    match opcode {
+        0x20 | 0xD8 | 0x02 | 0x32 => write_locked(s.protection, array_address(sent)),
+        0xC7 => s.protection & WRITE_LOCKS != 0,
+        _ => false,
+    }
+}
+
+// "If several apply to an event, the lowest is given." 7 to 11, or 0.
+fn later_refusal(s: Flat, opcode: u8, sent: &[u8]) -> u8 {
+    if refused_quad(s, opcode) {
+        return 7;
+    }
+    if refused_suspension(s, opcode, sent) {
+        return 8;
+    }
+    if refused_wel(s, opcode) {
+        return 9;
+    }
+    if refused_locked(s, opcode, sent) {
+        return 10;
+    }
+    if refused_protected(s, opcode, sent) {
+        return 11;
+    }
+    0
+}
+
+// 3 to 11, or 0, for a frame that is not empty.
+fn refusal(s: Flat, sent: &[u8]) -> u8 {
+    let opcode = byte_at(sent, 0);
+    // 3: "opcode not listed, or not in this protocol"
+    if !listed(opcode, s.sqi) {
+        return 3;
+    }
+    // 4: "length not as listed"
+    if !length_listed(opcode, s.sqi, sent.len()) {
+        return 4;
+    }
+    if refused_busy(s, opcode) {
+        return 5;
+    }
+    // 6: "99 with no enable"
+    if opcode == 0x99 && !s.enable {
+        return 6;
+    }
+    later_refusal(s, opcode, sent)
+}
+
+// ---- The three events ----
+
+// "0 means done."
+fn given(number: u8, state: Flat) -> Step {
+    Step { number, state }
+}
+
+// 1: "record not well-formed, or a length outside "Sizes" (every event)". Whether neither is so, but for the frame's own lengths.
+fn admitted(s: Flat, array: usize, security: usize) -> bool {
+    if !memories_sized(array, security) {
+        return false;
+    }
+    well_formed(s)
+}
+
+// A frame: the bytes sent while CE# is low, and the two reply buffers.
+pub fn frame(
+    s: Flat,
+    array: &mut [u8],
+    security: &mut [u8],
+    sent: &[u8],
+    reply: &mut [u8],
+    marks: &mut [u8],
+) -> Step {
+    // "Refusal 1 and 12 change nothing at all."
+    if !frame_sized(sent.len(), reply.len(), marks.len()) {
+        return given(1, s);
+    }
+    if !admitted(s, array.len(), security.len()) {
+        return given(1, s);
+    }
+    // "Refusals 2 to 11 fill the reply with FF and the marks with 0; nothing else changes, except that 3 to 11 use up the
+    // reset enable."
+    if sent.len() == 0 {
+        no_reply(reply, marks);
+        return given(2, s);
+    }
+    // "Every frame except one refused with 1 or 2 uses up the enable; 66 then grants it."
+    let used = with_enable(s, false);
+    let number = refusal(s, sent);
+    if number != 0 {
+        no_reply(reply, marks);
+        return given(number, used);
+    }
+    answer(s, array, security, sent, reply, marks);
+    let next = acted(used, byte_at(sent, 0), sent);
+    given(0, next)
+}
+
+// A completion: the running internal operation ends.
+pub fn completion(s: Flat, array: &mut [u8], security: &mut [u8]) -> Step {
+    if !admitted(s, array.len(), security.len()) {
+        return given(1, s);
+    }
+    // 12: "completion with nothing running"
+    if s.run_kind == 0 {
+        return given(12, s);
+    }
+    finish_bytes(s, array, security, 2097152);
+    let next = completed(s);
+    given(0, next)
+}
+
+// A power cut with a count k.
+pub fn power_cut(s: Flat, array: &mut [u8], security: &mut [u8], k: u64) -> Step {
+    if !admitted(s, array.len(), security.len()) {
+        return given(1, s);
+    }
+    finish_bytes(s, array, security, k);
+    // "85, 01 and E8 act fully if k is 1 or more, else not."
+    if k == 0 {
+        let unfinished = powered_up(s);
+        return given(0, unfinished);
+    }
+    let finished = finish_registers(s);
+    let next = powered_up(finished);
+    given(0, next)
+}
