@@ -1,0 +1,201 @@
+//! The SST26WF016B flash chip for firmware benches: a safe wrapper of the proved library.
+//!
+//! The library reads and writes lent bytes only, for every input of every length, so nothing here can be used wrongly: the types hold
+//! the sizes, and references hold that no two lent parts overlap.
+
+use std::fmt;
+use std::num::NonZeroU8;
+
+pub const RECORD: usize = 297;
+pub const ARRAY: usize = 2_097_152;
+pub const SECURITY: usize = 2_048;
+
+mod library {
+    extern "C" {
+        pub fn fulkibono_new(record: *mut u8, record_len: usize) -> u8;
+        pub fn fulkibono_frame(
+            record: *mut u8,
+            record_len: usize,
+            array: *mut u8,
+            array_len: usize,
+            security: *mut u8,
+            security_len: usize,
+            sent: *const u8,
+            sent_len: usize,
+            reply: *mut u8,
+            reply_len: usize,
+            marks: *mut u8,
+            marks_len: usize,
+        ) -> u8;
+        pub fn fulkibono_completion(
+            record: *mut u8,
+            record_len: usize,
+            array: *mut u8,
+            array_len: usize,
+            security: *mut u8,
+            security_len: usize,
+        ) -> u8;
+        pub fn fulkibono_power_cut(
+            record: *mut u8,
+            record_len: usize,
+            array: *mut u8,
+            array_len: usize,
+            security: *mut u8,
+            security_len: usize,
+            k: u64,
+        ) -> u8;
+        pub fn fulkibono_meaning(number: u8, text: *mut u8, text_len: usize) -> usize;
+    }
+}
+
+/// Why an event was refused: a number from 1 to 12.
+#[repr(transparent)]
+#[derive(Clone, Copy, PartialEq, Eq, Debug)]
+pub struct Refusal(NonZeroU8);
+
+impl Refusal {
+    pub fn number(self) -> u8 {
+        self.0.get()
+    }
+}
+
+impl fmt::Display for Refusal {
+    fn fmt(&self, f: &mut fmt::Formatter<'_>) -> fmt::Result {
+        let mut text = [0u8; 64];
+        // Safety: text is lent with its own length.
+        let n = unsafe { library::fulkibono_meaning(self.number(), text.as_mut_ptr(), text.len()) };
+        f.write_str(std::str::from_utf8(&text[..n.min(text.len())]).unwrap_or("?"))
+    }
+}
+
+impl std::error::Error for Refusal {}
+
+fn answer(number: u8) -> Result<(), Refusal> {
+    match NonZeroU8::new(number) {
+        None => Ok(()),
+        Some(n) => Err(Refusal(n)),
+    }
+}
+
+/// The array's bytes.
+#[repr(transparent)]
+pub struct Array([u8; ARRAY]);
+
+/// The Security ID's bytes.
+#[repr(transparent)]
+pub struct Security([u8; SECURITY]);
+
+impl Array {
+    /// Bytes lent as an array; None where there are not 2,097,152.
+    pub fn of(bytes: &mut [u8]) -> Option<&mut Array> {
+        let whole: &mut [u8; ARRAY] = bytes.try_into().ok()?;
+        // Safety: Array is transparent over its bytes.
+        Some(unsafe { &mut *(whole as *mut [u8; ARRAY] as *mut Array) })
+    }
+
+    pub fn bytes(&self) -> &[u8; ARRAY] {
+        &self.0
+    }
+}
+
+impl Security {
+    /// Bytes lent as a Security ID; None where there are not 2,048.
+    pub fn of(bytes: &mut [u8]) -> Option<&mut Security> {
+        let whole: &mut [u8; SECURITY] = bytes.try_into().ok()?;
+        // Safety: Security is transparent over its bytes.
+        Some(unsafe { &mut *(whole as *mut [u8; SECURITY] as *mut Security) })
+    }
+
+    pub fn bytes(&self) -> &[u8; SECURITY] {
+        &self.0
+    }
+}
+
+/// A chip record. Its bytes can be kept and read back; bytes that are no record's are refused by every event, with number 1.
+#[repr(transparent)]
+#[derive(Clone, PartialEq, Eq)]
+pub struct Record([u8; RECORD]);
+
+impl Default for Record {
+    fn default() -> Self {
+        Self::new()
+    }
+}
+
+impl Record {
+    /// A new chip.
+    pub fn new() -> Record {
+        let mut r = Record([0; RECORD]);
+        // Safety: the record's own bytes, with their length, which is the right one.
+        let n = unsafe { library::fulkibono_new(r.0.as_mut_ptr(), RECORD) };
+        debug_assert_eq!(n, 0);
+        r
+    }
+
+    pub fn from_bytes(bytes: [u8; RECORD]) -> Record {
+        Record(bytes)
+    }
+
+    pub fn bytes(&self) -> &[u8; RECORD] {
+        &self.0
+    }
+
+    /// The bytes sent while CE# is low. Reply and marks have one length.
+    pub fn frame(
+        &mut self,
+        array: &mut Array,
+        security: &mut Security,
+        sent: &[u8],
+        reply: &mut [u8],
+        marks: &mut [u8],
+    ) -> Result<(), Refusal> {
+        // Safety: each part is lent with its own length, and the references keep them apart.
+        answer(unsafe {
+            library::fulkibono_frame(
+                self.0.as_mut_ptr(),
+                RECORD,
+                array.0.as_mut_ptr(),
+                ARRAY,
+                security.0.as_mut_ptr(),
+                SECURITY,
+                sent.as_ptr(),
+                sent.len(),
+                reply.as_mut_ptr(),
+                reply.len(),
+                marks.as_mut_ptr(),
+                marks.len(),
+            )
+        })
+    }
+
+    /// The running operation ends.
+    pub fn completion(&mut self, array: &mut Array, security: &mut Security) -> Result<(), Refusal> {
+        // Safety: as in `frame`.
+        answer(unsafe {
+            library::fulkibono_completion(
+                self.0.as_mut_ptr(),
+                RECORD,
+                array.0.as_mut_ptr(),
+                ARRAY,
+                security.0.as_mut_ptr(),
+                SECURITY,
+            )
+        })
+    }
+
+    /// A power cut after k bytes of the running operation, and power-up.
+    pub fn power_cut(&mut self, array: &mut Array, security: &mut Security, k: u64) -> Result<(), Refusal> {
+        // Safety: as in `frame`.
+        answer(unsafe {
+            library::fulkibono_power_cut(
+                self.0.as_mut_ptr(),
+                RECORD,
+                array.0.as_mut_ptr(),
+                ARRAY,
+                security.0.as_mut_ptr(),
+                SECURITY,
+                k,
+            )
+        })
+    }
+}

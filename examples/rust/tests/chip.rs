@@ -1,0 +1,91 @@
+use fulkibono::{Array, Record, Security, ARRAY, RECORD, SECURITY};
+
+struct Bench {
+    chip: Record,
+    array: Vec<u8>,
+    security: Vec<u8>,
+}
+
+impl Bench {
+    fn new() -> Bench {
+        Bench { chip: Record::new(), array: vec![0xFF; ARRAY], security: vec![0xFF; SECURITY] }
+    }
+
+    fn send(&mut self, sent: &[u8], n: usize) -> (u8, Vec<u8>, Vec<u8>) {
+        let (mut reply, mut marks) = (vec![0u8; n], vec![0u8; n]);
+        let array = Array::of(&mut self.array).unwrap();
+        let security = Security::of(&mut self.security).unwrap();
+        let number = self.chip.frame(array, security, sent, &mut reply, &mut marks).err().map_or(0, |r| r.number());
+        (number, reply, marks)
+    }
+
+    fn complete(&mut self) -> u8 {
+        let array = Array::of(&mut self.array).unwrap();
+        let security = Security::of(&mut self.security).unwrap();
+        self.chip.completion(array, security).err().map_or(0, |r| r.number())
+    }
+}
+
+#[test]
+fn a_new_chip() {
+    let mut b = Bench::new();
+    assert_eq!(b.send(&[0x05], 1), (0, vec![0x00], vec![1]));
+    assert_eq!(b.send(&[0x35], 1), (0, vec![0x08], vec![1]));
+    assert_eq!(b.send(&[0x72], 6), (0, vec![0x55, 0x55, 0xFF, 0xFF, 0xFF, 0xFF], vec![1; 6]));
+    assert_eq!(b.send(&[], 2), (2, vec![0xFF; 2], vec![0; 2]));
+    assert_eq!(b.complete(), 12);
+}
+
+#[test]
+fn data_wrap_at_the_page_end() {
+    let mut b = Bench::new();
+    b.send(&[0x06], 0);
+    assert_eq!(b.send(&[0x02, 0, 0, 0, 0], 0).0, 11);
+    b.send(&[0x98], 0);
+    b.send(&[0x06], 0);
+    assert_eq!(b.send(&[0x02, 0x00, 0x01, 0xFE, 0x11, 0x22, 0x33], 0).0, 0);
+    assert_eq!(b.send(&[0x05], 1).1, vec![0x83]);
+    assert_eq!(b.complete(), 0);
+    assert_eq!((b.array[0x1FE], b.array[0x1FF], b.array[0x100], b.array[0x200]), (0x11, 0x22, 0x33, 0xFF));
+}
+
+#[test]
+fn a_power_cut_in_an_erase() {
+    let mut b = Bench::new();
+    b.send(&[0x06], 0);
+    b.send(&[0x98], 0);
+    b.array[0x2000..0x3000].fill(0);
+    b.send(&[0x06], 0);
+    assert_eq!(b.send(&[0x20, 0x00, 0x20, 0x00], 0).0, 0);
+    let array = Array::of(&mut b.array).unwrap();
+    let security = Security::of(&mut b.security).unwrap();
+    assert!(b.chip.power_cut(array, security, 10).is_ok());
+    assert!(b.array[0x2000..0x200A].iter().all(|&x| x == 0xFF) && b.array[0x200A..0x3000].iter().all(|&x| x == 0));
+    assert!(b.chip == Record::new());
+}
+
+#[test]
+fn bytes_that_are_no_record() {
+    let mut b = Bench::new();
+    for (at, value) in [(290, 2), (272, 9), (273, 1), (256, 0)] {
+        let mut bytes = *Record::new().bytes();
+        bytes[at] = value;
+        b.chip = Record::from_bytes(bytes);
+        let right = at == 256;
+        assert_eq!(b.send(&[0x05], 1).0, if right { 0 } else { 1 });
+        assert_eq!(b.chip.bytes(), &bytes);
+    }
+    assert_eq!(RECORD, 297);
+}
+
+#[test]
+fn sizes_are_held() {
+    assert!(Array::of(&mut vec![0; ARRAY - 1]).is_none());
+    assert!(Security::of(&mut [0; SECURITY + 1]).is_none());
+    let mut b = Bench::new();
+    let array = Array::of(&mut b.array).unwrap();
+    let security = Security::of(&mut b.security).unwrap();
+    let refused = b.chip.frame(array, security, &[0x05], &mut [0; 2], &mut [0; 1]).unwrap_err();
+    assert_eq!(refused.number(), 1);
+    assert_eq!(refused.to_string(), "record not well-formed, or a length outside the sizes");
+}

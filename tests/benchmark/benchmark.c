@@ -1,0 +1,424 @@
+/* The benchmark: this library, a plain per-byte model and the limit, side by side on the same work. See docs/PERFORMANCE.md. */
+#define _POSIX_C_SOURCE 199309L
+#include "fulkibono.h"
+#include <stdio.h>
+#include <stdlib.h>
+#include <string.h>
+#include <time.h>
+
+#define REPEATS 3
+#define LONGEST 65536
+
+static uint8_t array[FULKIBONO_ARRAY], security[FULKIBONO_SECURITY];
+static uint8_t reply[LONGEST], marks[LONGEST], frame[LONGEST];
+static fulkibono_record chip;
+static volatile uint64_t sink;
+
+static double now(void)
+{
+    struct timespec t;
+    clock_gettime(CLOCK_MONOTONIC, &t);
+    return (double)t.tv_sec * 1e9 + (double)t.tv_nsec;
+}
+
+static uint8_t send(const uint8_t *sent, size_t n, size_t m)
+{
+    return fulkibono_send(&chip, array, security, sent, n, reply, marks, m);
+}
+
+static void must(int right, const char *what)
+{
+    if (!right) {
+        fprintf(stderr, "benchmark: %s\n", what);
+        exit(1);
+    }
+}
+
+/* ---- the per-byte model, in the style of emulators: a state machine, one byte a call, no checks */
+
+static struct {
+    int state, opcode, count;
+    uint32_t address;
+    uint8_t status, buffer[256], page_set[256];
+    uint64_t locks;
+} plain;
+
+static void plain_select(void)
+{
+    plain.state = 0;
+    plain.count = 0;
+    plain.address = 0;
+}
+
+static uint8_t plain_read_byte(void)
+{
+    uint32_t a = plain.address;
+    plain.address = (a + 1) & (FULKIBONO_ARRAY - 1);
+    return array[a];
+}
+
+/* one byte out, one byte in; not inlined, as in a bus of devices that are called through a pointer */
+static uint8_t plain_byte(uint8_t in)
+{
+    switch (plain.state) {
+    case 0:
+        plain.opcode = in;
+        switch (in) {
+        case 0x05: plain.state = 1; break;
+        case 0x03: case 0x02: case 0x20: case 0xD8: plain.state = 2; break;
+        case 0x06: plain.status |= 2; break;
+        case 0xC7: plain.status |= 1; plain.state = 5; break;
+        default: break;
+        }
+        return 0xFF;
+    case 1:
+        return plain.status;
+    case 2:
+        plain.address = (plain.address << 8) | in;
+        if (++plain.count == 3) {
+            plain.address &= FULKIBONO_ARRAY - 1;
+            plain.state = plain.opcode == 0x03 ? 3 : plain.opcode == 0x02 ? 4 : 5;
+            if (plain.state != 3)
+                plain.status |= 1;
+        }
+        return 0xFF;
+    case 3:
+        return plain_read_byte();
+    case 4:
+        plain.buffer[plain.address & 255] = in;
+        plain.page_set[plain.address & 255] = 1;
+        plain.address = (plain.address & ~255u) | ((plain.address + 1) & 255);
+        return 0xFF;
+    default:
+        return 0xFF;
+    }
+}
+static uint8_t (*volatile plain_call)(uint8_t) = plain_byte;
+
+static void plain_frame(const uint8_t *sent, size_t n, uint8_t *out, size_t m)
+{
+    plain_select();
+    for (size_t i = 0; i < n; i++)
+        plain_call(sent[i]);
+    for (size_t i = 0; i < m; i++)
+        out[i] = plain_call(0);
+}
+
+static void plain_complete(void)
+{
+    uint32_t a = plain.address;
+    size_t n = plain.opcode == 0x20 ? 4096 : plain.opcode == 0xD8 ? 65536 : plain.opcode == 0xC7 ? FULKIBONO_ARRAY : 0;
+    if (plain.opcode == 0x02) {
+        for (int i = 0; i < 256; i++)
+            if (plain.page_set[i])
+                array[(a & ~255u) | (uint32_t)i] &= plain.buffer[i];
+        memset(plain.page_set, 0, sizeof plain.page_set);
+    } else {
+        a &= ~(uint32_t)(n - 1);
+        if (plain.opcode == 0xC7)
+            a = 0;
+        for (size_t i = 0; i < n; i++) {
+            volatile uint8_t *p = &array[a + i];
+            *p = 0xFF;
+        }
+    }
+    plain.status = 0;
+}
+
+/* ---- the floor of a status frame: the record in and out, its buffer scanned once */
+
+static fulkibono_record other;
+static void floor_frame(void)
+{
+    fulkibono_record c;
+    uint8_t differs = 0;
+    memcpy(&c, &chip, sizeof c);
+    __asm__ volatile("" : : "r"(&c) : "memory");
+    for (int i = 0; i < 256; i++)
+        differs |= (uint8_t)(c.bytes[i] ^ 255);
+    __asm__ volatile("" : : "r"(&c), "r"(differs) : "memory");
+    memcpy(&other, &c, sizeof c);
+    __asm__ volatile("" : : "r"(&other) : "memory");
+}
+
+/* ---- measuring: nanoseconds for each turn, the median of three */
+
+typedef void job(void);
+
+static double once(job *f, long turns)
+{
+    double t = now();
+    for (long i = 0; i < turns; i++)
+        f();
+    return (now() - t) / (double)turns;
+}
+
+static double median(const double *x)
+{
+    double a = x[0], b = x[1], c = x[2];
+    return a < b ? (b < c ? b : a < c ? c : a) : (a < c ? a : b < c ? c : b);
+}
+
+struct row { const char *what; job *ours, *plain, *limit; long turns; double t[3]; };
+
+/* ---- the work */
+
+static size_t wanted;
+static uint32_t from;
+
+static void read_ours(void)
+{
+    const uint8_t sent[] = { 0x03, (uint8_t)(from >> 16), (uint8_t)(from >> 8), (uint8_t)from };
+    uint8_t n = send(sent, 4, wanted);
+    sink += (uint64_t)n + reply[0];
+}
+static void read_plain(void)
+{
+    const uint8_t sent[] = { 0x03, (uint8_t)(from >> 16), (uint8_t)(from >> 8), (uint8_t)from };
+    plain_frame(sent, 4, reply, wanted);
+    sink += reply[0];
+}
+static void read_limit(void)
+{
+    memcpy(reply, array + (from + wanted > FULKIBONO_ARRAY ? 0 : from), wanted);
+    memset(marks, 1, wanted);
+    __asm__ volatile("" : : "r"(reply), "r"(marks) : "memory");
+}
+static const uint8_t s05[] = { 0x05 }, s06[] = { 0x06 }, s98[] = { 0x98 }, sB0[] = { 0xB0 }, sC7[] = { 0xC7 };
+static void status_ours(void) { send(s05, 1, 1); sink += reply[0]; }
+static void status_plain(void) { plain_frame(s05, 1, reply, 1); sink += reply[0]; }
+static void status_limit(void) { floor_frame(); }
+
+static void page_ours(void)
+{
+    frame[0] = 0x02; frame[1] = 1; frame[2] = 2; frame[3] = 0;
+    send(s06, 1, 0);
+    send(frame, 260, 0);
+    send(s05, 1, 1);
+    fulkibono_complete(&chip, array, security);
+}
+static void page_plain(void)
+{
+    frame[0] = 0x02; frame[1] = 1; frame[2] = 2; frame[3] = 0;
+    plain_frame(s06, 1, reply, 0);
+    plain_frame(frame, 260, reply, 0);
+    plain_frame(s05, 1, reply, 1);
+    plain_complete();
+}
+static void page_limit(void) { for (int i = 0; i < 4; i++) status_ours(); }
+
+static uint8_t erase[4];
+static size_t erase_n, erase_len;
+static void erase_ours(void)
+{
+    send(s06, 1, 0);
+    must(send(erase, erase_n, 0) == 0, "erase refused");
+    fulkibono_complete(&chip, array, security);
+}
+static void erase_plain(void)
+{
+    plain_frame(s06, 1, reply, 0);
+    plain_frame(erase, erase_n, reply, 0);
+    plain_complete();
+}
+static void erase_limit(void)
+{
+    memset(array + from, 0xFF, erase_len);
+    __asm__ volatile("" : : "r"(array) : "memory");
+}
+/* the erase alone, for the bars: its completion against memset, the record put back before each turn */
+static fulkibono_record ready;
+static void finish_ours(void)
+{
+    chip = ready;
+    fulkibono_complete(&chip, array, security);
+}
+static void finish_limit(void)
+{
+    chip = ready;
+    erase_limit();
+}
+static uint64_t cut_at;
+static void cut_ours(void)
+{
+    chip = ready;
+    fulkibono_cut(&chip, array, security, cut_at);
+}
+static void cut_limit(void)
+{
+    chip = ready;
+    memset(array, 0xFF, cut_at);
+    __asm__ volatile("" : : "r"(array) : "memory");
+}
+
+static void measure(struct row *r)
+{
+    double x[3][REPEATS];
+    job *jobs[3] = { r->ours, r->plain, r->limit };
+    for (int k = 0; k < 3; k++)
+        if (jobs[k])
+            once(jobs[k], r->turns / 20 + 1);
+    for (int i = 0; i < REPEATS; i++)
+        for (int k = 0; k < 3; k++)
+            x[k][i] = jobs[k] ? once(jobs[k], r->turns) : 0;
+    for (int k = 0; k < 3; k++)
+        r->t[k] = median(x[k]);
+    printf("%-44s %12.1f", r->what, r->t[0]);
+    if (jobs[1])
+        printf(" %12.1f %8.1fx", r->t[1], r->t[1] / r->t[0]);
+    else
+        printf(" %12s %9s", "-", "-");
+    if (jobs[2])
+        printf(" %12.1f %8.2fx\n", r->t[2], r->t[0] / r->t[2]);
+    else
+        printf(" %12s %9s\n", "-", "-");
+}
+
+static int missed;
+static void bar(const char *what, double got, int most, double line)
+{
+    int right = most ? got <= line : got >= line;
+    if (!right)
+        missed++;
+    printf("  %-66s %8.2f  (%s %.2f)  %s\n", what, got, most ? "at most" : "at least", line, right ? "pass" : "MISSED");
+}
+
+static void fresh(void)
+{
+    memset(array, 0xFF, sizeof array);
+    memset(security, 0xFF, sizeof security);
+    for (size_t i = 0; i < sizeof array; i += 7)
+        array[i] = (uint8_t)i;
+    fulkibono_make(&chip);
+    must(send(s06, 1, 0) == 0 && send(s98, 1, 0) == 0, "opening refused");
+    memset(&plain, 0, sizeof plain);
+}
+
+/* 1,000,000 mixed events: the cost of one in each tenth */
+static double tenth[10];
+static void mixed(void)
+{
+    uint32_t seed = 12345;
+    fresh();
+    for (int d = 0; d < 10; d++) {
+        double t = now();
+        for (long i = 0; i < 100000; i++) {
+            seed = seed * 1664525u + 1013904223u;
+            uint32_t a = seed >> 8, kind = (seed >> 3) & 15;
+            uint8_t f[12] = { 0x03, (uint8_t)(a >> 16), (uint8_t)(a >> 8), (uint8_t)a, 0x11, 0x22, 0x33, 0x44, 0x55, 0x66, 0x77, 0x88 };
+            if (kind < 6)
+                send(f, 4, 64);
+            else if (kind < 9)
+                send(s05, 1, 1);
+            else if (kind < 11)
+                send(s06, 1, 0);
+            else if (kind < 13) {
+                f[0] = 0x02;
+                send(f, 12, 0);
+            } else if (kind < 14) {
+                f[0] = 0x20;
+                send(f, 4, 0);
+            } else
+                fulkibono_complete(&chip, array, security);
+        }
+        tenth[d] = (now() - t) / 100000;
+    }
+}
+
+int main(void)
+{
+    setvbuf(stdout, NULL, _IOLBF, 0);
+    double status, floor_, sector_finish, sector_limit, chip_finish, chip_limit, page, read_o, read_p, read_l;
+    static const size_t sizes[] = { 1, 16, 256, 4096, 65536 };
+    char name[64];
+    for (size_t i = 0; i < sizeof frame; i++)
+        frame[i] = (uint8_t)(i * 37);
+    read_o = read_p = read_l = 1;
+    printf("nanoseconds a turn, medians of %d repeats\n", REPEATS);
+    printf("%-44s %12s %12s %9s %12s %9s\n", "work", "library", "per-byte", "ratio", "limit", "ratio");
+
+    fresh();
+    struct row r = { "status frame (limit: its floor)", status_ours, status_plain, status_limit, 2000000, { 0 } };
+    measure(&r);
+    status = r.t[0];
+    floor_ = r.t[2];
+    for (int area = 0; area < 3; area++)
+        for (size_t k = 0; k < 5; k++) {
+            static const char *const names[] = { "unlocked", "read-locked", "suspended" };
+            fresh();
+            from = 0x20000;
+            if (area == 1) {
+                /* the eight 8-KB blocks with their read locks set: read from the last four, 1F8000 on */
+                const uint8_t lock[] = { 0x42, 0xAA, 0xAA, 0, 0, 0, 0 };
+                must(send(s06, 1, 0) == 0 && send(lock, 7, 0) == 0, "lock refused");
+                from = 0x1F8000;
+            } else if (area == 2) {
+                const uint8_t d8[] = { 0xD8, 0x02, 0, 0 };
+                must(send(s06, 1, 0) == 0 && send(d8, 4, 0) == 0 && send(sB0, 1, 0) == 0, "suspension refused");
+            }
+            wanted = sizes[k];
+            snprintf(name, sizeof name, "read %zu, %s", wanted, names[area]);
+            struct row q = { name, read_ours, read_plain, read_limit, wanted > 4096 ? 4000 : wanted > 256 ? 40000 : 400000, { 0 } };
+            measure(&q);
+            if (area == 0 && wanted == 65536) {
+                read_o = q.t[0];
+                read_p = q.t[1];
+                read_l = q.t[2];
+            }
+        }
+
+    fresh();
+    struct row p = { "page program: 06, 02, poll, completion", page_ours, page_plain, page_limit, 300000, { 0 } };
+    measure(&p);
+    page = p.t[0];
+
+    fresh();
+    erase[0] = 0x20; erase[1] = 2; erase_n = 4; erase_len = 4096; from = 0x20000;
+    struct row e1 = { "sector erase: 06, 20, completion", erase_ours, erase_plain, erase_limit, 100000, { 0 } };
+    measure(&e1);
+    must(send(s06, 1, 0) == 0 && send(erase, 4, 0) == 0, "sector refused");
+    ready = chip;
+    struct row f1 = { "sector erase: the completion alone", finish_ours, NULL, finish_limit, 200000, { 0 } };
+    measure(&f1);
+    sector_finish = f1.t[0];
+    sector_limit = f1.t[2];
+
+    fresh();
+    erase[0] = 0xD8; erase_len = 65536;
+    struct row e2 = { "block erase: 06, D8, completion", erase_ours, erase_plain, erase_limit, 10000, { 0 } };
+    measure(&e2);
+
+    fresh();
+    erase[0] = 0xC7; erase_n = 1; erase_len = FULKIBONO_ARRAY; from = 0;
+    struct row e3 = { "chip erase: 06, C7, completion", erase_ours, erase_plain, erase_limit, 400, { 0 } };
+    measure(&e3);
+    must(send(s06, 1, 0) == 0 && send(sC7, 1, 0) == 0, "array refused");
+    ready = chip;
+    struct row f3 = { "chip erase: the completion alone", finish_ours, NULL, finish_limit, 400, { 0 } };
+    measure(&f3);
+    chip_finish = f3.t[0];
+    chip_limit = f3.t[2];
+    cut_at = FULKIBONO_ARRAY / 2;
+    struct row c1 = { "power cut in the middle of a chip erase", cut_ours, NULL, cut_limit, 800, { 0 } };
+    measure(&c1);
+
+    {
+        double first[REPEATS], last[REPEATS];
+        for (int i = 0; i < REPEATS; i++) {
+            mixed();
+            first[i] = tenth[0];
+            last[i] = tenth[9];
+        }
+        printf("%-44s %12.1f in the first tenth, %.1f in the last\n", "1,000,000 mixed events, each", median(first), median(last));
+        printf("\nbars\n");
+        bar("65,536-byte read against the limit", read_o / read_l, 1, 2);
+        bar("65,536-byte read against the per-byte model", read_p / read_o, 0, 30);
+        bar("status frame against its floor", status / floor_, 1, 3);
+        bar("sector erase's completion against memset plus a status frame", sector_finish / (sector_limit + status), 1, 2);
+        bar("chip erase's completion against memset", chip_finish / chip_limit, 1, 1.3);
+        bar("page program with 06, poll and completion against four status frames", page / (4 * status), 1, 4);
+        bar("mixed events: last tenth against the first", median(last) / median(first), 1, 1.1);
+    }
+    printf("%d missed\n", missed);
+    return missed ? 1 : 0;
+}

@@ -1,0 +1,256 @@
+/* Hostile arguments at the boundary: lengths off by one, huge frames, random record bytes, every number. Each lent part stands between two
+ * pages that cannot be touched, now against the one and now against the other, so that a byte read or written outside it stops the program. */
+#define _DEFAULT_SOURCE
+#include "fulkibono.h"
+#include <stdio.h>
+#include <stdlib.h>
+#include <string.h>
+#include <sys/mman.h>
+
+#define PAGE 4096
+#define MOST 70000
+
+static uint64_t seed = 88172645463325252u;
+static uint32_t any(void)
+{
+    seed ^= seed << 13;
+    seed ^= seed >> 7;
+    seed ^= seed << 17;
+    return (uint32_t)(seed >> 16);
+}
+static size_t below(size_t n) { return any() % n; }
+
+static void must(int right, const char *what)
+{
+    if (!right) {
+        fprintf(stderr, "hostile: %s\n", what);
+        exit(1);
+    }
+}
+
+/* ---- memory between two closed pages */
+
+struct room { uint8_t *open; size_t size; uint8_t *copy; uint8_t *lent; size_t n; };
+
+static struct room room_of(size_t most)
+{
+    struct room r;
+    r.size = (most + PAGE - 1) / PAGE * PAGE;
+    uint8_t *all = mmap(NULL, r.size + 2 * PAGE, PROT_READ | PROT_WRITE, MAP_PRIVATE | MAP_ANONYMOUS, -1, 0);
+    must(all != MAP_FAILED, "no memory");
+    must(mprotect(all, PAGE, PROT_NONE) == 0 && mprotect(all + PAGE + r.size, PAGE, PROT_NONE) == 0, "no guard");
+    r.open = all + PAGE;
+    r.copy = malloc(r.size);
+    must(r.copy != NULL, "no memory");
+    r.lent = r.open;
+    r.n = 0;
+    return r;
+}
+
+/* n bytes, against the page behind or the page before */
+static void lend(struct room *r, size_t n)
+{
+    r->n = n;
+    r->lent = any() & 1 ? r->open : r->open + r->size - n;
+}
+static void keep(struct room *r) { memcpy(r->copy, r->lent, r->n); }
+static int same(const struct room *r) { return memcmp(r->copy, r->lent, r->n) == 0; }
+
+static struct room record, array, security, sent, reply, marks, text;
+
+static size_t near(size_t n)
+{
+    switch (below(40)) {
+    case 0: return n - 1;
+    case 1: return n + 1;
+    case 2: return 0;
+    default: return n;
+    }
+}
+
+static size_t some_length(void)
+{
+    switch (below(10)) {
+    case 0: return 0;
+    case 1: return 65535;
+    case 2: return 65536;
+    case 3: return 65537;
+    case 4: return below(MOST);
+    case 5: return 256 + below(10);
+    default: return below(12);
+    }
+}
+
+static const uint8_t opcodes[] = { 0x00, 0x66, 0x99, 0x38, 0xFF, 0x05, 0x35, 0x72, 0x9F, 0xAF, 0x03, 0x0B, 0x6B, 0x88, 0x06, 0x06, 0x06, 0x04, 0x20, 0xD8,
+                                   0xC7, 0x02, 0x32, 0xA5, 0x85, 0x01, 0x42, 0xE8, 0x8D, 0x98, 0xB0, 0x30 };
+
+/* the length of each in SPI, opcode included */
+static const uint8_t lengths[] = { 1, 1, 1, 1, 1, 1, 1, 1, 1, 2, 4, 5, 5, 4, 1, 1, 1, 1, 4, 4, 1, 9, 9, 9, 1, 3, 7, 7, 1, 1, 1, 1 };
+
+/* the record: what a run of frames left, that with one byte changed, or random bytes */
+static uint8_t kept[FULKIBONO_RECORD];
+static void some_record(void)
+{
+    size_t n = near(FULKIBONO_RECORD);
+    lend(&record, n);
+    switch (below(24)) {
+    case 0:
+        for (size_t i = 0; i < n; i++)
+            record.lent[i] = (uint8_t)any();
+        break;
+    case 1:
+        for (size_t i = 0; i < n; i++)
+            record.lent[i] = i < FULKIBONO_RECORD ? kept[i] : 0;
+        if (n > 256)
+            record.lent[256 + below(n - 256)] = (uint8_t)(below(2) ? below(10) : any());
+        break;
+    default:
+        for (size_t i = 0; i < n; i++)
+            record.lent[i] = i < FULKIBONO_RECORD ? kept[i] : 0;
+    }
+    keep(&record);
+}
+
+static void some_memory(void)
+{
+    /* most calls use the whole array where it stands, so that its bytes live on */
+    size_t n = near(FULKIBONO_ARRAY), m = near(FULKIBONO_SECURITY);
+    array.n = n;
+    array.lent = array.open + array.size - n;
+    security.n = m;
+    security.lent = security.open + security.size - m;
+    keep(&security);
+}
+
+static long counts[13];
+
+static void after(uint8_t number, int frame, const uint8_t *array_before)
+{
+    must(number <= 12, "a number above 12");
+    counts[number]++;
+    if (number == 1 || number == 12)
+        must(same(&record) && same(&security) && memcmp(array_before, array.lent, array.n) == 0, "refusal 1 or 12 changed something");
+    if (number == 1 && frame)
+        must(same(&reply) && same(&marks), "refusal 1 wrote a reply");
+    if (number != 1 && frame) {
+        must(record.n == FULKIBONO_RECORD && array.n == FULKIBONO_ARRAY && security.n == FULKIBONO_SECURITY && sent.n <= 65536
+             && reply.n <= 65536 && reply.n == marks.n, "a wrong length was taken");
+        for (size_t i = 0; i < marks.n; i++)
+            must(marks.lent[i] <= 1, "a mark above 1");
+        must(memcmp(array_before, array.lent, array.n) == 0 && same(&security), "a frame changed the array");
+    }
+    if (number == 2)
+        must(sent.n == 0, "refusal 2 of a frame that is not empty");
+    if (record.n == FULKIBONO_RECORD && number != 1) {
+        /* what is left is a record that is taken again */
+        uint8_t b = 0, m = 0;
+        const uint8_t status = 0x05;
+        memcpy(kept, record.lent, FULKIBONO_RECORD);
+        uint8_t again[FULKIBONO_RECORD];
+        memcpy(again, kept, sizeof again);
+        uint8_t k = fulkibono_frame(again, sizeof again, array.lent, array.n, security.lent, security.n, &status, 1, &b, 1, &m, 1);
+        must(k != 1 || array.n != FULKIBONO_ARRAY, "what a call left is refused");
+    }
+}
+
+int main(int argc, char **argv)
+{
+    long rounds = argc > 1 ? atol(argv[1]) : 20000;
+    uint8_t *before;
+    record = room_of(400);
+    array = room_of(FULKIBONO_ARRAY + 1);
+    security = room_of(FULKIBONO_SECURITY + 1);
+    sent = room_of(MOST);
+    reply = room_of(MOST);
+    marks = room_of(MOST + 1);
+    text = room_of(100);
+    before = malloc(array.size);
+    must(before != NULL, "no memory");
+    memset(array.open, 0xFF, array.size);
+    memset(security.open, 0xFF, security.size);
+
+    /* a new chip, in every length about the right one */
+    for (size_t n = 0; n <= 400; n++) {
+        lend(&record, n);
+        memset(record.lent, 0xAB, n);
+        keep(&record);
+        uint8_t k = fulkibono_new(record.lent, n);
+        must(k == (n == FULKIBONO_RECORD ? 0 : 1), "fulkibono_new's number");
+        must(k == 0 || same(&record), "fulkibono_new wrote where it refused");
+        if (k == 0)
+            memcpy(kept, record.lent, n);
+    }
+
+    /* every number, and room from none to enough */
+    for (int number = 0; number < 256; number++)
+        for (size_t n = 0; n <= 70; n++) {
+            lend(&text, n);
+            memset(text.lent, 0xAB, n);
+            size_t whole = fulkibono_meaning((uint8_t)number, text.lent, n);
+            must((number <= 12) == (whole > 0) && whole <= FULKIBONO_MEANING_MOST, "a text's length");
+            for (size_t i = 0; i < n; i++)
+                must(i < whole ? text.lent[i] >= 0x20 && text.lent[i] < 0x7F : text.lent[i] == 0xAB, "a text's bytes");
+        }
+
+    /* nothing lent at all, with NULL, straight and by the header's functions */
+    {
+        fulkibono_record c;
+        must(fulkibono_new(NULL, 0) == 1 && fulkibono_meaning(3, NULL, 0) > 0, "NULL");
+        must(fulkibono_frame(NULL, 0, NULL, 0, NULL, 0, NULL, 0, NULL, 0, NULL, 0) == 1, "NULL frame");
+        must(fulkibono_completion(NULL, 0, NULL, 0, NULL, 0) == 1 && fulkibono_power_cut(NULL, 0, NULL, 0, NULL, 0, 9) == 1, "NULL events");
+        array.lent = array.open;
+        array.n = FULKIBONO_ARRAY;
+        security.lent = security.open;
+        fulkibono_make(&c);
+        must(fulkibono_send(&c, array.lent, security.lent, NULL, 0, NULL, NULL, 0) == FULKIBONO_EMPTY, "empty frame");
+        const uint8_t wren = 0x06;
+        must(fulkibono_send(&c, array.lent, security.lent, &wren, 1, NULL, NULL, 0) == FULKIBONO_DONE, "no reply");
+        must(fulkibono_frame(c.bytes, sizeof c.bytes, array.lent, FULKIBONO_ARRAY, security.lent, FULKIBONO_SECURITY, &wren, 1, NULL, 0, NULL, 0) == 0,
+             "NULL reply");
+    }
+
+    memcpy(before, array.open + array.size - FULKIBONO_ARRAY - 1, FULKIBONO_ARRAY + 1);
+    for (long i = 0; i < rounds; i++) {
+        uint8_t number;
+        some_record();
+        some_memory();
+        memcpy(before, array.lent, array.n);
+        switch (below(8)) {
+        case 0:
+            number = fulkibono_completion(record.lent, record.n, array.lent, array.n, security.lent, security.n);
+            after(number, 0, before);
+            break;
+        case 1:
+            number = fulkibono_power_cut(record.lent, record.n, array.lent, array.n, security.lent, security.n,
+                                         below(3) ? below(5000) : below(2) ? UINT64_MAX : ((uint64_t)any() << 32));
+            after(number, 0, before);
+            break;
+        default: {
+            size_t n = some_length(), m = some_length(), o = below(sizeof opcodes);
+            int meant = below(6) != 0;
+            if (meant)
+                n = lengths[o];
+            lend(&sent, n);
+            lend(&reply, m);
+            lend(&marks, below(20) ? m : m + 1);
+            for (size_t j = 0; j < n && j < 300; j++)
+                sent.lent[j] = (uint8_t)any();
+            if (n && (meant || below(2)))
+                sent.lent[0] = opcodes[o];
+            keep(&sent);
+            keep(&reply);
+            keep(&marks);
+            number = fulkibono_frame(record.lent, record.n, array.lent, array.n, security.lent, security.n, sent.lent, n, reply.lent, m,
+                                     marks.lent, marks.n);
+            must(same(&sent), "the frame's own bytes changed");
+            after(number, 1, before);
+        }
+        }
+    }
+    printf("hostile: %ld rounds, no finding; numbers given:", rounds);
+    for (int i = 0; i <= 12; i++)
+        printf(" %d:%ld", i, counts[i]);
+    printf("\n");
+    free(before);
+    return 0;
+}

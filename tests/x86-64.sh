@@ -1,0 +1,31 @@
+# Sourced by the run scripts, at the repository's root: builds the library where it is not up to date, and says how a C program with it
+# is compiled and run. The library is code for x86-64. On another processor programs are linked with the kit's C library and run by the
+# kit's emulator; where FULKIBONO_OBJECT names the library compiled for this processor, that is used, and programs run as they are.
+set -eu
+out=target/run
+mkdir -p "$out"
+machine=$(uname -m)
+library=${FULKIBONO_OBJECT:-target/staticlib/libbench.a}
+if [ -z "${FULKIBONO_OBJECT:-}" ] && { [ ! -f "$library" ] || [ -n "$(find crates crates.txt -type f -newer "$library" | head -n 1)" ]; }; then
+    rt staticlib bench >target/staticlib.log 2>&1 || { cat target/staticlib.log; exit 1; }
+    touch "$library"
+fi
+
+# compile PROGRAM SOURCE [FLAGS..]: the C program with the library
+# start PROGRAM [WORDS..]: runs it
+if [ "$machine" = x86_64 ] || [ -n "${FULKIBONO_OBJECT:-}" ]; then
+    native=yes
+    compile() { p=$1 s=$2; shift 2; ${CC:-cc} -std=c99 -Wall -Wextra -pedantic -Iinclude "$@" "$s" "$library" -o "$p"; }
+    start() { "$@"; }
+else
+    native=''
+    kit=$(cd "$(dirname "$(rt doc)")/.." && pwd -P)
+    tools=$kit/on/$machine/toolchain
+    compile() {
+        p=$1 s=$2
+        shift 2
+        ${CC:-clang} --target=x86_64-linux-gnu -idirafter "/usr/include/$machine-linux-gnu" -fPIC -std=c99 -Wall -Wextra -pedantic -Iinclude "$@" -c "$s" -o "$p.o"
+        "$kit/on/$machine/bin/rattle-link" --target x86_64-unknown-linux-gnu --toolchain "$tools" -o "$p" "$p.o" "$library" >/dev/null 2>&1
+    }
+    start() { p=$1; shift; "$tools/bin/qemu-x86_64" "$tools/lib/ld-linux-x86-64.so.2" --library-path "$tools/lib" "$p" "$@"; }
+fi
