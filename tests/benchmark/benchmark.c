@@ -14,10 +14,11 @@ static uint8_t reply[LONGEST], marks[LONGEST], frame[LONGEST];
 static fulkibono_record chip;
 static volatile uint64_t sink;
 
+/* the processor's time of this program, so that other work on the machine does not count */
 static double now(void)
 {
     struct timespec t;
-    clock_gettime(CLOCK_MONOTONIC, &t);
+    clock_gettime(CLOCK_PROCESS_CPUTIME_ID, &t);
     return (double)t.tv_sec * 1e9 + (double)t.tv_nsec;
 }
 
