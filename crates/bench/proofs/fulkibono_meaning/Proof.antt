@@ -3,7 +3,6 @@ use mathlib.Core.Path.{ap}
 use borrow.Author.Tests.{ne-eqb}
 use Rattle.bench.specs.Meanings.{meaning, doneText, malformedText, emptyText, notListedText, wrongLengthText, busyText, noEnableText, noIocText, suspensionText, noWelText, closedText, writeLockedText, nothingRunsText}
 use Rattle.bench.proofs.Texts.{put, none}
-use native.Mathlib.Omega.{arith}
 use borrow.Author.Needs.{needs}
 use Rattle.bench.proofs.fulkibono_meaning.Statement.{statement}
 use Rattle.bench.proofs.fulkibono_meaning.Tie as tie

@@ -1,6 +1,5 @@
 -- Another length is refused; else the code of the new chip is written. Assumes nothing.
 use Rattle.bench.proofs.Calls.{new-refused, new-done}
-use native.Mathlib.Omega.{arith}
 use borrow.Author.Needs.{needs}
 use Rattle.bench.proofs.fulkibono_new.Statement.{statement}
 use Rattle.bench.proofs.fulkibono_new.Tie as tie

@@ -1,7 +1,6 @@
 -- Bytes that are no code are refused; else the chip's promise holds of the record read, and what it leaves is written back. Assumes nothing.
 use borrow.Author.Tests.{not-true, not-false}
 use Rattle.bench.proofs.Calls.{code-size, cut-refused, cut-taken}
-use native.Mathlib.Omega.{arith}
 use borrow.Author.Needs.{needs}
 use Rattle.bench.proofs.fulkibono_power_cut.Statement.{statement}
 use Rattle.bench.proofs.fulkibono_power_cut.Tie as tie

@@ -3,7 +3,6 @@ use mathlib.Core.Path.{ap, _∙_}
 use lib.ListN.{getD}
 use Rattle.record_code.specs.Layout.{workOf, chipIn}
 use Rattle.record_code.proofs.Parts.{chip-got}
-use native.Mathlib.Omega.{arith}
 use borrow.Author.Needs.{needs}
 use Rattle.record_code.proofs.decode.Statement.{statement}
 use Rattle.record_code.proofs.decode.Tie as tie

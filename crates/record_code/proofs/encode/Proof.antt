@@ -1,6 +1,5 @@
 -- Each part is written behind those before it, so that all of them in a row are the record's code. Assumes nothing.
 use Rattle.record_code.proofs.Parts.{code-put}
-use native.Mathlib.Omega.{arith}
 use borrow.Author.Needs.{needs}
 use Rattle.record_code.proofs.encode.Statement.{statement}
 use Rattle.record_code.proofs.encode.Tie as tie

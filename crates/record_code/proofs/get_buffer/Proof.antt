@@ -1,5 +1,5 @@
 -- The loop copies one byte a turn: the first i bytes of both are the same. Assumes nothing.
-use Prim.Native.Nat.{ℕ, _≤_, _-_, _+_}
+use Prim.Native.Nat.{ℕ, _≤_, _-_}
 use mathlib.Core.Path.{_≡_, refl, sym, ap, _∙_}
 use lib.ListN.{length, take, getD, length-set}
 use lib.Seq.{take-all}

@@ -1,7 +1,6 @@
 -- The eight bytes joined are the number of the eight bytes from there on. Assumes nothing.
 use mathlib.Core.Path.{sym, _∙_}
 use Rattle.record_code.proofs.Parts.{word-is}
-use native.Mathlib.Omega.{arith}
 use borrow.Author.Needs.{needs}
 use Rattle.record_code.proofs.get_word.Statement.{statement}
 use Rattle.record_code.proofs.get_word.Tie as tie

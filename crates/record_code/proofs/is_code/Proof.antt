@@ -1,7 +1,6 @@
 -- Another length is no code; else the two works and the seven flags are tested as the layout says. Assumes nothing.
 use borrow.Author.Tests.{eq-eqb, ne-eqb}
 use Rattle.record_code.specs.Layout.{isCode}
-use native.Mathlib.Omega.{arith}
 use borrow.Author.Needs.{needs}
 use Rattle.record_code.proofs.is_code.Statement.{statement}
 use Rattle.record_code.proofs.is_code.Tie as tie

@@ -1,7 +1,6 @@
 -- Each work's number is the layout's, of a configuration by its two flags. Assumes nothing.
 use mathlib.Core.Path.{sym, ap, _∙_}
 use Rattle.record_code.specs.Layout.{numberOf}
-use native.Mathlib.Omega.{arith}
 use borrow.Author.Needs.{needs}
 use Rattle.record_code.proofs.number_of.Statement.{statement}
 use Rattle.record_code.proofs.number_of.Tie as tie

@@ -1,6 +1,5 @@
 -- The kind and then the number are the work's code. Assumes nothing.
 use Rattle.record_code.proofs.Parts.{work-put}
-use native.Mathlib.Omega.{arith}
 use borrow.Author.Needs.{needs}
 use Rattle.record_code.proofs.put_work.Statement.{statement}
 use Rattle.record_code.proofs.put_work.Tie as tie

@@ -1,8 +1,6 @@
 -- Each test that led to a return picks the layout's condition. Assumes nothing.
 use borrow.Author.Tests.{eq-eqb, ne-eqb}
 use Rattle.record_code.specs.Layout.{workRight}
-use borrow.Author.Needs.{needs}
-use native.Mathlib.Omega.{arith}
 use Rattle.record_code.proofs.work_right.Statement.{statement}
 use Rattle.record_code.proofs.work_right.Tie as tie
 
