@@ -1,6 +1,6 @@
 -- The calls in a row: the bytes read, the chip's promise, the record written back, the number. Assumes nothing.
 use Prim.Native.Nat.{ℕ}
-use mathlib.Core.Path.{_≡_, refl, sym, ap, _∙_}
+use mathlib.Core.Path.{_≡_, sym, ap, _∙_}
 use mathlib.Core.Bool.{Bool, true, false}
 use mathlib.Core.List.{List, []}
 use lib.Dec.{eqb}
@@ -8,14 +8,14 @@ use lib.ListN.{length}
 use borrow.Author.Tests.{eqb-true, eq-eqb, ne-eqb}
 use Rattle.rules.specs.declared.After.{After}
 use Rattle.rules.specs.declared.Chip.{Chip}
-use Rattle.rules.specs.Words.{pick, Lent, lent}
+use Rattle.rules.specs.Words.{pick, lent}
 use Rattle.rules.specs.Commands.{newChip}
 use Rattle.rules.specs.Numbers.{answerNumber}
-use Rattle.rules.specs.Machine.{Outcome, frame, completion, powerCut}
+use Rattle.rules.specs.Machine.{frame, completion, powerCut}
 use Rattle.rules.specs.Promises.{state, carried, came, FramePromise, CompletionPromise, CutPromise}
 use Rattle.rules.proofs.Bools.{and-split}
-use Rattle.record_code.specs.Layout.{recordSize, code, isCode, chipIn, decode}
-use Rattle.bench.specs.Boundary.{Seen, seen, coded, refused, newBytes, frameBytes, completionBytes, cutBytes}
+use Rattle.record_code.specs.Layout.{recordSize, code, isCode, chipIn}
+use Rattle.bench.specs.Boundary.{seen, coded, refused, newBytes, frameBytes, completionBytes, cutBytes}
 
 -- a code has a record's size
 pub code-size : (l : List ℕ) (b : Bool) → b ≡ isCode l → b ≡ true → length l ≡ recordSize

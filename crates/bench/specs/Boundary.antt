@@ -1,16 +1,14 @@
 -- What the exported functions give back and leave: the number, the record's bytes and all other lent bytes, in terms of the machine and the record's code.
 use Prim.Native.Nat.{ℕ}
 use mathlib.Core.Path.{_≡_}
-use mathlib.Core.Bool.{Bool, true, false}
 use mathlib.Core.List.{List, []}
 use lib.Dec.{eqb}
 use lib.ListN.{length}
-use Rattle.rules.specs.declared.Chip.{Chip}
 use Rattle.rules.specs.Words.{pick, Lent, lent}
 use Rattle.rules.specs.Commands.{newChip}
 use Rattle.rules.specs.Machine.{Outcome, frame, completion, powerCut}
 use Rattle.rules.specs.Promises.{state, carried}
-use Rattle.record_code.specs.Layout.{recordSize, code, Decoded, decode}
+use Rattle.record_code.specs.Layout.{recordSize, code, decode}
 
 -- the whole of what a call gives back and leaves
 pub record Seen : Type 0 where

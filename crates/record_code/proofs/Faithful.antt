@@ -1,8 +1,8 @@
 -- The code is faithful: a record read back from its code is the record, and bytes that are a code are the code of what is read from them.
 -- Typed and Small say what the Rattle types hold a record and a slice of bytes to, so both hold of every value. Assumes nothing.
-use Prim.Native.Nat.{ℕ, zero, suc, _+_, _*_, _/_, _%_, _^_, _≤_, _<_}
+use Prim.Native.Nat.{ℕ, zero, suc, _+_, _*_, _/_, _%_, _≤_, _<_}
 use mathlib.Core.Path.{_≡_, refl, sym, ap, _∙_}
-use mathlib.Core.Bool.{Bool, true, false, _&&_, true≢false, false≢true}
+use mathlib.Core.Bool.{Bool, true, false, _&&_, false≢true}
 use mathlib.Core.List.{List, [], _∷_, _++_}
 use native.Mathlib.Omega.{arith}
 use lib.Dec.{eqb, ltb}
@@ -10,10 +10,9 @@ use lib.ListN.{length, getD, take}
 use lib.Seq.{take-all}
 use borrow.Author.Tests.{eq-eqb, eqb-true, ltb-true, ne-eqb, le-ltb}
 use Rattle.rules.specs.declared.Chip.{Chip}
-use Rattle.rules.specs.declared.Work.{Work}
-use Rattle.rules.specs.Words.{num, pick}
-use Rattle.rules.proofs.Bools.{and-split, and-both}
-use Rattle.record_code.specs.Layout.{recordSize, bytes, part, word, kindOf, numberOf, workCode, flags, code, workRight, workOf, workIn, isCode, chipIn, Decoded, decode, Typed}
+use Rattle.rules.specs.Words.{num}
+use Rattle.rules.proofs.Bools.{and-split}
+use Rattle.record_code.specs.Layout.{recordSize, bytes, part, word, kindOf, numberOf, workCode, flags, code, workRight, workOf, isCode, chipIn, decode, Typed}
 use Rattle.record_code.proofs.Parts.{part-cons}
 use Rattle.record_code.proofs.Laws.{bytes-length, number-bytes, bytes-number, part-length, part-at, part-more, in-buffer, in-protection, in-permanent, in-running, in-suspended, work-back, work-is-right, work-length, kind-in, number-in, flag-back, flag-right, flagged, flags-length, code-length, flag-in}
 

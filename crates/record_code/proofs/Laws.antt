@@ -1,20 +1,18 @@
 -- Numbers and their bytes, parts of lists, and the places of the parts of a code. Assumes nothing.
 use Prim.Native.Nat.{ℕ, zero, suc, _+_, _*_, _/_, _%_, _^_, _≤_, _<_}
 use mathlib.Core.Path.{_≡_, refl, sym, ap, _∙_}
-use mathlib.Core.Bool.{Bool, true, false, _&&_, true≢false, false≢true}
+use mathlib.Core.Bool.{Bool, true, false}
 use mathlib.Core.List.{List, [], _∷_, _++_}
 use native.Mathlib.Omega.{arith}
 use native.Mathlib.Nat.{div-lt-iff-lt-mul, pow-suc}
 use lib.Dec.{eqb, ltb}
 use lib.ListN.{length, getD, take, drop, length-append, take-append-drop, length-drop}
-use lib.Seq.{take-append-le, drop-append-le, take-at, drop-at, getD-drop, getD-take, take-all, drop-drop, length-take-le, take-append-add}
-use borrow.Author.Tests.{eq-eqb, eqb-true, ltb-true, lt-ltb}
+use lib.Seq.{take-append-le, drop-append-le, drop-at, getD-drop, getD-take, take-all, length-take-le, take-append-add}
 use Rattle.rules.specs.declared.Chip.{Chip}
 use Rattle.rules.specs.declared.Work.{Work}
 use Rattle.rules.specs.declared.Work.the-variants.{Nothing, EraseSector, EraseBlock, EraseArray, ProgramPage, ProgramSecurity, LockSecurity, WriteConfiguration, AddPermanent}
-use Rattle.rules.specs.Words.{num, pick}
-use Rattle.rules.proofs.Bools.{and-split, and-both}
-use Rattle.record_code.specs.Layout.{recordSize, bytes, number, part, word, kindOf, numberOf, workCode, flags, code, workRight, workOf, workIn, isCode, chipIn, Decoded, decode, Typed}
+use Rattle.rules.specs.Words.{num}
+use Rattle.record_code.specs.Layout.{recordSize, bytes, number, part, word, kindOf, numberOf, workCode, flags, code, workRight, workOf, Typed}
 use Rattle.record_code.proofs.Parts.{part-cons}
 
 -- ---- numbers and their bytes

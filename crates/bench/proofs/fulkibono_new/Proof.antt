@@ -1,30 +1,21 @@
+-- Another length is refused; else the code of the new chip is written. Assumes nothing.
 use Rattle.bench.proofs.Calls.{new-refused, new-done}
-use native.Mathlib.Omega.{arith}
 use borrow.Author.Needs.{needs}
 use Rattle.bench.proofs.fulkibono_new.Statement.{statement}
 use Rattle.bench.proofs.fulkibono_new.Tie as tie
-use Rattle.bench.proofs.fulkibono_new.Reads as reads
-use Rattle.bench.proofs.fulkibono_new.Lts as lts
-use Rattle.chip.proofs.new.Reads as new-reads
-use Rattle.record_code.proofs.encode.Reads as encode-reads
 
--- src/lib.rt:48:9
 returns : tie.Need-returns
 returns c = record { outcome = new-refused (c .before .before .args .bytes .now) (c .if1 .taken) }
 
--- src/lib.rt:50:9
 new-requires : tie.Need-new-requires
 new-requires c κs = search needs
 
--- src/lib.rt:51:5
 encode-requires : tie.Need-encode-requires
 encode-requires c κs = search needs
 
--- src/lib.rt:43:1
 same-length : tie.Need-same-length
 same-length c = search needs
 
--- src/lib.rt:43:1
 returns-2 : tie.Need-returns-2
 returns-2 c = record { outcome = new-done (c .before .before .before .before .before .before .before .args .bytes .now) _ _ (c .before .before .before .before .before .if1 .left) (c .before .before .before .before .new .ensures) (c .before .before .encode .ensures) }
 

@@ -1,4 +1,5 @@
-use Prim.Native.Nat.{ℕ, _≤_, _<_, _-_, _+_}
+-- The first i lent bytes are the text's, the others as they were, until either ends. Assumes nothing.
+use Prim.Native.Nat.{ℕ, _≤_, _<_, _-_}
 use mathlib.Core.Path.{_≡_, refl, sym, ap, _∙_}
 use mathlib.Core.List.{List, _++_}
 use mathlib.Core.Bool.{Bool, false, _&&_}
@@ -11,8 +12,6 @@ use borrow.Author.Needs.{needs}
 use native.Mathlib.Omega.{arith}
 use Rattle.bench.proofs.put_text.Statement.{statement}
 use Rattle.bench.proofs.put_text.Tie as tie
-use Rattle.bench.proofs.put_text.Reads as reads
-use Rattle.bench.proofs.put_text.Lts as lts
 
 abbrev Inv-loop : tie.InvT-loop
 Inv-loop lent₀ text i₀ lent i = record { low : i ≤ length text; fits : i ≤ length lent; size : length lent ≡ length lent₀; is : lent ≡ take i text ++ drop i lent₀ }
@@ -20,28 +19,22 @@ Inv-loop lent₀ text i₀ lent i = record { low : i ≤ length text; fits : i �
 abbrev μ-loop : tie.MeasureT-loop
 μ-loop lent₀ text i₀ lent i = length text - i
 
--- src/lib.rt:126:5
 loop-holds : tie.Need-loop-holds Inv-loop μ-loop
 loop-holds c = record { low = omega arith; fits = omega arith; size = refl; is = refl }
 
--- src/lib.rt:127:19
 shared-slice-read-lent : tie.Need-shared-slice-read-lent Inv-loop μ-loop
 shared-slice-read-lent c = ltb-true _ _ (and-split _ _ (c .before .loop-test .taken) .0)
 
--- src/lib.rt:127:9
 slice-write-lent : tie.Need-slice-write-lent Inv-loop μ-loop
 slice-write-lent c = let l = c .before .before .loop in
     ltb-true (l .i) (length (l .lent)) (and-split (ltb (l .i) (length (c .before .before .before .args .text .now))) (ltb (l .i) (length (l .lent))) (c .before .loop-test .taken) .1)
 
--- src/lib.rt:128:9
 add-i : tie.Need-add-i Inv-loop μ-loop
 add-i c = search needs
 
--- src/lib.rt:126:5
 loop-less : tie.Need-loop-less Inv-loop μ-loop
 loop-less c = let h = ltb-true (c .before .before .loop .i) (length (c .before .before .before .args .text .now)) (and-split _ _ (c .before .loop-test .taken) .0) in omega arith
 
--- src/lib.rt:126:5
 loop-again : tie.Need-loop-again Inv-loop μ-loop
 loop-again c = let l = c .before .before .loop in
     let a = c .before .before .before .args in
@@ -57,11 +50,9 @@ loop-again c = let l = c .before .before .loop in
       is = ap (λ (xs : List ℕ). set xs (l .i) (getD (a .text .now) (l .i) 0)) (l .inv .is) ∙ over-next (a .text .now) (a .lent .now) (l .i) p (omega arith);
     }
 
--- src/lib.rt:122:1
 same-length : tie.Need-same-length Inv-loop μ-loop
 same-length c = c .before .loop .inv .size
 
--- src/lib.rt:122:1
 returns : tie.Need-returns Inv-loop μ-loop
 returns c = let l = c .before .loop in
     let a = c .before .before .args in

@@ -1,82 +1,60 @@
+-- Each field is what its reader ensures, and the record of them is the one that the layout reads. Assumes nothing.
 use mathlib.Core.Path.{ap, _∙_}
 use lib.ListN.{getD}
 use Rattle.record_code.specs.Layout.{workOf, chipIn}
 use Rattle.record_code.proofs.Parts.{chip-got}
-use native.Mathlib.Omega.{arith}
 use borrow.Author.Needs.{needs}
 use Rattle.record_code.proofs.decode.Statement.{statement}
 use Rattle.record_code.proofs.decode.Tie as tie
-use Rattle.record_code.proofs.decode.Reads as reads
-use Rattle.record_code.proofs.decode.Lts as lts
-use Rattle.record_code.proofs.get_buffer.Reads as get-buffer-reads
-use Rattle.record_code.proofs.get_word.Reads as get-word-reads
-use Rattle.record_code.proofs.work_of.Reads as work-of-reads
 
--- src/lib.rt:246:9
 get-word-requires : tie.Need-get-word-requires
 get-word-requires c κs = search needs
 
--- src/lib.rt:247:9
 get-word-requires-2 : tie.Need-get-word-requires-2
 get-word-requires-2 c κs = search needs
 
--- src/lib.rt:248:27
 shared-slice-read-work-of : tie.Need-shared-slice-read-work-of
 shared-slice-read-work-of c = search needs
 
--- src/lib.rt:248:39
 get-word-requires-3 : tie.Need-get-word-requires-3
 get-word-requires-3 c κs = search needs
 
--- src/lib.rt:248:9
 work-of-requires : tie.Need-work-of-requires
 work-of-requires c κs = search needs
 
--- src/lib.rt:249:29
 shared-slice-read-work-of-2 : tie.Need-shared-slice-read-work-of-2
 shared-slice-read-work-of-2 c = search needs
 
--- src/lib.rt:249:41
 get-word-requires-4 : tie.Need-get-word-requires-4
 get-word-requires-4 c κs = search needs
 
--- src/lib.rt:249:9
 work-of-requires-2 : tie.Need-work-of-requires-2
 work-of-requires-2 c κs = search needs
 
--- src/lib.rt:250:15
 shared-slice-read-sqi : tie.Need-shared-slice-read-sqi
 shared-slice-read-sqi c = search needs
 
--- src/lib.rt:251:15
 shared-slice-read-wel : tie.Need-shared-slice-read-wel
 shared-slice-read-wel c = search needs
 
--- src/lib.rt:252:15
 shared-slice-read-ioc : tie.Need-shared-slice-read-ioc
 shared-slice-read-ioc c = search needs
 
--- src/lib.rt:253:16
 shared-slice-read-wpen : tie.Need-shared-slice-read-wpen
 shared-slice-read-wpen c = search needs
 
--- src/lib.rt:254:16
 shared-slice-read-wpld : tie.Need-shared-slice-read-wpld
 shared-slice-read-wpld c = search needs
 
--- src/lib.rt:255:15
 shared-slice-read-sec : tie.Need-shared-slice-read-sec
 shared-slice-read-sec c = search needs
 
--- src/lib.rt:256:18
 shared-slice-read-enable : tie.Need-shared-slice-read-enable
 shared-slice-read-enable c = search needs
 
--- src/lib.rt:257:9
 get-buffer-requires : tie.Need-get-buffer-requires
 get-buffer-requires c κs = search needs
 
--- src/lib.rt:242:1
 returns : tie.Need-returns
 unfolding chipIn
 returns c = let l = c .before .before .before .before .before .before .before .before .before .before .before .before .before .before .before .before .before .args .coded .now in

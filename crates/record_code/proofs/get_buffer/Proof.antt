@@ -1,4 +1,5 @@
-use Prim.Native.Nat.{ℕ, _≤_, _-_, _+_}
+-- The loop copies one byte a turn: the first i bytes of both are the same. Assumes nothing.
+use Prim.Native.Nat.{ℕ, _≤_, _-_}
 use mathlib.Core.Path.{_≡_, refl, sym, ap, _∙_}
 use lib.ListN.{length, take, getD, length-set}
 use lib.Seq.{take-all}
@@ -7,8 +8,6 @@ use borrow.Author.Needs.{needs}
 use native.Mathlib.Omega.{arith}
 use Rattle.record_code.proofs.get_buffer.Statement.{statement}
 use Rattle.record_code.proofs.get_buffer.Tie as tie
-use Rattle.record_code.proofs.get_buffer.Reads as reads
-use Rattle.record_code.proofs.get_buffer.Lts as lts
 
 abbrev Inv-loop : tie.InvT-loop
 Inv-loop coded buffer₀ i₀ buffer i = record { low : i ≤ 256; size : length buffer ≡ 256; whole : length coded ≡ 297; is : take i buffer ≡ take i coded }
@@ -16,27 +15,21 @@ Inv-loop coded buffer₀ i₀ buffer i = record { low : i ≤ 256; size : length
 abbrev μ-loop : tie.MeasureT-loop
 μ-loop coded buffer₀ i₀ buffer i = 256 - i
 
--- src/lib.rt:158:5
 loop-holds : tie.Need-loop-holds Inv-loop μ-loop
 loop-holds c = record { low = omega arith; size = refl; whole = c .pre; is = refl }
 
--- src/lib.rt:159:21
 shared-slice-read-buffer : tie.Need-shared-slice-read-buffer Inv-loop μ-loop
 shared-slice-read-buffer c = search needs
 
--- src/lib.rt:159:9
 array-write-buffer : tie.Need-array-write-buffer Inv-loop μ-loop
 array-write-buffer c = search needs
 
--- src/lib.rt:160:9
 add-i : tie.Need-add-i Inv-loop μ-loop
 add-i c = search needs
 
--- src/lib.rt:158:5
 loop-less : tie.Need-loop-less Inv-loop μ-loop
 loop-less c = search needs
 
--- src/lib.rt:158:5
 loop-again : tie.Need-loop-again Inv-loop μ-loop
 loop-again c = let l = c .before .before .loop in
     let a = c .before .before .before .args in
@@ -49,7 +42,6 @@ loop-again c = let l = c .before .before .loop in
       is = copy-next (l .buffer) (a .coded .now) (l .i) (omega arith) (omega arith) (l .inv .is);
     }
 
--- src/lib.rt:152:1
 returns : tie.Need-returns Inv-loop μ-loop
 returns c = let l = c .before .loop in
     let a = c .before .before .args in

@@ -1,86 +1,64 @@
+-- Each work's number is the layout's, of a configuration by its two flags. Assumes nothing.
 use mathlib.Core.Path.{sym, ap, _∙_}
 use Rattle.record_code.specs.Layout.{numberOf}
-use native.Mathlib.Omega.{arith}
 use borrow.Author.Needs.{needs}
 use Rattle.record_code.proofs.number_of.Statement.{statement}
 use Rattle.record_code.proofs.number_of.Tie as tie
-use Rattle.record_code.proofs.number_of.Reads as reads
-use Rattle.record_code.proofs.number_of.Lts as lts
-use Rattle.record_code.proofs.pair_of.Reads as pair-of-reads
 
--- src/lib.rt:71:26
 enum-told : tie.Need-enum-told
 enum-told c = search needs
 
--- src/lib.rt:72:27
 enum-known-w : tie.Need-enum-known-w
 enum-known-w c = search needs
 
--- src/lib.rt:73:26
 enum-known-w-2 : tie.Need-enum-known-w-2
 enum-known-w-2 c = search needs
 
--- src/lib.rt:74:29
 enum-told-2 : tie.Need-enum-told-2
 enum-told-2 c = search needs
 
--- src/lib.rt:75:27
 enum-known-w-3 : tie.Need-enum-known-w-3
 enum-known-w-3 c = search needs
 
--- src/lib.rt:76:31
 enum-known-w-4 : tie.Need-enum-known-w-4
 enum-known-w-4 c = search needs
 
--- src/lib.rt:77:31
 enum-told-3 : tie.Need-enum-told-3
 enum-told-3 c = search needs
 
--- src/lib.rt:78:34
 enum-known-w-5 : tie.Need-enum-known-w-5
 enum-known-w-5 c = search needs
 
--- src/lib.rt:78:48
 pair-of-requires : tie.Need-pair-of-requires
 pair-of-requires c κs = search needs
 
--- src/lib.rt:79:28
 enum-known-w-6 : tie.Need-enum-known-w-6
 enum-known-w-6 c = search needs
 
--- src/lib.rt:67:1
 returns : tie.Need-returns
 returns c = search needs
 
--- src/lib.rt:67:1
 returns-2 : tie.Need-returns-2
 returns-2 c = search needs
 
--- src/lib.rt:67:1
 returns-3 : tie.Need-returns-3
 returns-3 c = search needs
 
--- src/lib.rt:67:1
 returns-4 : tie.Need-returns-4
 returns-4 c = search needs
 
--- src/lib.rt:67:1
 returns-5 : tie.Need-returns-5
 returns-5 c = search needs
 
--- src/lib.rt:67:1
 returns-6 : tie.Need-returns-6
 returns-6 c = search needs
 
--- src/lib.rt:67:1
 returns-7 : tie.Need-returns-7
 returns-7 c = search needs
 
--- src/lib.rt:67:1
 returns-8 : tie.Need-returns-8
 returns-8 c = c .pair-of .ensures ∙ ap numberOf (sym (c .before .before .w5 .given .1))
 
--- src/lib.rt:67:1
 returns-9 : tie.Need-returns-9
 returns-9 c = search needs
 

@@ -1,4 +1,5 @@
-use Prim.Native.Nat.{ℕ, _≤_, _-_, _+_}
+-- The loop copies one byte a turn: the first i bytes of both are the same. Assumes nothing.
+use Prim.Native.Nat.{ℕ, _≤_, _-_}
 use mathlib.Core.Path.{_≡_, refl, sym, ap, _∙_}
 use lib.ListN.{length, take, getD, length-set}
 use lib.Seq.{take-all}
@@ -7,8 +8,6 @@ use borrow.Author.Needs.{needs}
 use native.Mathlib.Omega.{arith}
 use Rattle.record_code.proofs.put_buffer.Statement.{statement}
 use Rattle.record_code.proofs.put_buffer.Tie as tie
-use Rattle.record_code.proofs.put_buffer.Reads as reads
-use Rattle.record_code.proofs.put_buffer.Lts as lts
 
 abbrev Inv-loop : tie.InvT-loop
 Inv-loop coded₀ buffer i₀ coded i = record { low : i ≤ 256; size : length coded ≡ length coded₀; fits : length coded₀ ≡ 297; whole : length buffer ≡ 256; is : take i coded ≡ take i buffer }
@@ -16,30 +15,24 @@ Inv-loop coded₀ buffer i₀ coded i = record { low : i ≤ 256; size : length 
 abbrev μ-loop : tie.MeasureT-loop
 μ-loop coded₀ buffer i₀ coded i = 256 - i
 
--- src/lib.rt:39:5
 loop-holds : tie.Need-loop-holds Inv-loop μ-loop
 loop-holds c = record { low = omega arith; size = refl; fits = c .pre .0; whole = c .pre .1; is = refl }
 
--- src/lib.rt:40:20
 element-copy-out-coded : tie.Need-element-copy-out-coded Inv-loop μ-loop
 element-copy-out-coded c = search needs
 
--- src/lib.rt:40:9
 slice-write-coded : tie.Need-slice-write-coded Inv-loop μ-loop
 slice-write-coded c = let l = c .before .before .loop in
     let q = l .inv .size in
     let f = l .inv .fits in
     omega arith
 
--- src/lib.rt:41:9
 add-i : tie.Need-add-i Inv-loop μ-loop
 add-i c = search needs
 
--- src/lib.rt:39:5
 loop-less : tie.Need-loop-less Inv-loop μ-loop
 loop-less c = search needs
 
--- src/lib.rt:39:5
 loop-again : tie.Need-loop-again Inv-loop μ-loop
 loop-again c = let l = c .before .before .loop in
     let a = c .before .before .before .args in
@@ -54,11 +47,9 @@ loop-again c = let l = c .before .before .loop in
       is = copy-next (l .coded) (a .buffer .now) (l .i) (omega arith) (omega arith) (l .inv .is);
     }
 
--- src/lib.rt:34:1
 same-length : tie.Need-same-length Inv-loop μ-loop
 same-length c = c .before .loop .inv .size
 
--- src/lib.rt:34:1
 returns : tie.Need-returns Inv-loop μ-loop
 returns c = let l = c .before .loop in
     let a = c .before .before .args in

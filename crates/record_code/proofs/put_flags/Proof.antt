@@ -1,73 +1,56 @@
+-- Seven stores in a row add the seven flags, and with them the record is whole. Assumes nothing.
 use lib.ListN.{length-set}
 use native.Mathlib.Omega.{arith}
 use Rattle.record_code.proofs.Parts.{flags-put}
 use borrow.Author.Needs.{needs}
 use Rattle.record_code.proofs.put_flags.Statement.{statement}
 use Rattle.record_code.proofs.put_flags.Tie as tie
-use Rattle.record_code.proofs.put_flags.Reads as reads
-use Rattle.record_code.proofs.put_flags.Lts as lts
 
--- src/lib.rt:95:18
 cast-coded : tie.Need-cast-coded
 cast-coded c = search needs
 
--- src/lib.rt:95:5
 slice-write-coded : tie.Need-slice-write-coded
 slice-write-coded c = search needs
 
--- src/lib.rt:96:18
 cast-coded-2 : tie.Need-cast-coded-2
 cast-coded-2 c = search needs
 
--- src/lib.rt:96:5
 slice-write-coded-2 : tie.Need-slice-write-coded-2
 slice-write-coded-2 c = search needs
 
--- src/lib.rt:97:18
 cast-coded-3 : tie.Need-cast-coded-3
 cast-coded-3 c = search needs
 
--- src/lib.rt:97:5
 slice-write-coded-3 : tie.Need-slice-write-coded-3
 slice-write-coded-3 c = search needs
 
--- src/lib.rt:98:18
 cast-coded-4 : tie.Need-cast-coded-4
 cast-coded-4 c = search needs
 
--- src/lib.rt:98:5
 slice-write-coded-4 : tie.Need-slice-write-coded-4
 slice-write-coded-4 c = search needs
 
--- src/lib.rt:99:18
 cast-coded-5 : tie.Need-cast-coded-5
 cast-coded-5 c = search needs
 
--- src/lib.rt:99:5
 slice-write-coded-5 : tie.Need-slice-write-coded-5
 slice-write-coded-5 c = let q = c .pre in simp length-set (omega arith)
 
--- src/lib.rt:100:18
 cast-coded-6 : tie.Need-cast-coded-6
 cast-coded-6 c = search needs
 
--- src/lib.rt:100:5
 slice-write-coded-6 : tie.Need-slice-write-coded-6
 slice-write-coded-6 c = let q = c .pre in simp length-set (omega arith)
 
--- src/lib.rt:101:18
 cast-coded-7 : tie.Need-cast-coded-7
 cast-coded-7 c = search needs
 
--- src/lib.rt:101:5
 slice-write-coded-7 : tie.Need-slice-write-coded-7
 slice-write-coded-7 c = let q = c .pre in simp length-set (omega arith)
 
--- src/lib.rt:91:1
 same-length : tie.Need-same-length
 same-length c = search needs
 
--- src/lib.rt:91:1
 returns : tie.Need-returns
 returns c = flags-put (c .args .sqi) (c .args .wel) (c .args .ioc) (c .args .wpen) (c .args .wpld) (c .args .sec) (c .args .enable) (c .args .coded .now) (c .pre)
 

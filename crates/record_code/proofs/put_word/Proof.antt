@@ -1,3 +1,4 @@
+-- What is written so far, and the bytes of what is left of the number, are the bytes before and the whole number. Assumes nothing.
 use Prim.Native.Nat.{ℕ, _≤_, _-_, _+_, _%_}
 use mathlib.Core.Path.{_≡_, refl, sym, ap, _∙_}
 use mathlib.Core.List.{_++_, append-nil}
@@ -8,8 +9,6 @@ use borrow.Author.Needs.{needs}
 use native.Mathlib.Omega.{arith}
 use Rattle.record_code.proofs.put_word.Statement.{statement}
 use Rattle.record_code.proofs.put_word.Tie as tie
-use Rattle.record_code.proofs.put_word.Reads as reads
-use Rattle.record_code.proofs.put_word.Lts as lts
 
 abbrev Inv-loop : tie.InvT-loop
 Inv-loop coded₀ at x rest₀ i₀ coded rest i = record { low : i ≤ 8; fits : at + 8 ≤ length coded; size : length coded ≡ length coded₀; is : take (at + i) coded ++ bytes (8 - i) rest ≡ take at coded₀ ++ bytes 8 x }
@@ -17,32 +16,25 @@ Inv-loop coded₀ at x rest₀ i₀ coded rest i = record { low : i ≤ 8; fits 
 abbrev μ-loop : tie.MeasureT-loop
 μ-loop coded₀ at x rest₀ i₀ coded rest i = 8 - i
 
--- src/lib.rt:27:5
 loop-holds : tie.Need-loop-holds Inv-loop μ-loop
 loop-holds c = let e : c .args .at + 0 ≡ c .args .at = omega arith in
     record { low = omega arith; fits = c .pre; size = refl; is = ap (λ (n : ℕ). take n (c .args .coded .now) ++ bytes 8 (c .args .x)) e }
 
--- src/lib.rt:28:25
 cast-coded : tie.Need-cast-coded Inv-loop μ-loop
 cast-coded c = search needs
 
--- src/lib.rt:28:15
 add-coded : tie.Need-add-coded Inv-loop μ-loop
 add-coded c = let f = c .before .loop .inv .fits in omega arith
 
--- src/lib.rt:28:9
 slice-write-coded : tie.Need-slice-write-coded Inv-loop μ-loop
 slice-write-coded c = let f = c .before .loop .inv .fits in omega arith
 
--- src/lib.rt:30:9
 add-i : tie.Need-add-i Inv-loop μ-loop
 add-i c = search needs
 
--- src/lib.rt:27:5
 loop-less : tie.Need-loop-less Inv-loop μ-loop
 loop-less c = search needs
 
--- src/lib.rt:27:5
 loop-again : tie.Need-loop-again Inv-loop μ-loop
 loop-again c = let l = c .before .loop in
     let a = c .before .before .args in
@@ -55,11 +47,9 @@ loop-again c = let l = c .before .loop in
       is = put-next (l .coded) (a .at) (l .i) (l .rest) (omega arith) (omega arith) ∙ l .inv .is;
     }
 
--- src/lib.rt:21:1
 same-length : tie.Need-same-length Inv-loop μ-loop
 same-length c = c .before .loop .inv .size
 
--- src/lib.rt:21:1
 returns : tie.Need-returns Inv-loop μ-loop
 unfolding bytes
 returns c = let l = c .before .loop in
