@@ -96,36 +96,42 @@ size_t fulkibono_meaning(uint8_t number, uint8_t *text, size_t text_len);
  *
  * These pass a pointer to a byte of their own where a length is 0, so NULL with length 0 is always right. */
 
+#if defined(__GNUC__)
+#define FULKIBONO_INLINE static inline __attribute__((unused))
+#else
+#define FULKIBONO_INLINE static inline
+#endif
+
 typedef struct fulkibono_record {
     uint8_t bytes[FULKIBONO_RECORD];
 } fulkibono_record;
 
-static inline void fulkibono_make(fulkibono_record *chip)
+FULKIBONO_INLINE void fulkibono_make(fulkibono_record *chip)
 {
     (void)fulkibono_new(chip->bytes, FULKIBONO_RECORD);
 }
 
 /* `array` has FULKIBONO_ARRAY bytes and `security` FULKIBONO_SECURITY; `reply` and `marks` have reply_len each. */
-static inline uint8_t fulkibono_send(fulkibono_record *chip, uint8_t *array, uint8_t *security, const uint8_t *sent, size_t sent_len,
-                                     uint8_t *reply, uint8_t *marks, size_t reply_len)
+FULKIBONO_INLINE uint8_t fulkibono_send(fulkibono_record *chip, uint8_t *array, uint8_t *security, const uint8_t *sent, size_t sent_len,
+                                        uint8_t *reply, uint8_t *marks, size_t reply_len)
 {
     uint8_t none[3] = { 0, 0, 0 };
     return fulkibono_frame(chip->bytes, FULKIBONO_RECORD, array, FULKIBONO_ARRAY, security, FULKIBONO_SECURITY,
                            sent_len ? sent : none, sent_len, reply_len ? reply : none + 1, reply_len, reply_len ? marks : none + 2, reply_len);
 }
 
-static inline uint8_t fulkibono_complete(fulkibono_record *chip, uint8_t *array, uint8_t *security)
+FULKIBONO_INLINE uint8_t fulkibono_complete(fulkibono_record *chip, uint8_t *array, uint8_t *security)
 {
     return fulkibono_completion(chip->bytes, FULKIBONO_RECORD, array, FULKIBONO_ARRAY, security, FULKIBONO_SECURITY);
 }
 
-static inline uint8_t fulkibono_cut(fulkibono_record *chip, uint8_t *array, uint8_t *security, uint64_t k)
+FULKIBONO_INLINE uint8_t fulkibono_cut(fulkibono_record *chip, uint8_t *array, uint8_t *security, uint64_t k)
 {
     return fulkibono_power_cut(chip->bytes, FULKIBONO_RECORD, array, FULKIBONO_ARRAY, security, FULKIBONO_SECURITY, k);
 }
 
 /* The text with a zero behind it, in room for FULKIBONO_MEANING_MOST + 1 bytes. */
-static inline const char *fulkibono_text(uint8_t number, char *room)
+FULKIBONO_INLINE const char *fulkibono_text(uint8_t number, char *room)
 {
     size_t n = fulkibono_meaning(number, (uint8_t *)room, FULKIBONO_MEANING_MOST);
     room[n < FULKIBONO_MEANING_MOST ? n : FULKIBONO_MEANING_MOST] = 0;
