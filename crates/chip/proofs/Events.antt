@@ -20,7 +20,7 @@ use Rattle.rules.specs.Frames.{formOf, opcode}
 use Rattle.rules.specs.Reading.{reply}
 use Rattle.rules.specs.Fields.{withEnable}
 use Rattle.rules.specs.Commands.{act, settled, rested, afterCut}
-use Rattle.rules.specs.WellFormed.{wellFormed}
+use Rattle.rules.specs.WellFormed.{registersRight, worksRight, wellFormed}
 use Rattle.rules.specs.Numbers.{refusalNumber, answerNumber, State, Frame, stateRight, frameRight, malformed, first, commandTests, frameTests}
 use Rattle.rules.specs.Machine.{Outcome, frame, completion, powerCut}
 use Rattle.rules.specs.Promises.{state, carried, came}
@@ -36,6 +36,13 @@ outcome-ext : {o q : Outcome} → o .number ≡ q .number → o .chip ≡ q .chi
 outcome-ext n c a s r m = λ i. record { number = n i; chip = c i; array = a i; security = s i; reply = r i; marks = m i }
 
 -- ---- what right lengths say
+
+-- the test of a record by its fields is the test of the record
+pub by-fields : (c : Chip) (array security : List ℕ) (x : Bool)
+    → x ≡ (registersRight (c .protection) (c .permanent) && worksRight (c .protection) (c .sec) (c .buffer) (c .running) (c .suspended) && eqb (length array) arraySize && eqb (length security) securitySize)
+    → x ≡ stateRight (state c array security)
+unfolding wellFormed
+by-fields c array security x e = e
 
 pub state-parts : (c : Chip) (array security : List ℕ) → stateRight (state c array security) ≡ true → (wellFormed c ≡ true) × (length array ≡ arraySize) × (length security ≡ securitySize)
 state-parts c array security e =

@@ -5,6 +5,7 @@ use rules::Chip;
 use rules::Kind;
 use rules::Refusal;
 use rules::Source;
+use rules::Work;
 ghost use mathlib.Core.Path.{_≡_};
 ghost use mathlib.Core.Bool.{true, _&&_};
 ghost use Prim.Native.Nat.{_≤_};
@@ -14,7 +15,7 @@ ghost use Rattle.rules.specs.Words.{lent, pick};
 ghost use Rattle.rules.specs.Blocks.{arraySize, securitySize};
 ghost use Rattle.rules.specs.Reading.{silent, shown};
 ghost use Rattle.rules.specs.Commands.{newChip};
-ghost use Rattle.rules.specs.WellFormed.{wellFormed};
+ghost use Rattle.rules.specs.WellFormed.{registersRight, worksRight};
 ghost use Rattle.rules.specs.Promises.{FramePromise, CompletionPromise, CutPromise};
 ghost use Rattle.chip.specs.Showing.{showing, cellOf, Replied, Showable, Respondable, Commandable, TurnedAway};
 
@@ -120,11 +121,22 @@ fn respond(
     }
 }
 
-// The record is well-formed and the two memories have their sizes.
-fn state_right(c: Chip, array_len: usize, security_len: usize) -> bool
-    ensures { λ r. ⌜ r ≡ (wellFormed c && eqb «array_len» arraySize && eqb «security_len» securitySize) ⌝ }
+// The record with these fields is well-formed and the two memories have their sizes.
+fn state_right(
+    p: u64,
+    q: u64,
+    sec: bool,
+    buffer: &[u8; 256],
+    run: Work,
+    aside: Work,
+    array_len: usize,
+    security_len: usize,
+) -> bool
+    ensures { λ r. ⌜ r ≡ (registersRight p q && worksRight p sec (now (buffer .entry)) run aside && eqb «array_len» arraySize && eqb «security_len» securitySize) ⌝ }
 {
-    records::well_formed(c) & (array_len == 2097152) & (security_len == 2048)
+    records::well_formed(p, q, sec, buffer, run, aside)
+        & (array_len == 2097152)
+        & (security_len == 2048)
 }
 
 fn frame_right(sent_len: usize, reply_len: usize, marks_len: usize) -> bool
@@ -212,7 +224,18 @@ pub fn frame(
 ) -> After
     ensures { λ r. ⌜ FramePromise c (now (array .entry)) (now (security .entry)) (now (sent .entry)) (now (reply .entry)) (now (marks .entry)) r (now (array .exit)) (now (security .exit)) (now (reply .exit)) (now (marks .exit)) ⌝ }
 {
-    let known = state_right(c, array.len(), security.len());
+    let run = c.running;
+    let aside = c.suspended;
+    let known = state_right(
+        c.protection,
+        c.permanent,
+        c.sec,
+        &c.buffer,
+        run,
+        aside,
+        array.len(),
+        security.len(),
+    );
     let fits = frame_right(sent.len(), reply.len(), marks.len());
     let right = known & fits;
     if right & (0 < sent.len()) {
@@ -225,13 +248,23 @@ pub fn frame(
 pub fn completion(c: Chip, array: &mut [u8], security: &mut [u8]) -> After
     ensures { λ r. ⌜ CompletionPromise c (now (array .entry)) (now (security .entry)) r (now (array .exit)) (now (security .exit)) ⌝ }
 {
-    if !state_right(c, array.len(), security.len()) {
+    let run = c.running;
+    let aside = c.suspended;
+    if !state_right(
+        c.protection,
+        c.permanent,
+        c.sec,
+        &c.buffer,
+        run,
+        aside,
+        array.len(),
+        security.len(),
+    ) {
         return After {
             answer: Answer::Refused(Refusal::Malformed),
             chip: c,
         };
     }
-    let run = c.running;
     if records::is_nothing(run) {
         return After {
             answer: Answer::Refused(Refusal::NothingRuns),
@@ -250,13 +283,23 @@ pub fn completion(c: Chip, array: &mut [u8], security: &mut [u8]) -> After
 pub fn power_cut(c: Chip, array: &mut [u8], security: &mut [u8], k: u64) -> After
     ensures { λ r. ⌜ CutPromise c (now (array .entry)) (now (security .entry)) k r (now (array .exit)) (now (security .exit)) ⌝ }
 {
-    if !state_right(c, array.len(), security.len()) {
+    let run = c.running;
+    let aside = c.suspended;
+    if !state_right(
+        c.protection,
+        c.permanent,
+        c.sec,
+        &c.buffer,
+        run,
+        aside,
+        array.len(),
+        security.len(),
+    ) {
         return After {
             answer: Answer::Refused(Refusal::Malformed),
             chip: c,
         };
     }
-    let run = c.running;
     let n = k as usize;
     finishing::finish_array(run, &c.buffer, n, array);
     finishing::finish_security(run, &c.buffer, n, security);

@@ -6,13 +6,12 @@ use mathlib.Core.List.{List}
 use native.Mathlib.Omega.{arith}
 use lib.Dec.{ltb}
 use borrow.Author.Tests.{ltb-true, lt-ltb}
-use Rattle.rules.specs.declared.Chip.{Chip}
 use Rattle.rules.specs.declared.Range.{Range}
 use Rattle.rules.specs.declared.Work.{Work}
 use Rattle.rules.specs.Words.{overlap}
 use Rattle.rules.specs.Blocks.{unlocked}
 use Rattle.rules.specs.Works.{arrayRange}
-use Rattle.rules.specs.WellFormed.{numbersRight, registersRight, suspendedRight, besideRight, securityRight, bufferRight, worksRight, wellFormed}
+use Rattle.rules.specs.WellFormed.{numbersRight, registersRight, suspendedRight, besideRight, securityRight, bufferRight, worksRight}
 use Rattle.rules.proofs.Bools.{and-split, and-both, same-test}
 use Rattle.rules.proofs.Blocks.{overlap-at}
 use Rattle.rules.proofs.Locks.{registers-of}
@@ -70,15 +69,12 @@ unfolding worksRight
 works-parts p sec b r s k d o u e f hr hs h =
     rw (h .is-kind, h .is-beside, h .is-running-open, h .is-suspended-open, h .is-security, h .is-clean, hr, hs)
 
-pub not-registers : (c : Chip) (x : Bool) → x ≡ registersRight (c .protection) (c .permanent) → x ≡ false → false ≡ wellFormed c
-unfolding wellFormed
-not-registers c x e t = rw (sym e ∙ t)
+pub not-registers : (x y : Bool) (p q : ℕ) → x ≡ registersRight p q → x ≡ false → false ≡ (registersRight p q && y)
+not-registers x y p q e t = rw (sym e ∙ t)
 
 -- the registers are right, and the rest decides
-pub rest-decides : (c : Chip) (x y : Bool) → x ≡ registersRight (c .protection) (c .permanent) → x ≡ true
-    → y ≡ worksRight (c .protection) (c .sec) (c .buffer) (c .running) (c .suspended) → y ≡ wellFormed c
-unfolding wellFormed
-rest-decides c x y e t f = f ∙ ap (λ (z : Bool). z && worksRight (c .protection) (c .sec) (c .buffer) (c .running) (c .suspended)) (sym t ∙ e)
+pub rest-decides : (x y z : Bool) (p q : ℕ) → x ≡ registersRight p q → x ≡ true → y ≡ z → y ≡ (registersRight p q && z)
+rest-decides x y z p q e t f = f ∙ ap (λ (w : Bool). w && z) (sym t ∙ e)
 
 pub wrong-running : (p : ℕ) (sec : Bool) (b : List ℕ) (r s : Work) (x : Bool) → x ≡ numbersRight r → x ≡ false → false ≡ worksRight p sec b r s
 unfolding worksRight

@@ -1,13 +1,12 @@
 // The test of a well-formed chip record.
-use rules::Chip;
 use rules::Range;
 use rules::Work;
 ghost use mathlib.Core.Path.{_≡_};
-ghost use mathlib.Core.Bool.{true};
+ghost use mathlib.Core.Bool.{true, _&&_};
 ghost use Prim.Native.Nat.{_+_, _^_, _≤_, _<_};
 ghost use Rattle.rules.specs.Words.{overlap};
 ghost use Rattle.rules.specs.Works.{isNothing, isErase, isProgram, canSuspend};
-ghost use Rattle.rules.specs.WellFormed.{numbersRight, registersRight, besideRight, securityRight, bufferRight, worksRight, wellFormed};
+ghost use Rattle.rules.specs.WellFormed.{numbersRight, registersRight, besideRight, securityRight, bufferRight, worksRight};
 
 pub fn is_nothing(w: Work) -> bool
     ensures { λ r. ⌜ r ≡ isNothing w ⌝ }
@@ -155,14 +154,10 @@ fn works_right(p: u64, sec: bool, buffer: &[u8; 256], r: Work, s: Work) -> bool
     kind & beside & run_open & aside_open & security & clean
 }
 
-// The record is well-formed.
-pub fn well_formed(c: Chip) -> bool
-    ensures { λ r. ⌜ r ≡ wellFormed c ⌝ }
+// The record with these fields is well-formed. They come one by one: a record passed by value would be copied at every event.
+pub fn well_formed(p: u64, q: u64, sec: bool, buffer: &[u8; 256], r: Work, s: Work) -> bool
+    ensures { λ b. ⌜ b ≡ (registersRight p q && worksRight p sec (now (buffer .entry)) r s) ⌝ }
 {
-    let p = c.protection;
-    let q = c.permanent;
-    let r = c.running;
-    let s = c.suspended;
     if !registers_right(p, q) {
         return false;
     }
@@ -172,5 +167,5 @@ pub fn well_formed(c: Chip) -> bool
     if !numbers_right(s) {
         return false;
     }
-    works_right(p, c.sec, &c.buffer, r, s)
+    works_right(p, sec, buffer, r, s)
 }

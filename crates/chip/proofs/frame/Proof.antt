@@ -3,7 +3,7 @@ use mathlib.Core.Path.{sym, _∙_}
 use lib.ListN.{length}
 use borrow.Author.Tests.{ltb-true}
 use Rattle.rules.proofs.Bools.{and-split}
-use Rattle.chip.proofs.Events.{frame-turned-away}
+use Rattle.chip.proofs.Events.{by-fields, frame-turned-away}
 use borrow.Author.Needs.{needs}
 use Rattle.chip.proofs.frame.Statement.{statement}
 use Rattle.chip.proofs.frame.Tie as tie
@@ -26,7 +26,7 @@ frame-right-requires c κs = search needs
 command-requires : tie.Need-command-requires
 command-requires c κs = let b = and-split _ _ (c .before .before .before .before .if1 .taken) in
     let r = and-split _ _ (b .0) in
-    record { right = sym (c .before .before .before .before .before .before .state-right .ensures) ∙ r .0; fits = sym (c .before .before .before .before .before .frame-right .ensures) ∙ r .1; some = ltb-true 0 (length (c .before .before .before .before .before .before .before .before .before .before .before .before .args .sent .now)) (b .1) }
+    record { right = sym (by-fields (c .before .before .before .before .before .before .before .before .before .before .before .before .before .before .args .t1) (c .before .before .before .before .before .before .before .before .before .before .before .before .before .before .args .array .now) (c .before .before .before .before .before .before .before .before .before .before .before .before .before .before .args .security .now) _ (c .before .before .before .before .before .before .state-right .ensures)) ∙ r .0; fits = sym (c .before .before .before .before .before .frame-right .ensures) ∙ r .1; some = ltb-true 0 (length (c .before .before .before .before .before .before .before .before .before .before .before .before .before .before .args .sent .now)) (b .1) }
 
 -- src/lib.rt:219:9
 same-length : tie.Need-same-length
@@ -62,7 +62,7 @@ same-length-6 c = search needs
 
 -- src/lib.rt:205:1
 returns-2 : tie.Need-returns-2
-returns-2 c = record { outcome = frame-turned-away (c .before .before .before .before .before .before .before .before .before .before .before .before .before .before .before .args .c) (c .before .before .before .before .before .before .before .before .before .before .before .before .before .before .before .args .array .now) (c .before .before .before .before .before .before .before .before .before .before .before .before .before .before .before .args .security .now) (c .before .before .before .before .before .before .before .before .before .before .before .before .before .before .before .args .sent .now) (c .before .before .before .before .before .before .before .before .before .before .before .before .before .before .before .args .reply .now) (c .before .before .before .before .before .before .before .before .before .before .before .before .before .before .before .args .marks .now) _ _ _ _ _ (c .before .before .before .before .before .before .before .before .before .state-right .ensures) (c .before .before .before .before .before .before .before .before .frame-right .ensures) (c .before .before .before .before .before .before .before .if1 .left) (c .before .before .before .before .turned-away .ensures) }
+returns-2 c = record { outcome = frame-turned-away (c .before .before .before .before .before .before .before .before .before .before .before .before .before .before .before .before .before .args .t1) (c .before .before .before .before .before .before .before .before .before .before .before .before .before .before .before .before .before .args .array .now) (c .before .before .before .before .before .before .before .before .before .before .before .before .before .before .before .before .before .args .security .now) (c .before .before .before .before .before .before .before .before .before .before .before .before .before .before .before .before .before .args .sent .now) (c .before .before .before .before .before .before .before .before .before .before .before .before .before .before .before .before .before .args .reply .now) (c .before .before .before .before .before .before .before .before .before .before .before .before .before .before .before .before .before .args .marks .now) _ _ _ _ _ (by-fields (c .before .before .before .before .before .before .before .before .before .before .before .before .before .before .before .before .before .args .t1) (c .before .before .before .before .before .before .before .before .before .before .before .before .before .before .before .before .before .args .array .now) (c .before .before .before .before .before .before .before .before .before .before .before .before .before .before .before .before .before .args .security .now) _ (c .before .before .before .before .before .before .before .before .before .state-right .ensures)) (c .before .before .before .before .before .before .before .before .frame-right .ensures) (c .before .before .before .before .before .before .before .if1 .left) (c .before .before .before .before .turned-away .ensures) }
 
 pub frame-spec : {M : Type 1} → statement M
 frame-spec =

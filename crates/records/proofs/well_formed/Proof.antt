@@ -10,36 +10,38 @@ registers-right-requires : tie.Need-registers-right-requires
 registers-right-requires c κs = search needs
 
 returns : tie.Need-returns
-returns c = not-registers (c .before .before .args .t1) _ (c .before .registers-right .ensures) (not-true _ (c .if1 .taken))
+returns c = not-registers _ _ _ _ (c .before .registers-right .ensures) (not-true _ (c .if1 .taken))
 
 numbers-right-requires : tie.Need-numbers-right-requires
 numbers-right-requires c κs = search needs
 
 returns-2 : tie.Need-returns-2
-returns-2 c = let a = c .before .before .before .before .args .t1 in
-    rest-decides a _ _ (c .before .before .before .registers-right .ensures) (not-false _ (c .before .before .if1 .left))
-    (wrong-running (a .protection) (a .sec) (a .buffer) (a .running) (a .suspended) _ (c .before .numbers-right .ensures) (not-true _ (c .if2 .taken)))
+returns-2 c =
+    let a = c .before .before .before .before .args in
+    rest-decides _ _ _ _ _ (c .before .before .before .registers-right .ensures) (not-false _ (c .before .before .if1 .left))
+    (wrong-running (a .p) (a .sec) (a .buffer .now) (a .r) (a .s) _ (c .before .numbers-right .ensures) (not-true _ (c .if2 .taken)))
 
 numbers-right-requires-2 : tie.Need-numbers-right-requires-2
 numbers-right-requires-2 c κs = search needs
 
 returns-3 : tie.Need-returns-3
-returns-3 c = let a = c .before .before .before .before .before .before .args .t1 in
-    rest-decides a _ _ (c .before .before .before .before .before .registers-right .ensures) (not-false _ (c .before .before .before .before .if1 .left))
-    (wrong-suspended (a .protection) (a .sec) (a .buffer) (a .running) (a .suspended) _ _ (c .before .before .before .numbers-right .ensures) (not-false _ (c .before .before .if2 .left)) (c .before .numbers-right2 .ensures) (not-true _ (c .if3 .taken)))
+returns-3 c =
+    let a = c .before .before .before .before .before .before .args in
+    rest-decides _ _ _ _ _ (c .before .before .before .before .before .registers-right .ensures) (not-false _ (c .before .before .before .before .if1 .left))
+    (wrong-suspended (a .p) (a .sec) (a .buffer .now) (a .r) (a .s) _ _ (c .before .before .before .numbers-right .ensures) (not-false _ (c .before .before .if2 .left)) (c .before .numbers-right2 .ensures) (not-true _ (c .if3 .taken)))
 
 works-right-requires : tie.Need-works-right-requires
 works-right-requires c κs = (
-  sym (c .before .before .before .before .before .numbers-right .ensures) ∙ not-false _ (c .before .before .before .before .if2 .left),
+  sym (c .before .before .before .numbers-right .ensures) ∙ not-false _ (c .before .before .if2 .left),
   (
-    sym (c .before .before .before .numbers-right2 .ensures) ∙ not-false _ (c .before .before .if3 .left),
-    low-register _ _ _ (c .before .before .before .before .before .before .before .registers-right .ensures) (not-false _ (c .before .before .before .before .before .before .if1 .left)),
+    sym (c .before .numbers-right2 .ensures) ∙ not-false _ (c .if3 .left),
+    low-register _ _ _ (c .before .before .before .before .before .registers-right .ensures) (not-false _ (c .before .before .before .before .if1 .left)),
   ),
 )
 
 returns-4 : tie.Need-returns-4
-returns-4 c = let a = c .before .before .before .before .before .before .before .before .before .args .t1 in
-    rest-decides a _ _ (c .before .before .before .before .before .before .before .before .registers-right .ensures) (not-false _ (c .before .before .before .before .before .before .before .if1 .left)) (c .works-right .ensures)
+returns-4 c =
+    rest-decides _ _ _ _ _ (c .before .before .before .before .before .before .registers-right .ensures) (not-false _ (c .before .before .before .before .before .if1 .left)) (c .works-right .ensures)
 
 pub well-formed-spec : {M : Type 1} → statement M
 well-formed-spec =
