@@ -7,6 +7,8 @@
 #include <time.h>
 
 #define REPEATS 3
+#define SLICES 25 /* of a row's work, in a repeat */
+#define RUNS 7    /* of the mixed events, in a repeat */
 #define LONGEST 65536
 
 static uint8_t array[FULKIBONO_ARRAY], security[FULKIBONO_SECURITY];
@@ -143,7 +145,8 @@ static void floor_frame(void)
     __asm__ volatile("" : : "r"(&other) : "memory");
 }
 
-/* ---- measuring: nanoseconds for each turn, the median of three */
+/* ---- measuring: nanoseconds for each turn, the median of three repeats. In a repeat the things compared take turns, a slice of the work
+ * each, so that a machine that slows down slows them all; a ratio is the median of the repeats' ratios. */
 
 typedef void job(void);
 
@@ -152,7 +155,7 @@ static double once(job *f, long turns)
     double t = now();
     for (long i = 0; i < turns; i++)
         f();
-    return (now() - t) / (double)turns;
+    return now() - t;
 }
 
 static double median(const double *x)
@@ -161,7 +164,7 @@ static double median(const double *x)
     return a < b ? (b < c ? b : a < c ? c : a) : (a < c ? a : b < c ? c : b);
 }
 
-struct row { const char *what; job *ours, *plain, *limit; long turns; double t[3]; };
+struct row { const char *what; job *ours, *plain, *limit; long turns; double to_plain, to_limit; };
 
 /* ---- the work */
 
@@ -228,8 +231,14 @@ static void erase_limit(void)
     memset(array + from, 0xFF, erase_len);
     __asm__ volatile("" : : "r"(array) : "memory");
 }
-/* the erase alone, for the bars: its completion against memset, the record put back before each turn */
+/* for the bars: the command and its completion, and the completion alone; the record is put back before each turn */
 static fulkibono_record ready;
+static void enabled_ours(void)
+{
+    chip = ready;
+    must(send(erase, erase_n, 0) == 0, "erase refused");
+    fulkibono_complete(&chip, array, security);
+}
 static void finish_ours(void)
 {
     chip = ready;
@@ -239,6 +248,11 @@ static void finish_limit(void)
 {
     chip = ready;
     erase_limit();
+}
+static void finish_and_status(void)
+{
+    finish_limit();
+    status_ours();
 }
 static uint64_t cut_at;
 static void cut_ours(void)
@@ -255,25 +269,28 @@ static void cut_limit(void)
 
 static void measure(struct row *r)
 {
-    double x[3][REPEATS];
+    double x[3][REPEATS] = { { 0 } }, to_plain[REPEATS], to_limit[REPEATS];
     job *jobs[3] = { r->ours, r->plain, r->limit };
+    long turns = r->turns / SLICES;
     for (int k = 0; k < 3; k++)
         if (jobs[k])
-            once(jobs[k], r->turns / 20 + 1);
-    for (int i = 0; i < REPEATS; i++)
-        for (int k = 0; k < 3; k++)
-            x[k][i] = jobs[k] ? once(jobs[k], r->turns) : 0;
-    for (int k = 0; k < 3; k++)
-        r->t[k] = median(x[k]);
-    printf("%-44s %12.1f", r->what, r->t[0]);
+            once(jobs[k], turns);
+    for (int i = 0; i < REPEATS; i++) {
+        for (int slice = 0; slice < SLICES; slice++)
+            for (int k = 0; k < 3; k++)
+                if (jobs[k])
+                    x[k][i] += once(jobs[k], turns) / (double)(turns * SLICES);
+        to_plain[i] = x[1][i] / x[0][i];
+        to_limit[i] = x[2][i] > 0 ? x[0][i] / x[2][i] : 0;
+    }
+    r->to_plain = median(to_plain);
+    r->to_limit = median(to_limit);
+    printf("%-44s %12.1f", r->what, median(x[0]));
     if (jobs[1])
-        printf(" %12.1f %8.1fx", r->t[1], r->t[1] / r->t[0]);
+        printf(" %12.1f %8.1fx", median(x[1]), r->to_plain);
     else
         printf(" %12s %9s", "-", "-");
-    if (jobs[2])
-        printf(" %12.1f %8.2fx\n", r->t[2], r->t[0] / r->t[2]);
-    else
-        printf(" %12s %9s\n", "-", "-");
+    printf(" %12.1f %8.2fx\n", median(x[2]), r->to_limit);
 }
 
 static int missed;
@@ -282,7 +299,7 @@ static void bar(const char *what, double got, int most, double line)
     int right = most ? got <= line : got >= line;
     if (!right)
         missed++;
-    printf("  %-66s %8.2f  (%s %.2f)  %s\n", what, got, most ? "at most" : "at least", line, right ? "pass" : "MISSED");
+    printf("  %-70s %8.2f  (%s %.2f)  %s\n", what, got, most ? "at most" : "at least", line, right ? "pass" : "MISSED");
 }
 
 static void fresh(void)
@@ -330,20 +347,17 @@ static void mixed(void)
 int main(void)
 {
     setvbuf(stdout, NULL, _IOLBF, 0);
-    double status, floor_, sector_whole, chip_whole, sector_finish, sector_limit, chip_finish, chip_limit, page, read_o, read_p, read_l;
+    double read_limit_ratio = 0, read_plain_ratio = 0;
     static const size_t sizes[] = { 1, 16, 256, 4096, 65536 };
     char name[64];
     for (size_t i = 0; i < sizeof frame; i++)
         frame[i] = (uint8_t)(i * 37);
-    read_o = read_p = read_l = 1;
     printf("nanoseconds a turn, medians of %d repeats\n", REPEATS);
     printf("%-44s %12s %12s %9s %12s %9s\n", "work", "library", "per-byte", "ratio", "limit", "ratio");
 
     fresh();
-    struct row r = { "status frame (limit: its floor)", status_ours, status_plain, status_limit, 2000000, { 0 } };
+    struct row r = { "status frame (limit: its floor)", status_ours, status_plain, status_limit, 2000000, 0, 0 };
     measure(&r);
-    status = r.t[0];
-    floor_ = r.t[2];
     for (int area = 0; area < 3; area++)
         for (size_t k = 0; k < 5; k++) {
             static const char *const names[] = { "unlocked", "read-locked", "suspended" };
@@ -360,70 +374,66 @@ int main(void)
             }
             wanted = sizes[k];
             snprintf(name, sizeof name, "read %zu, %s", wanted, names[area]);
-            struct row q = { name, read_ours, read_plain, read_limit, wanted > 4096 ? 4000 : wanted > 256 ? 40000 : 400000, { 0 } };
+            struct row q = { name, read_ours, read_plain, read_limit, wanted > 4096 ? 4000 : wanted > 256 ? 40000 : 400000, 0, 0 };
             measure(&q);
             if (area == 0 && wanted == 65536) {
-                read_o = q.t[0];
-                read_p = q.t[1];
-                read_l = q.t[2];
+                read_plain_ratio = q.to_plain;
+                read_limit_ratio = q.to_limit;
             }
         }
 
     fresh();
-    struct row p = { "page program: 06, 02, poll, completion", page_ours, page_plain, page_limit, 300000, { 0 } };
+    struct row p = { "page program (limit: four status frames)", page_ours, page_plain, page_limit, 300000, 0, 0 };
     measure(&p);
-    page = p.t[0];
 
     fresh();
     erase[0] = 0x20; erase[1] = 2; erase_n = 4; erase_len = 4096; from = 0x20000;
-    struct row e1 = { "sector erase: 06, 20, completion", erase_ours, erase_plain, erase_limit, 100000, { 0 } };
+    struct row e0 = { "sector erase: 06, 20, completion", erase_ours, erase_plain, erase_limit, 100000, 0, 0 };
+    measure(&e0);
+    send(s06, 1, 0);
+    ready = chip;
+    struct row e1 = { "  20, completion (limit: memset, a status)", enabled_ours, NULL, finish_and_status, 100000, 0, 0 };
     measure(&e1);
-    sector_whole = e1.t[0];
     must(send(s06, 1, 0) == 0 && send(erase, 4, 0) == 0, "sector refused");
     ready = chip;
-    struct row f1 = { "sector erase: the completion alone", finish_ours, NULL, finish_limit, 200000, { 0 } };
+    struct row f1 = { "  its completion (limit: the same)", finish_ours, NULL, finish_and_status, 200000, 0, 0 };
     measure(&f1);
-    sector_finish = f1.t[0];
-    sector_limit = f1.t[2];
 
     fresh();
     erase[0] = 0xD8; erase_len = 65536;
-    struct row e2 = { "block erase: 06, D8, completion", erase_ours, erase_plain, erase_limit, 10000, { 0 } };
+    struct row e2 = { "block erase: 06, D8, completion", erase_ours, erase_plain, erase_limit, 10000, 0, 0 };
     measure(&e2);
 
     fresh();
     erase[0] = 0xC7; erase_n = 1; erase_len = FULKIBONO_ARRAY; from = 0;
-    struct row e3 = { "chip erase: 06, C7, completion", erase_ours, erase_plain, erase_limit, 400, { 0 } };
+    struct row e3 = { "chip erase: 06, C7, completion", erase_ours, erase_plain, erase_limit, 400, 0, 0 };
     measure(&e3);
-    chip_whole = e3.t[0];
     must(send(s06, 1, 0) == 0 && send(sC7, 1, 0) == 0, "array refused");
     ready = chip;
-    struct row f3 = { "chip erase: the completion alone", finish_ours, NULL, finish_limit, 400, { 0 } };
-    measure(&f3);
-    chip_finish = f3.t[0];
-    chip_limit = f3.t[2];
     cut_at = FULKIBONO_ARRAY / 2;
-    struct row c1 = { "power cut in the middle of a chip erase", cut_ours, NULL, cut_limit, 800, { 0 } };
+    struct row c1 = { "power cut in the middle of a chip erase", cut_ours, NULL, cut_limit, 800, 0, 0 };
     measure(&c1);
 
     {
-        double first[REPEATS], last[REPEATS];
+        double first[REPEATS], last[REPEATS], growth[REPEATS];
         for (int i = 0; i < REPEATS; i++) {
-            mixed();
-            first[i] = tenth[0];
-            last[i] = tenth[9];
+            first[i] = last[i] = 0;
+            for (int run = 0; run < RUNS; run++) {
+                mixed();
+                first[i] += tenth[0] / RUNS;
+                last[i] += tenth[9] / RUNS;
+            }
+            growth[i] = last[i] / first[i];
         }
         printf("%-44s %12.1f in the first tenth, %.1f in the last\n", "1,000,000 mixed events, each", median(first), median(last));
         printf("\nbars\n");
-        bar("65,536-byte read against the limit", read_o / read_l, 1, 2);
-        bar("65,536-byte read against the per-byte model", read_p / read_o, 0, 30);
-        bar("status frame against its floor", status / floor_, 1, 3);
-        bar("sector erase's completion against memset plus a status frame", sector_finish / (sector_limit + status), 1, 2);
-        bar("the same for the whole of it: 06, 20 and completion", sector_whole / (sector_limit + status), 1, 2);
-        bar("chip erase's completion against memset", chip_finish / chip_limit, 1, 1.3);
-        bar("the same for the whole of it: 06, C7 and completion", chip_whole / chip_limit, 1, 1.3);
-        bar("page program with 06, poll and completion against four status frames", page / (4 * status), 1, 4);
-        bar("mixed events: last tenth against the first", median(last) / median(first), 1, 1.1);
+        bar("65,536-byte read against the limit", read_limit_ratio, 1, 2);
+        bar("65,536-byte read against the per-byte model", read_plain_ratio, 0, 30);
+        bar("status frame against its floor", r.to_limit, 1, 3);
+        bar("sector erase (20, completion) against memset plus a status frame", e1.to_limit, 1, 2);
+        bar("chip erase (06, C7, completion) against memset", e3.to_limit, 1, 1.3);
+        bar("page program (06, 02, poll, completion) against four status frames", p.to_limit, 1, 4);
+        bar("mixed events: last tenth against the first", median(growth), 1, 1.1);
     }
     printf("%d missed\n", missed);
     return missed ? 1 : 0;
