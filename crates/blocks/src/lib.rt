@@ -34,20 +34,20 @@ fn lock_of(a: usize) -> u32
     requires { ⌜ a < arraySize ⌝ }
     ensures { λ r. ⌜ r ≡ blockAt (blockOf a) .write ⌝ }
 {
-    let g = (a / 8192) as u32;
-    if g < 4 {
-        return 2 * g + 32;
+    let group = (a / 8192) as u32;
+    if group < 4 {
+        return 2 * group + 32;
     }
-    if g < 8 {
+    if group < 8 {
         return 30;
     }
-    if g < 248 {
-        return g / 8 - 1;
+    if group < 248 {
+        return group / 8 - 1;
     }
-    if g < 252 {
+    if group < 252 {
         return 31;
     }
-    2 * g - 464
+    2 * group - 464
 }
 
 pub fn write_locked(p: u64, a: usize) -> bool

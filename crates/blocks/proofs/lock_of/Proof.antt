@@ -5,8 +5,8 @@ use borrow.Author.Needs.{needs}
 use Rattle.blocks.proofs.lock_of.Statement.{statement}
 use Rattle.blocks.proofs.lock_of.Tie as tie
 
-cast-g : tie.Need-cast-g
-cast-g c = search needs
+cast-group : tie.Need-cast-group
+cast-group c = search needs
 
 mul-result : tie.Need-mul-result
 mul-result c = search needs
@@ -48,4 +48,4 @@ returns-5 c =
 
 pub lock-of-spec : {M : Type 1} → statement M
 lock-of-spec =
-    tie.close (tie.spec cast-g mul-result add-result returns returns-2 sub-result returns-3 returns-4 mul-result-2 sub-result-2 returns-5)
+    tie.close (tie.spec cast-group mul-result add-result returns returns-2 sub-result returns-3 returns-4 mul-result-2 sub-result-2 returns-5)
