@@ -6,7 +6,8 @@ fn main() {
     let mut word = io::buffer();
     let n = os::arg(1, &mut word);
     let disguise = bytes::same(&word[..n], b"--identity-of-sst26vf016b");
-    if (1 < os::arg_count()) & !disguise {
+    let words = os::arg_count();
+    if (2 < words) | ((1 < words) & !disguise) {
         io::write_all(2, b"usage: programmer [--identity-of-sst26vf016b]\n");
         return;
     }

@@ -17,7 +17,7 @@ use Rattle.rules.specs.Words.{bit, pick, every, lent, written}
 use Rattle.rules.specs.Registers.{busy}
 use Rattle.rules.specs.Frames.{opcode}
 use Rattle.rules.specs.Numbers.{answerNumber, State}
-use Rattle.rules.specs.Machine.{Outcome, frame, completion, left}
+use Rattle.rules.specs.Machine.{frame, left}
 use Rattle.rules.specs.Promises.{state, carried, came, FramePromise, CompletionPromise}
 use Rattle.rules.proofs.Bools.{and-split}
 use Rattle.rules.proofs.Promises.{lent-written}

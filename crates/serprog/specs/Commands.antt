@@ -4,7 +4,7 @@ use mathlib.Core.Bool.{Bool, true, false, _&&_}
 use mathlib.Core.List.{List, [], _∷_}
 use lib.Dec.{eqb, leb}
 use lib.ListN.{length, getD}
-use Rattle.rules.specs.Words.{bit, num, pick, oneOf}
+use Rattle.rules.specs.Words.{bit, num, pick}
 use Rattle.serprog.specs.declared.Command.{Command}
 use Rattle.serprog.specs.declared.Command.the-variants.{Nothing, Version, Map, Name, BufferSize, Buses, Sync, SetBus, Operation, SetFrequency, SetPins, Unlisted}
 use Rattle.serprog.specs.declared.Shape.{Shape}

@@ -3,11 +3,8 @@ use Prim.Native.Nat.{_-_}
 use mathlib.Core.Path.{_≡_}
 use lib.ListN.{length}
 use borrow.Author.Needs.{needs}
-use native.Mathlib.Omega.{arith}
 use Rattle.programmer.proofs.bytes.same.Statement.{statement}
 use Rattle.programmer.proofs.bytes.same.Tie as tie
-use Rattle.programmer.proofs.bytes.same.Reads as reads
-use Rattle.programmer.proofs.bytes.same.Lts as lts
 
 abbrev Inv-loop : tie.InvT-loop
 Inv-loop a b i₀ i = length a ≡ length b

@@ -1,11 +1,7 @@
 -- What is left falls, or the input has ended. Assumes nothing.
 use borrow.Author.Needs.{needs}
-use native.Mathlib.Omega.{arith}
 use Rattle.programmer.proofs.bytes.skip.Statement.{statement}
 use Rattle.programmer.proofs.bytes.skip.Tie as tie
-use Rattle.programmer.proofs.bytes.skip.Reads as reads
-use Rattle.programmer.proofs.bytes.skip.Lts as lts
-use Rattle.programmer.proofs.bytes.skip_some.Reads as skip-some-reads
 
 abbrev Inv-loop : tie.InvT-loop
 Inv-loop n left₀ left = Unit {0}

@@ -1,14 +1,9 @@
 -- A part of 4,096 bytes is no longer than they are. Assumes nothing.
 use mathlib.Core.Path.{sym}
 use lib.Seq.{length-take-le}
-use native.Mathlib.Omega.{arith}
 use borrow.Author.Needs.{needs}
 use Rattle.programmer.proofs.bytes.skip_some.Statement.{statement}
 use Rattle.programmer.proofs.bytes.skip_some.Tie as tie
-use Rattle.programmer.proofs.bytes.skip_some.Reads as reads
-use Rattle.programmer.proofs.bytes.skip_some.Lts as lts
-use Rattle.io.proofs.read_full.Reads as read-full-reads
-use Rattle.programmer.proofs.bytes.smaller.Reads as smaller-reads
 
 smaller-requires : tie.Need-smaller-requires
 smaller-requires c κs = search needs

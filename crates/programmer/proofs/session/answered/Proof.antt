@@ -1,14 +1,9 @@
 -- An answer has at most 33 bytes. Assumes nothing.
 use mathlib.Core.Path.{sym}
 use lib.Seq.{length-take-le}
-use native.Mathlib.Omega.{arith}
 use borrow.Author.Needs.{needs}
 use Rattle.programmer.proofs.session.answered.Statement.{statement}
 use Rattle.programmer.proofs.session.answered.Tie as tie
-use Rattle.programmer.proofs.session.answered.Reads as reads
-use Rattle.programmer.proofs.session.answered.Lts as lts
-use Rattle.io.proofs.write_all.Reads as write-all-reads
-use Rattle.programmer.proofs.session.next_of.Reads as next-of-reads
 
 array-share-prefix-bytes : tie.Need-array-share-prefix-bytes
 array-share-prefix-bytes c = search needs

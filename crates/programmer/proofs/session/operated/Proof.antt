@@ -5,12 +5,6 @@ use native.Mathlib.Omega.{arith}
 use borrow.Author.Needs.{needs}
 use Rattle.programmer.proofs.session.operated.Statement.{statement}
 use Rattle.programmer.proofs.session.operated.Tie as tie
-use Rattle.programmer.proofs.session.operated.Reads as reads
-use Rattle.programmer.proofs.session.operated.Lts as lts
-use Rattle.programmer.proofs.session.next_of.Reads as next-of-reads
-use Rattle.programmer.proofs.session.received.Reads as received-reads
-use Rattle.programmer.proofs.session.replied.Reads as replied-reads
-use Rattle.programmer.proofs.session.told.Reads as told-reads
 
 received-requires : tie.Need-received-requires
 received-requires c κs = search needs

@@ -1,21 +1,13 @@
 -- Lengths that fit the sizes fit the arrays. Assumes nothing.
 use Rattle.rules.proofs.Bools.{and-split}
-use mathlib.Core.Path.{_∙_}
+use mathlib.Core.Path.{_∙_, sym}
 use Prim.Native.Nat.{_≤_}
 use lib.Dec.{leb}
 use borrow.Author.Tests.{leb-true}
-use mathlib.Core.Path.{sym}
-use lib.Seq.{length-take-le}
 use native.Mathlib.Omega.{arith}
 use borrow.Author.Needs.{needs}
 use Rattle.programmer.proofs.session.operation.Statement.{statement}
 use Rattle.programmer.proofs.session.operation.Tie as tie
-use Rattle.programmer.proofs.session.operation.Reads as reads
-use Rattle.programmer.proofs.session.operation.Lts as lts
-use Rattle.programmer.proofs.session.operated.Reads as operated-reads
-use Rattle.programmer.proofs.session.refused.Reads as refused-reads
-use Rattle.serprog.proofs.length_of.Reads as length-of-reads
-use Rattle.serprog.proofs.lengths_fit.Reads as lengths-fit-reads
 
 element-copy-out-length-of : tie.Need-element-copy-out-length-of
 element-copy-out-length-of c = search needs

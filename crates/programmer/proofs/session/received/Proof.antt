@@ -1,13 +1,9 @@
 -- A part of the slice. Assumes nothing.
 use mathlib.Core.Path.{sym}
 use lib.Seq.{length-take-le}
-use native.Mathlib.Omega.{arith}
 use borrow.Author.Needs.{needs}
 use Rattle.programmer.proofs.session.received.Statement.{statement}
 use Rattle.programmer.proofs.session.received.Tie as tie
-use Rattle.programmer.proofs.session.received.Reads as reads
-use Rattle.programmer.proofs.session.received.Lts as lts
-use Rattle.io.proofs.read_full.Reads as read-full-reads
 
 slice-relend-prefix-read-full : tie.Need-slice-relend-prefix-read-full
 slice-relend-prefix-read-full c = search needs

@@ -1,13 +1,9 @@
 -- Parts of the slices. Assumes nothing.
 use mathlib.Core.Path.{sym}
 use lib.Seq.{length-take-le}
-use native.Mathlib.Omega.{arith}
 use borrow.Author.Needs.{needs}
 use Rattle.programmer.proofs.session.replied.Statement.{statement}
 use Rattle.programmer.proofs.session.replied.Tie as tie
-use Rattle.programmer.proofs.session.replied.Reads as reads
-use Rattle.programmer.proofs.session.replied.Lts as lts
-use Rattle.serprog.proofs.operate.Reads as operate-reads
 
 add-end : tie.Need-add-end
 add-end c = search needs

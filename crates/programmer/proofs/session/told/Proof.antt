@@ -6,9 +6,6 @@ use native.Mathlib.Omega.{arith}
 use borrow.Author.Needs.{needs}
 use Rattle.programmer.proofs.session.told.Statement.{statement}
 use Rattle.programmer.proofs.session.told.Tie as tie
-use Rattle.programmer.proofs.session.told.Reads as reads
-use Rattle.programmer.proofs.session.told.Lts as lts
-use Rattle.io.proofs.write_all.Reads as write-all-reads
 
 slice-write-answer : tie.Need-slice-write-answer
 slice-write-answer c = search needs

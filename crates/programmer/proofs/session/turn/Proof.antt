@@ -2,18 +2,9 @@
 use Rattle.serprog.proofs.Laws.{parameters-few, answer-fits}
 use mathlib.Core.Path.{sym}
 use lib.Seq.{length-take-le}
-use native.Mathlib.Omega.{arith}
 use borrow.Author.Needs.{needs}
 use Rattle.programmer.proofs.session.turn.Statement.{statement}
 use Rattle.programmer.proofs.session.turn.Tie as tie
-use Rattle.programmer.proofs.session.turn.Reads as reads
-use Rattle.programmer.proofs.session.turn.Lts as lts
-use Rattle.io.proofs.read_full.Reads as read-full-reads
-use Rattle.programmer.proofs.session.answered.Reads as answered-reads
-use Rattle.programmer.proofs.session.next_of.Reads as next-of-reads
-use Rattle.programmer.proofs.session.operation.Reads as operation-reads
-use Rattle.serprog.proofs.answer_to.Reads as answer-to-reads
-use Rattle.serprog.proofs.shape_of.Reads as shape-of-reads
 
 slice-aggregate-read-full : tie.Need-slice-aggregate-read-full
 slice-aggregate-read-full c = search needs

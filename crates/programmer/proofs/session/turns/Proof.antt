@@ -1,12 +1,7 @@
 -- The turns that are left fall. Assumes nothing.
 use borrow.Author.Needs.{needs}
-use native.Mathlib.Omega.{arith}
 use Rattle.programmer.proofs.session.turns.Statement.{statement}
 use Rattle.programmer.proofs.session.turns.Tie as tie
-use Rattle.programmer.proofs.session.turns.Reads as reads
-use Rattle.programmer.proofs.session.turns.Lts as lts
-use Rattle.programmer.proofs.session.next_of.Reads as next-of-reads
-use Rattle.programmer.proofs.session.turn.Reads as turn-reads
 
 abbrev Inv-loop : tie.InvT-loop
 Inv-loop array₀ security₀ sent₀ answer₀ marks₀ s₀ left₀ array security sent answer marks s left = Unit {0}

@@ -3,20 +3,9 @@ use mathlib.Core.Path.{sym, ap, _∙_}
 use Rattle.rules.specs.Words.{bit}
 use Rattle.serprog.specs.declared.Command.{Command}
 use Rattle.serprog.specs.Commands.{answerOf, answerBytes}
-use native.Mathlib.Omega.{arith}
 use borrow.Author.Needs.{needs}
 use Rattle.serprog.proofs.commands.answer_to.Statement.{statement}
 use Rattle.serprog.proofs.commands.answer_to.Tie as tie
-use Rattle.serprog.proofs.commands.answer_to.Reads as reads
-use Rattle.serprog.proofs.commands.answer_to.Lts as lts
-use Rattle.serprog.proofs.commands.frequency.Reads as frequency-reads
-use Rattle.serprog.proofs.commands.map.Reads as map-reads
-use Rattle.serprog.proofs.commands.name.Reads as name-reads
-use Rattle.serprog.proofs.commands.one.Reads as one-reads
-use Rattle.serprog.proofs.commands.operation.Reads as operation-reads
-use Rattle.serprog.proofs.commands.right_or_not.Reads as right-or-not-reads
-use Rattle.serprog.proofs.commands.three.Reads as three-reads
-use Rattle.serprog.proofs.commands.two.Reads as two-reads
 
 enum-told : tie.Need-enum-told
 enum-told c = search needs

@@ -4,14 +4,9 @@ use mathlib.Core.Bool.{Bool}
 use mathlib.Core.List.{[], _∷_}
 use Rattle.rules.specs.Words.{pick}
 use Rattle.serprog.specs.Commands.{ack, nak, answerOf}
-use native.Mathlib.Omega.{arith}
 use borrow.Author.Needs.{needs}
 use Rattle.serprog.proofs.commands.frequency.Statement.{statement}
 use Rattle.serprog.proofs.commands.frequency.Tie as tie
-use Rattle.serprog.proofs.commands.frequency.Reads as reads
-use Rattle.serprog.proofs.commands.frequency.Lts as lts
-use Rattle.serprog.proofs.commands.frequency_set.Reads as frequency-set-reads
-use Rattle.serprog.proofs.commands.one.Reads as one-reads
 
 one-requires : tie.Need-one-requires
 one-requires c κs = search needs

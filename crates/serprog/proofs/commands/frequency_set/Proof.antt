@@ -1,12 +1,9 @@
 -- The bytes are stored over 33 zeros. Assumes nothing.
 use mathlib.Core.Path.{refl}
 use Rattle.serprog.specs.Commands.{answerOf, padded}
-use native.Mathlib.Omega.{arith}
 use borrow.Author.Needs.{needs}
 use Rattle.serprog.proofs.commands.frequency_set.Statement.{statement}
 use Rattle.serprog.proofs.commands.frequency_set.Tie as tie
-use Rattle.serprog.proofs.commands.frequency_set.Reads as reads
-use Rattle.serprog.proofs.commands.frequency_set.Lts as lts
 
 array-write-bytes : tie.Need-array-write-bytes
 array-write-bytes c = search needs

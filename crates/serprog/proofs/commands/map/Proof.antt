@@ -1,12 +1,9 @@
 -- The two bytes of the map that are not 0 are those that the table gives. Assumes nothing.
 use mathlib.Core.Path.{refl}
 use Rattle.serprog.specs.Commands.{answerOf, padded, mapBytes, mapFrom, mapByte, hasRow, rows}
-use native.Mathlib.Omega.{arith}
 use borrow.Author.Needs.{needs}
 use Rattle.serprog.proofs.commands.map.Statement.{statement}
 use Rattle.serprog.proofs.commands.map.Tie as tie
-use Rattle.serprog.proofs.commands.map.Reads as reads
-use Rattle.serprog.proofs.commands.map.Lts as lts
 
 array-write-bytes : tie.Need-array-write-bytes
 array-write-bytes c = search needs

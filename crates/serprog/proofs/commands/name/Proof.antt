@@ -1,12 +1,9 @@
 -- The name is stored over 33 zeros. Assumes nothing.
 use mathlib.Core.Path.{refl}
 use Rattle.serprog.specs.Commands.{answerOf, padded, nameBytes}
-use native.Mathlib.Omega.{arith}
 use borrow.Author.Needs.{needs}
 use Rattle.serprog.proofs.commands.name.Statement.{statement}
 use Rattle.serprog.proofs.commands.name.Tie as tie
-use Rattle.serprog.proofs.commands.name.Reads as reads
-use Rattle.serprog.proofs.commands.name.Lts as lts
 
 array-write-bytes : tie.Need-array-write-bytes
 array-write-bytes c = search needs

@@ -2,15 +2,9 @@
 use mathlib.Core.Path.{ap, _∙_}
 use mathlib.Core.Bool.{Bool}
 use Rattle.serprog.specs.Commands.{fits, rightOrNot, answerOf}
-use native.Mathlib.Omega.{arith}
 use borrow.Author.Needs.{needs}
 use Rattle.serprog.proofs.commands.operation.Statement.{statement}
 use Rattle.serprog.proofs.commands.operation.Tie as tie
-use Rattle.serprog.proofs.commands.operation.Reads as reads
-use Rattle.serprog.proofs.commands.operation.Lts as lts
-use Rattle.serprog.proofs.commands.length_of.Reads as length-of-reads
-use Rattle.serprog.proofs.commands.lengths_fit.Reads as lengths-fit-reads
-use Rattle.serprog.proofs.commands.right_or_not.Reads as right-or-not-reads
 
 element-copy-out-length-of : tie.Need-element-copy-out-length-of
 element-copy-out-length-of c = search needs

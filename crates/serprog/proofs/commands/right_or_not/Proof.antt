@@ -2,13 +2,9 @@
 use mathlib.Core.Path.{sym, ap, _∙_}
 use mathlib.Core.Bool.{Bool}
 use Rattle.serprog.specs.Commands.{rightOrNot, answerOf}
-use native.Mathlib.Omega.{arith}
 use borrow.Author.Needs.{needs}
 use Rattle.serprog.proofs.commands.right_or_not.Statement.{statement}
 use Rattle.serprog.proofs.commands.right_or_not.Tie as tie
-use Rattle.serprog.proofs.commands.right_or_not.Reads as reads
-use Rattle.serprog.proofs.commands.right_or_not.Lts as lts
-use Rattle.serprog.proofs.commands.one.Reads as one-reads
 
 one-requires : tie.Need-one-requires
 one-requires c κs = search needs

@@ -3,14 +3,9 @@ use mathlib.Core.Path.{refl, sym, ap, _∙_}
 use mathlib.Core.List.{[], _∷_}
 use Rattle.serprog.specs.Commands.{rows, find, shapeOf}
 use Rattle.serprog.proofs.Arms.{no-row}
-use native.Mathlib.Omega.{arith}
 use borrow.Author.Needs.{needs}
 use Rattle.serprog.proofs.commands.shape_of.Statement.{statement}
 use Rattle.serprog.proofs.commands.shape_of.Tie as tie
-use Rattle.serprog.proofs.commands.shape_of.Reads as reads
-use Rattle.serprog.proofs.commands.shape_of.Lts as lts
-use Rattle.serprog.proofs.commands.and_more.Reads as and-more-reads
-use Rattle.serprog.proofs.commands.plain.Reads as plain-reads
 
 plain-requires : tie.Need-plain-requires
 plain-requires c κs = search needs

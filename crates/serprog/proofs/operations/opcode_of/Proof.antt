@@ -1,12 +1,9 @@
 -- Past the end of a list comes 0. Assumes nothing.
 use mathlib.Core.Path.{sym}
 use lib.ListN.{List·getD-eq-default}
-use native.Mathlib.Omega.{arith}
 use borrow.Author.Needs.{needs}
 use Rattle.serprog.proofs.operations.opcode_of.Statement.{statement}
 use Rattle.serprog.proofs.operations.opcode_of.Tie as tie
-use Rattle.serprog.proofs.operations.opcode_of.Reads as reads
-use Rattle.serprog.proofs.operations.opcode_of.Lts as lts
 
 shared-slice-read-result : tie.Need-shared-slice-read-result
 shared-slice-read-result c = search needs

@@ -1,19 +1,8 @@
 -- The calls in a row are the operation. Assumes nothing.
 use Rattle.serprog.proofs.Laws.{operates}
-use native.Mathlib.Omega.{arith}
 use borrow.Author.Needs.{needs}
 use Rattle.serprog.proofs.operations.operate.Statement.{statement}
 use Rattle.serprog.proofs.operations.operate.Tie as tie
-use Rattle.serprog.proofs.operations.operate.Reads as reads
-use Rattle.serprog.proofs.operations.operate.Lts as lts
-use Rattle.chip.proofs.frame.Reads as frame-reads
-use Rattle.serprog.proofs.operations.due.Reads as due-reads
-use Rattle.serprog.proofs.operations.is_busy.Reads as is-busy-reads
-use Rattle.serprog.proofs.operations.is_done.Reads as is-done-reads
-use Rattle.serprog.proofs.operations.opcode_of.Reads as opcode-of-reads
-use Rattle.serprog.proofs.operations.reads_after.Reads as reads-after-reads
-use Rattle.serprog.proofs.operations.settled.Reads as settled-reads
-use Rattle.serprog.proofs.showing.show.Reads as show-reads
 
 opcode-of-requires : tie.Need-opcode-of-requires
 opcode-of-requires c κs = search needs

@@ -1,11 +1,8 @@
 -- Each way is what its tests say. Assumes nothing.
 use borrow.Author.Tests.{eq-eqb, ne-eqb}
-use native.Mathlib.Omega.{arith}
 use borrow.Author.Needs.{needs}
 use Rattle.serprog.proofs.operations.reads_after.Statement.{statement}
 use Rattle.serprog.proofs.operations.reads_after.Tie as tie
-use Rattle.serprog.proofs.operations.reads_after.Reads as reads
-use Rattle.serprog.proofs.operations.reads_after.Lts as lts
 
 returns : tie.Need-returns
 returns c = rw (c .before .if1 .taken, eq-eqb _ _ (c .if2 .taken))

@@ -1,12 +1,8 @@
 -- The chip's completion, or nothing. Assumes nothing.
 use Rattle.serprog.proofs.Laws.{settles, stays}
-use native.Mathlib.Omega.{arith}
 use borrow.Author.Needs.{needs}
 use Rattle.serprog.proofs.operations.settled.Statement.{statement}
 use Rattle.serprog.proofs.operations.settled.Tie as tie
-use Rattle.serprog.proofs.operations.settled.Reads as reads
-use Rattle.serprog.proofs.operations.settled.Lts as lts
-use Rattle.chip.proofs.completion.Reads as completion-reads
 
 completion-requires : tie.Need-completion-requires
 completion-requires c κs = search needs

@@ -1,13 +1,8 @@
 -- The sibling's device bytes, or nothing. Assumes nothing.
 use Rattle.serprog.proofs.Laws.{shown-sibling, shown-same}
-use native.Mathlib.Omega.{arith}
 use borrow.Author.Needs.{needs}
 use Rattle.serprog.proofs.showing.show.Statement.{statement}
 use Rattle.serprog.proofs.showing.show.Tie as tie
-use Rattle.serprog.proofs.showing.show.Reads as reads
-use Rattle.serprog.proofs.showing.show.Lts as lts
-use Rattle.serprog.proofs.showing.is_disguised.Reads as is-disguised-reads
-use Rattle.serprog.proofs.showing.to_sibling.Reads as to-sibling-reads
 
 is-disguised-requires : tie.Need-is-disguised-requires
 is-disguised-requires c κs = search needs

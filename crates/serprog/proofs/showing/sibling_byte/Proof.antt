@@ -1,11 +1,7 @@
 -- Each way is what its test says. Assumes nothing.
 use borrow.Author.Tests.{eq-eqb, ne-eqb}
-use borrow.Author.Needs.{needs}
-use native.Mathlib.Omega.{arith}
 use Rattle.serprog.proofs.showing.sibling_byte.Statement.{statement}
 use Rattle.serprog.proofs.showing.sibling_byte.Tie as tie
-use Rattle.serprog.proofs.showing.sibling_byte.Reads as reads
-use Rattle.serprog.proofs.showing.sibling_byte.Lts as lts
 
 returns : tie.Need-returns
 returns c = rw (eq-eqb _ _ (c .if1 .taken))

@@ -1,6 +1,6 @@
 -- One byte a turn; a byte that the loop has not reached is still the old one. Assumes nothing.
-use Prim.Native.Nat.{ℕ, _≤_, _-_}
-use mathlib.Core.Path.{_≡_, ap, _∙_}
+use Prim.Native.Nat.{_≤_, _-_}
+use mathlib.Core.Path.{ap, _∙_}
 use lib.ListN.{length, getD}
 use Rattle.serprog.specs.Showing.{sibling}
 use Rattle.serprog.proofs.Laws.{Upto, upto-none, upto-more, upto-all}
@@ -8,9 +8,6 @@ use borrow.Author.Needs.{needs}
 use native.Mathlib.Omega.{arith}
 use Rattle.serprog.proofs.showing.to_sibling.Statement.{statement}
 use Rattle.serprog.proofs.showing.to_sibling.Tie as tie
-use Rattle.serprog.proofs.showing.to_sibling.Reads as reads
-use Rattle.serprog.proofs.showing.to_sibling.Lts as lts
-use Rattle.serprog.proofs.showing.sibling_byte.Reads as sibling-byte-reads
 
 abbrev Inv-loop : tie.InvT-loop
 Inv-loop reply₀ i₀ reply i = record { low : i ≤ length reply₀; is : Upto reply reply₀ i (λ k. sibling k (getD reply₀ k 0)) }
