@@ -42,7 +42,7 @@ fn received(sent: &mut [u8], n: usize) -> bool
     io::read_full(0, &mut sent[..n]) == n
 }
 
-// The chip's reply of n bytes goes after the place of the answer's first byte.
+// The answer to an operation that receives n bytes.
 fn replied(
     b: Bench,
     array: &mut [u8; 2097152],
@@ -55,29 +55,19 @@ fn replied(
     requires { ⌜ (n < length (now answer)) × (n ≤ length (now marks)) ⌝ }
 {
     let end = n + 1;
-    serprog::operate(
+    serprog::answer_operation(
         b,
         array,
         security,
         sent,
-        &mut answer[1..end],
+        &mut answer[..end],
         &mut marks[..n],
     )
 }
 
-// Writes the answer's first byte and n bytes after it in one go, since a socket may hold a second write back.
-fn told(answer: &mut [u8], first: u8, n: usize) -> bool
-    requires { ⌜ n < length (now answer) ⌝ }
-{
-    answer[0] = first;
-    let end = n + 1;
-    io::write_all(1, &answer[..end])
-}
-
-// An operation whose lengths fit.
+// An operation whose lengths fit. The answer goes out in one write, since a socket may hold a second one back.
 fn operated(
     b: Bench,
-    first: u8,
     send: usize,
     receive: usize,
     array: &mut [u8; 2097152],
@@ -92,7 +82,8 @@ fn operated(
         return next_of(false, b);
     }
     let next = replied(b, array, security, &sent[..send], answer, marks, receive);
-    next_of(told(answer, first, receive), next)
+    let end = receive + 1;
+    next_of(io::write_all(1, &answer[..end]), next)
 }
 
 fn operation(
@@ -110,18 +101,7 @@ fn operation(
     let send = serprog::length_of(p[0], p[1], p[2]);
     let receive = serprog::length_of(p[3], p[4], p[5]);
     if serprog::lengths_fit(send, receive) {
-        let bytes = a.bytes;
-        operated(
-            b,
-            bytes[0],
-            send,
-            receive,
-            array,
-            security,
-            sent,
-            answer,
-            marks,
-        )
+        operated(b, send, receive, array, security, sent, answer, marks)
     } else {
         refused(b, a, send)
     }

@@ -14,7 +14,7 @@ use Rattle.serprog.specs.declared.Command.{Command}
 use Rattle.serprog.specs.declared.Shape.{Shape}
 use Rattle.serprog.specs.Commands.{shapeOf, length24, fits, answerBytes, answerOf}
 use Rattle.serprog.specs.Showing.{shownByte}
-use Rattle.serprog.specs.Operations.{dueBefore, readsAfter, Operated, OperationPromise}
+use Rattle.serprog.specs.Operations.{dueBefore, readsAfter, Operated, leaves, OperationPromise, AnswerPromise}
 
 pub shape-of-one : (o : ℕ) (r r′ : Shape) → r ≡ shapeOf o → r′ ≡ shapeOf o → r ≡ r′
 shape-of-one o r r′ e e′ = one e e′
@@ -49,11 +49,8 @@ pub record Same (r r′ : Bench) (array array′ security security′ reply repl
   pub reply-same : reply ≡ reply′
   pub marks-same : marks ≡ marks′
 
-pub operate-one : (b : Bench) (array security sent reply marks : List ℕ) (r₁ r₂ : Bench) (a₁ a₂ s₁ s₂ y₁ y₂ m₁ m₂ : List ℕ)
-    → OperationPromise b array security sent reply marks r₁ a₁ s₁ y₁ m₁ → OperationPromise b array security sent reply marks r₂ a₂ s₂ y₂ m₂
-    → Same r₁ r₂ a₁ a₂ s₁ s₂ y₁ y₂ m₁ m₂
-operate-one b array security sent reply marks r₁ r₂ a₁ a₂ s₁ s₂ y₁ y₂ m₁ m₂ p q =
-    let e = p .outcome ∙ sym (q .outcome) in
+same-by : (r₁ r₂ : Bench) (a₁ a₂ s₁ s₂ y₁ y₂ m₁ m₂ : List ℕ) → leaves r₁ a₁ s₁ y₁ m₁ ≡ leaves r₂ a₂ s₂ y₂ m₂ → Same r₁ r₂ a₁ a₂ s₁ s₂ y₁ y₂ m₁ m₂
+same-by r₁ r₂ a₁ a₂ s₁ s₂ y₁ y₂ m₁ m₂ e =
     record {
       result = ap (λ (o : Operated). o .bench) e;
       array-same = lent-one a₁ a₂ (ap (λ (o : Operated). o .array) e);
@@ -61,3 +58,13 @@ operate-one b array security sent reply marks r₁ r₂ a₁ a₂ s₁ s₂ y₁
       reply-same = lent-one y₁ y₂ (ap (λ (o : Operated). o .reply) e);
       marks-same = lent-one m₁ m₂ (ap (λ (o : Operated). o .marks) e);
     }
+
+pub operate-one : (b : Bench) (array security sent reply marks : List ℕ) (r₁ r₂ : Bench) (a₁ a₂ s₁ s₂ y₁ y₂ m₁ m₂ : List ℕ)
+    → OperationPromise b array security sent reply marks r₁ a₁ s₁ y₁ m₁ → OperationPromise b array security sent reply marks r₂ a₂ s₂ y₂ m₂
+    → Same r₁ r₂ a₁ a₂ s₁ s₂ y₁ y₂ m₁ m₂
+operate-one b array security sent reply marks r₁ r₂ a₁ a₂ s₁ s₂ y₁ y₂ m₁ m₂ p q = same-by r₁ r₂ a₁ a₂ s₁ s₂ y₁ y₂ m₁ m₂ (p .outcome ∙ sym (q .outcome))
+
+pub answer-operation-one : (b : Bench) (array security sent answer marks : List ℕ) (r₁ r₂ : Bench) (a₁ a₂ s₁ s₂ y₁ y₂ m₁ m₂ : List ℕ)
+    → AnswerPromise b array security sent answer marks r₁ a₁ s₁ y₁ m₁ → AnswerPromise b array security sent answer marks r₂ a₂ s₂ y₂ m₂
+    → Same r₁ r₂ a₁ a₂ s₁ s₂ y₁ y₂ m₁ m₂
+answer-operation-one b array security sent answer marks r₁ r₂ a₁ a₂ s₁ s₂ y₁ y₂ m₁ m₂ p q = same-by r₁ r₂ a₁ a₂ s₁ s₂ y₁ y₂ m₁ m₂ (p .outcome ∙ sym (q .outcome))

@@ -1,8 +1,8 @@
 -- One SPI operation: the completion that is due, one frame of the machine, and what the tool is shown.
-use Prim.Native.Nat.{ℕ}
+use Prim.Native.Nat.{ℕ, zero, suc}
 use mathlib.Core.Path.{_≡_}
 use mathlib.Core.Bool.{Bool, true, false, _&&_}
-use mathlib.Core.List.{List}
+use mathlib.Core.List.{List, [], _∷_}
 use lib.Dec.{eqb}
 use Rattle.rules.specs.declared.Answer.{Answer}
 use Rattle.rules.specs.declared.Chip.{Chip}
@@ -13,6 +13,7 @@ use Rattle.rules.specs.Numbers.{State, Frame}
 use Rattle.rules.specs.Machine.{Outcome, frame, completion, left}
 use Rattle.rules.specs.Promises.{state, carried}
 use Rattle.serprog.specs.declared.Bench.{Bench}
+use Rattle.serprog.specs.Commands.{ack}
 use Rattle.serprog.specs.Showing.{shownReply}
 
 -- ---- time: "completion arrives before the second status read after a long command"
@@ -69,3 +70,24 @@ leaves r array security reply marks =
 
 pub record OperationPromise (b : Bench) (array security sent reply marks : List ℕ) (r : Bench) (array′ security′ reply′ marks′ : List ℕ) : Type 0 where
   pub outcome : leaves r array′ security′ reply′ marks′ ≡ operated b (state (b .chip) array security) (carried sent reply marks)
+
+-- ---- an operation with its answer: 06, and then the reply
+
+-- a byte, and then those of r
+abbrev pub afterByte : ℕ → Lent → ℕ → ℕ
+afterByte x r zero = x
+afterByte x r (suc i) = r .byte i
+
+abbrev pub after : ℕ → Lent → Lent
+after x r = record { size = suc (r .size); byte = afterByte x r }
+
+abbrev pub answeredBy : Operated → Operated
+answeredBy o = record { bench = o .bench; array = o .array; security = o .security; reply = after ack (o .reply); marks = o .marks }
+
+-- where the answer has room for the 06, the reply has what is left; else nothing happens
+unfoldable pub answeredOperation : Bench → List ℕ → List ℕ → List ℕ → List ℕ → List ℕ → Operated
+answeredOperation b array security sent [] marks = leaves b array security [] marks
+answeredOperation b array security sent (x ∷ reply) marks = answeredBy (operated b (state (b .chip) array security) (carried sent reply marks))
+
+pub record AnswerPromise (b : Bench) (array security sent answer marks : List ℕ) (r : Bench) (array′ security′ answer′ marks′ : List ℕ) : Type 0 where
+  pub outcome : leaves r array′ security′ answer′ marks′ ≡ answeredOperation b array security sent answer marks

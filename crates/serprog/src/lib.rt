@@ -8,6 +8,7 @@ pub use commands::answer_to;
 pub use commands::length_of;
 pub use commands::lengths_fit;
 pub use commands::shape_of;
+pub use operations::answer_operation;
 pub use operations::due;
 pub use operations::new_bench;
 pub use operations::operate;

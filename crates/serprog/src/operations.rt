@@ -8,7 +8,7 @@ ghost use Prim.Native.Nat.{ℕ};
 ghost use Rattle.rules.specs.Frames.{opcode};
 ghost use Rattle.rules.specs.Registers.{busy};
 ghost use Rattle.rules.specs.Commands.{newChip};
-ghost use Rattle.serprog.specs.Operations.{isDone, dueBefore, readsAfter, SettledPromise, OperationPromise};
+ghost use Rattle.serprog.specs.Operations.{isDone, dueBefore, readsAfter, SettledPromise, OperationPromise, AnswerPromise};
 
 pub fn new_bench(disguise: bool) -> Bench
     ensures { λ r. ⌜ r ≡ record { chip = newChip; reads = 0; disguise = disguise } ⌝ }
@@ -98,4 +98,22 @@ pub fn operate(
         reads: reads_after(is_busy(next), b.reads, op),
         disguise: b.disguise,
     }
+}
+
+// The same with its answer: 06 and the reply. An answer with no room for the 06 is left, and the chip sees no frame.
+pub fn answer_operation(
+    b: Bench,
+    array: &mut [u8],
+    security: &mut [u8],
+    sent: &[u8],
+    answer: &mut [u8],
+    marks: &mut [u8],
+) -> Bench
+    ensures { λ r. ⌜ AnswerPromise b (now (array .entry)) (now (security .entry)) (now (sent .entry)) (now (answer .entry)) (now (marks .entry)) r (now (array .exit)) (now (security .exit)) (now (answer .exit)) (now (marks .exit)) ⌝ }
+{
+    if 0 < answer.len() {
+        answer[0] = 0x06;
+        return operate(b, array, security, sent, &mut answer[1..], marks);
+    }
+    b
 }

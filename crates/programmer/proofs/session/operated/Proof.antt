@@ -1,4 +1,4 @@
--- The parts of the slices, which every call leaves as long. Assumes nothing.
+-- Parts of the slices, which every call leaves as long. Assumes nothing.
 use mathlib.Core.Path.{sym}
 use lib.Seq.{length-take-le}
 use native.Mathlib.Omega.{arith}
@@ -27,14 +27,25 @@ slice-aggregate-replied c = let h = c .before .before .before .before .before .b
 replied-requires : tie.Need-replied-requires
 replied-requires c κs = search needs
 
-told-requires : tie.Need-told-requires
-told-requires c κs = search needs
+add-end : tie.Need-add-end
+add-end c = omega (arith, c .before .before .before .before .before .before .before .before .before .before .before .before .before .before .before .before .before .before)
+
+slice-reshare-prefix-write-all : tie.Need-slice-reshare-prefix-write-all
+slice-reshare-prefix-write-all c = search needs
+
+slice-aggregate-write-all : tie.Need-slice-aggregate-write-all
+slice-aggregate-write-all c = let h = c .before .before .before .before .before .replied .kept .1 .1 .1 .1 .0 in
+    let p = c .before .before .before .before .before .before .before .before .before .before .before .before .before .before .before .before .before .before .before .pre .1 .0 in
+    sym (length-take-le _ _ (omega arith))
+
+write-all-requires : tie.Need-write-all-requires
+write-all-requires c κs = search needs
 
 next-of-requires-2 : tie.Need-next-of-requires-2
 next-of-requires-2 c κs = search needs
 
 same-length-2 : tie.Need-same-length-2
-same-length-2 c = c .before .before .before .before .before .before .before .before .before .before .before .before .before .before .before .before .before .before .received .kept .0
+same-length-2 c = search needs
 
 same-length-3 : tie.Need-same-length-3
 same-length-3 c = search needs
@@ -56,7 +67,10 @@ operated-spec =
     slice-reshare-prefix-replied
     slice-aggregate-replied
     replied-requires
-    told-requires
+    add-end
+    slice-reshare-prefix-write-all
+    slice-aggregate-write-all
+    write-all-requires
     next-of-requires-2
     same-length-2
     same-length-3

@@ -1,9 +1,9 @@
 -- Lengths that fit the sizes fit the arrays. Assumes nothing.
-use Rattle.rules.proofs.Bools.{and-split}
-use mathlib.Core.Path.{_∙_, sym}
 use Prim.Native.Nat.{_≤_}
+use mathlib.Core.Path.{sym, _∙_}
 use lib.Dec.{leb}
 use borrow.Author.Tests.{leb-true}
+use Rattle.rules.proofs.Bools.{and-split}
 use native.Mathlib.Omega.{arith}
 use borrow.Author.Needs.{needs}
 use Rattle.programmer.proofs.session.operation.Statement.{statement}
@@ -36,13 +36,10 @@ length-of-requires-2 c κs = search needs
 lengths-fit-requires : tie.Need-lengths-fit-requires
 lengths-fit-requires c κs = search needs
 
-array-read-operated : tie.Need-array-read-operated
-array-read-operated c = search needs
-
 operated-requires : tie.Need-operated-requires
-operated-requires c κs = let h = and-split (leb (c .before .before .before .before .before .before .before .before .before .before .before .before .length-of .result) 65536) (leb (c .before .before .before .before .before .before .before .before .length-of2 .result) 65536) (sym (c .before .before .before .before .before .before .before .lengths-fit .ensures) ∙ c .before .before .before .before .before .before .if1 .taken) in
-    let s : c .before .before .before .before .before .before .before .before .before .before .before .before .length-of .result ≤ 65536 = leb-true (c .before .before .before .before .before .before .before .before .before .before .before .before .length-of .result) 65536 (h .0) in
-    let r : c .before .before .before .before .before .before .before .before .length-of2 .result ≤ 65536 = leb-true (c .before .before .before .before .before .before .before .before .length-of2 .result) 65536 (h .1) in
+operated-requires c κs = let h = and-split (leb (c .before .before .before .before .before .before .before .before .before .before .before .length-of .result) 65536) (leb (c .before .before .before .before .before .before .before .length-of2 .result) 65536) (sym (c .before .before .before .before .before .before .lengths-fit .ensures) ∙ c .before .before .before .before .before .if1 .taken) in
+    let s : c .before .before .before .before .before .before .before .before .before .before .before .length-of .result ≤ 65536 = leb-true (c .before .before .before .before .before .before .before .before .before .before .before .length-of .result) 65536 (h .0) in
+    let r : c .before .before .before .before .before .before .before .length-of2 .result ≤ 65536 = leb-true (c .before .before .before .before .before .before .before .length-of2 .result) 65536 (h .1) in
     (omega arith, (omega arith, omega arith))
 
 refused-requires : tie.Need-refused-requires
@@ -67,7 +64,6 @@ operation-spec =
     element-copy-out-length-of-6
     length-of-requires-2
     lengths-fit-requires
-    array-read-operated
     operated-requires
     refused-requires
     returns

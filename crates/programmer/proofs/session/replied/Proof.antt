@@ -8,23 +8,20 @@ use Rattle.programmer.proofs.session.replied.Tie as tie
 add-end : tie.Need-add-end
 add-end c = search needs
 
-sub-operate : tie.Need-sub-operate
-sub-operate c = search needs
+slice-relend-prefix-answer-operation : tie.Need-slice-relend-prefix-answer-operation
+slice-relend-prefix-answer-operation c = search needs
 
-part-operate-start : tie.Need-part-operate-start
-part-operate-start c = search needs
+slice-aggregate-answer-operation : tie.Need-slice-aggregate-answer-operation
+slice-aggregate-answer-operation c = sym (length-take-le _ _ (search needs))
 
-part-operate-end : tie.Need-part-operate-end
-part-operate-end c = search needs
+slice-relend-prefix-answer-operation-2 : tie.Need-slice-relend-prefix-answer-operation-2
+slice-relend-prefix-answer-operation-2 c = search needs
 
-slice-relend-prefix-operate : tie.Need-slice-relend-prefix-operate
-slice-relend-prefix-operate c = search needs
+slice-aggregate-answer-operation-2 : tie.Need-slice-aggregate-answer-operation-2
+slice-aggregate-answer-operation-2 c = sym (length-take-le _ _ (search needs))
 
-slice-aggregate-operate : tie.Need-slice-aggregate-operate
-slice-aggregate-operate c = sym (length-take-le _ _ (search needs))
-
-operate-requires : tie.Need-operate-requires
-operate-requires c κs = search needs
+answer-operation-requires : tie.Need-answer-operation-requires
+answer-operation-requires c κs = search needs
 
 same-length : tie.Need-same-length
 same-length c = search needs
@@ -40,12 +37,11 @@ replied-spec =
     tie.close
     (tie.spec
     add-end
-    sub-operate
-    part-operate-start
-    part-operate-end
-    slice-relend-prefix-operate
-    slice-aggregate-operate
-    operate-requires
+    slice-relend-prefix-answer-operation
+    slice-aggregate-answer-operation
+    slice-relend-prefix-answer-operation-2
+    slice-aggregate-answer-operation-2
+    answer-operation-requires
     same-length
     same-length-2
     returns)
