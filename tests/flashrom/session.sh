@@ -35,7 +35,7 @@ trap 'exec 3>&- 4>&-; [ -z "$join" ] || kill "$join" 2>/dev/null' EXIT
 tool() {
     name=$1
     shift
-    socat -d -d -lf "$out/socat.log" TCP-LISTEN:"$port",bind=127.0.0.1,reuseaddr OPEN:"$out/from",rdonly'!!'OPEN:"$out/to",wronly 3>&- 4>&- &
+    socat -d -d -lf "$out/socat.log" TCP-LISTEN:"$port",bind=127.0.0.1,reuseaddr,accept-timeout=60 OPEN:"$out/from",rdonly'!!'OPEN:"$out/to",wronly 3>&- 4>&- &
     join=$!
     turns=0
     until grep -q 'listening on' "$out/socat.log" 2>/dev/null; do

@@ -3,12 +3,9 @@ use crate::Answer;
 use crate::Command;
 use crate::Shape;
 ghost use mathlib.Core.Path.{_≡_};
-ghost use mathlib.Core.Bool.{true, false, _&&_};
+ghost use mathlib.Core.Bool.{true, false};
 ghost use mathlib.Core.List.{[], _∷_};
-ghost use lib.Dec.{eqb};
-ghost use lib.ListN.{getD};
-ghost use Rattle.rules.specs.Words.{pick};
-ghost use Rattle.serprog.specs.Commands.{ack, nak, shapeOf, answerOf, length24, fits, rightOrNot, frequencyBytes, operationBytes, mapBytes, nameBytes, answerBytes};
+ghost use Rattle.serprog.specs.Commands.{ack, shapeOf, answerOf, length24, fits, rightOrNot, frequencyBytes, operationBytes, mapBytes, nameBytes, answerBytes};
 
 fn plain(command: Command, parameters: usize) -> Shape
     ensures { λ r. ⌜ r ≡ record { command = command; parameters = parameters; sends = false } ⌝ }

@@ -4,7 +4,6 @@ use crate::showing::show;
 use rules::Answer;
 use rules::Chip;
 ghost use mathlib.Core.Path.{_≡_};
-ghost use Prim.Native.Nat.{ℕ};
 ghost use Rattle.rules.specs.Frames.{opcode};
 ghost use Rattle.rules.specs.Registers.{busy};
 ghost use Rattle.rules.specs.Commands.{newChip};

@@ -1,6 +1,5 @@
 // The disguise: the identity of the 3-volt sibling in the place of the chip's own.
 ghost use mathlib.Core.Path.{_≡_};
-ghost use Prim.Native.Nat.{ℕ};
 ghost use lib.ListN.{length, getD};
 ghost use Rattle.rules.specs.Words.{lent, written};
 ghost use Rattle.serprog.specs.Showing.{disguised, sibling, shownByte};
