@@ -1,0 +1,31 @@
+-- A part of the slice. Assumes nothing.
+use mathlib.Core.Path.{sym}
+use lib.Seq.{length-take-le}
+use borrow.Author.Needs.{needs}
+use Rattle.programmer.proofs.session.received.Statement.{statement}
+use Rattle.programmer.proofs.session.received.Tie as tie
+
+slice-relend-prefix-read-full : tie.Need-slice-relend-prefix-read-full
+slice-relend-prefix-read-full c = search needs
+
+slice-aggregate-read-full : tie.Need-slice-aggregate-read-full
+slice-aggregate-read-full c = sym (length-take-le _ _ (search needs))
+
+read-full-requires : tie.Need-read-full-requires
+read-full-requires c κs = search needs
+
+same-length : tie.Need-same-length
+same-length c = search needs
+
+returns : tie.Need-returns
+returns c = search needs
+
+pub received-spec : {M : Type 1} → statement M
+received-spec =
+    tie.close
+    (tie.spec
+    slice-relend-prefix-read-full
+    slice-aggregate-read-full
+    read-full-requires
+    same-length
+    returns)

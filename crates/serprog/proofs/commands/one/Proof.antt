@@ -1,0 +1,16 @@
+-- The bytes are stored over 33 zeros. Assumes nothing.
+use mathlib.Core.Path.{refl}
+use Rattle.serprog.specs.Commands.{answerOf, padded}
+use borrow.Author.Needs.{needs}
+use Rattle.serprog.proofs.commands.one.Statement.{statement}
+use Rattle.serprog.proofs.commands.one.Tie as tie
+
+array-write-bytes : tie.Need-array-write-bytes
+array-write-bytes c = search needs
+
+returns : tie.Need-returns
+unfolding answerOf padded
+returns c = refl
+
+pub one-spec : {M : Type 1} → statement M
+one-spec = tie.close (tie.spec array-write-bytes returns)

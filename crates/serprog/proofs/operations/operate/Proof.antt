@@ -1,0 +1,75 @@
+-- The calls in a row are the operation. Assumes nothing.
+use Rattle.serprog.proofs.Laws.{operates}
+use borrow.Author.Needs.{needs}
+use Rattle.serprog.proofs.operations.operate.Statement.{statement}
+use Rattle.serprog.proofs.operations.operate.Tie as tie
+
+opcode-of-requires : tie.Need-opcode-of-requires
+opcode-of-requires c κs = search needs
+
+is-busy-requires : tie.Need-is-busy-requires
+is-busy-requires c κs = search needs
+
+due-requires : tie.Need-due-requires
+due-requires c κs = search needs
+
+settled-requires : tie.Need-settled-requires
+settled-requires c κs = search needs
+
+frame-requires : tie.Need-frame-requires
+frame-requires c κs = search needs
+
+is-done-requires : tie.Need-is-done-requires
+is-done-requires c κs = search needs
+
+show-requires : tie.Need-show-requires
+show-requires c κs = search needs
+
+is-busy-requires-2 : tie.Need-is-busy-requires-2
+is-busy-requires-2 c κs = search needs
+
+reads-after-requires : tie.Need-reads-after-requires
+reads-after-requires c κs = search needs
+
+same-length : tie.Need-same-length
+same-length c = search needs
+
+same-length-2 : tie.Need-same-length-2
+same-length-2 c = search needs
+
+same-length-3 : tie.Need-same-length-3
+same-length-3 c = search needs
+
+same-length-4 : tie.Need-same-length-4
+same-length-4 c = search needs
+
+returns : tie.Need-returns
+returns c = let a = c .before .before .before .before .before .before .before .before .before .before .before .before .before .before .before .before .before .before .before .before .before .before .before .before .before .before .before .before .before .before .before .before .before .before .before .before .before .args in
+    record {
+      outcome = operates (a .b) (a .array .now) (a .security .now) (a .sent .now) (a .reply .now) (a .marks .now)
+          (c .before .before .before .before .before .before .before .before .before .before .before .before .before .before .before .before .before .before .before .before .before .before .before .before .before .before .before .before .before .before .before .opcode-of .result) (c .before .before .before .before .before .before .before .before .before .before .before .before .before .before .before .before .before .before .before .before .before .before .before .before .before .before .before .before .before .is-busy .result) (c .before .before .before .before .before .before .before .before .before .before .before .before .before .before .before .before .before .before .before .before .before .before .before .before .before .before .before .before .due .result)
+          (c .before .before .before .before .before .before .before .before .before .before .before .before .before .before .before .before .before .before .before .before .before .before .before .before .before .settled .result) (c .before .before .before .before .before .before .before .before .before .before .before .before .before .before .before .before .before .before .before .before .before .before .before .before .before .settled .last .1 .1 .0) (c .before .before .before .before .before .before .before .before .before .before .before .before .before .before .before .before .before .before .before .before .before .before .before .before .before .settled .last .1 .1 .1 .0)
+          (c .before .before .before .before .before .before .before .before .before .before .before .before .before .before .before .before .frame .result) (c .before .before .before .before .before .before .before .before .before .before .before .before .before .before .before .before .frame .last .1 .0) (c .before .before .before .before .before .before .before .before .before .before .before .before .before .before .before .before .frame .last .1 .1 .0) (c .before .before .before .before .before .before .before .before .before .before .before .before .before .before .before .before .frame .last .1 .1 .1 .1 .0) (c .before .before .before .before .before .before .before .before .before .before .before .before .before .before .before .before .frame .last .1 .1 .1 .1 .1 .0)
+          (c .before .before .before .before .before .before .before .is-done .result) (c .before .before .before .before .before .show .last .1 .1 .1 .0) (c .before .is-busy2 .result) (c .reads-after .result)
+          (c .before .before .before .before .before .before .before .before .before .before .before .before .before .before .before .before .before .before .before .before .before .before .before .before .before .before .before .before .before .before .before .opcode-of .ensures) (c .before .before .before .before .before .before .before .before .before .before .before .before .before .before .before .before .before .before .before .before .before .before .before .before .before .before .before .before .before .is-busy .ensures) (c .before .before .before .before .before .before .before .before .before .before .before .before .before .before .before .before .before .before .before .before .before .before .before .before .before .before .before .before .due .ensures) (c .before .before .before .before .before .before .before .before .before .before .before .before .before .before .before .before .before .before .before .before .before .before .before .before .before .settled .ensures) (c .before .before .before .before .before .before .before .before .before .before .before .before .before .before .before .before .frame .ensures) (c .before .before .before .before .before .before .before .is-done .ensures)
+          (c .before .before .before .before .before .show .ensures) (c .before .is-busy2 .ensures) (c .reads-after .ensures);
+    }
+
+pub operate-spec : {M : Type 1} → statement M
+operate-spec =
+    tie.close
+    (tie.spec
+    opcode-of-requires
+    is-busy-requires
+    due-requires
+    settled-requires
+    frame-requires
+    is-done-requires
+    show-requires
+    is-busy-requires-2
+    reads-after-requires
+    same-length
+    same-length-2
+    same-length-3
+    same-length-4
+    returns)
