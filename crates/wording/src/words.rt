@@ -50,7 +50,7 @@ pub fn meaning(r: Row, number: u8) -> Row {
         return rows::text(r, b"frame empty");
     }
     if number == 3 {
-        return rows::text(r, b"not listed in this protocol");
+        return rows::text(r, b"opcode not in this protocol");
     }
     if number == 4 {
         return rows::text(r, b"length not as listed");
