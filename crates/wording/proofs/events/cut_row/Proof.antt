@@ -1,42 +1,32 @@
-use native.Mathlib.Omega.{arith}
+-- The word and its count, and beside them the answer. Assumes nothing.
+use Rattle.rows.proofs.Laws.{then}
+use Rattle.wording.proofs.Laws.{came-beside}
+use Rattle.wording.specs.Events.{cutRow}
 use borrow.Author.Needs.{needs}
 use Rattle.wording.proofs.events.cut_row.Statement.{statement}
 use Rattle.wording.proofs.events.cut_row.Tie as tie
-use Rattle.wording.proofs.events.cut_row.Reads as reads
-use Rattle.wording.proofs.events.cut_row.Lts as lts
-use Rattle.rows.proofs.number.Reads as number-reads
-use Rattle.rows.proofs.text.Reads as text-reads
-use Rattle.wording.proofs.events.aside.Reads as aside-reads
-use Rattle.wording.proofs.words.answer.Reads as answer-reads
-use Rattle.wording.proofs.words.numbered.Reads as numbered-reads
 
--- src/events.rt:109:9
 numbered-requires : tie.Need-numbered-requires
 numbered-requires c κs = search needs
 
--- src/events.rt:110:27
 slice-aggregate-text : tie.Need-slice-aggregate-text
 slice-aggregate-text c = search needs
 
--- src/events.rt:110:9
 text-requires : tie.Need-text-requires
 text-requires c κs = search needs
 
--- src/events.rt:111:9
 number-requires : tie.Need-number-requires
 number-requires c κs = search needs
 
--- src/events.rt:112:9
 aside-requires : tie.Need-aside-requires
 aside-requires c κs = search needs
 
--- src/events.rt:113:5
 answer-requires : tie.Need-answer-requires
 answer-requires c κs = search needs
 
--- src/events.rt:106:1
 returns : tie.Need-returns
-returns c = ?
+unfolding cutRow
+returns c = came-beside _ _ _ _ _ (then _ _ _ _ _ (then _ _ _ _ _ (c .before .before .before .before .before .numbered .ensures) (c .before .before .before .text .ensures)) (c .before .before .number .ensures)) (c .before .aside .ensures) (c .answer .ensures)
 
 pub cut-row-spec : {M : Type 1} → statement M
 cut-row-spec =

@@ -1,37 +1,29 @@
-use native.Mathlib.Omega.{arith}
+-- The word, and beside it the answer. Assumes nothing.
+use Rattle.rows.proofs.Laws.{then}
+use Rattle.wording.proofs.Laws.{came-beside}
+use Rattle.wording.specs.Events.{doneRow}
 use borrow.Author.Needs.{needs}
 use Rattle.wording.proofs.events.done_row.Statement.{statement}
 use Rattle.wording.proofs.events.done_row.Tie as tie
-use Rattle.wording.proofs.events.done_row.Reads as reads
-use Rattle.wording.proofs.events.done_row.Lts as lts
-use Rattle.rows.proofs.text.Reads as text-reads
-use Rattle.wording.proofs.events.aside.Reads as aside-reads
-use Rattle.wording.proofs.words.answer.Reads as answer-reads
-use Rattle.wording.proofs.words.numbered.Reads as numbered-reads
 
--- src/events.rt:99:9
 numbered-requires : tie.Need-numbered-requires
 numbered-requires c κs = search needs
 
--- src/events.rt:100:27
 slice-aggregate-text : tie.Need-slice-aggregate-text
 slice-aggregate-text c = search needs
 
--- src/events.rt:100:9
 text-requires : tie.Need-text-requires
 text-requires c κs = search needs
 
--- src/events.rt:101:9
 aside-requires : tie.Need-aside-requires
 aside-requires c κs = search needs
 
--- src/events.rt:102:5
 answer-requires : tie.Need-answer-requires
 answer-requires c κs = search needs
 
--- src/events.rt:96:1
 returns : tie.Need-returns
-returns c = ?
+unfolding doneRow
+returns c = came-beside _ _ _ _ _ (then _ _ _ _ _ (c .before .before .before .before .numbered .ensures) (c .before .before .text .ensures)) (c .before .aside .ensures) (c .answer .ensures)
 
 pub done-row-spec : {M : Type 1} → statement M
 done-row-spec =

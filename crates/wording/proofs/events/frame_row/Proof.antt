@@ -1,38 +1,29 @@
-use native.Mathlib.Omega.{arith}
+-- The frame's bytes, and beside them the answer and the reply. Assumes nothing.
+use Rattle.rows.proofs.Laws.{then}
+use Rattle.wording.proofs.Laws.{came-beside}
+use Rattle.wording.specs.Events.{frameRow}
 use borrow.Author.Needs.{needs}
 use Rattle.wording.proofs.events.frame_row.Statement.{statement}
 use Rattle.wording.proofs.events.frame_row.Tie as tie
-use Rattle.wording.proofs.events.frame_row.Reads as reads
-use Rattle.wording.proofs.events.frame_row.Lts as lts
-use Rattle.wording.proofs.events.aside.Reads as aside-reads
-use Rattle.wording.proofs.events.replied.Reads as replied-reads
-use Rattle.wording.proofs.events.sent_bytes.Reads as sent-bytes-reads
-use Rattle.wording.proofs.words.answer.Reads as answer-reads
-use Rattle.wording.proofs.words.numbered.Reads as numbered-reads
 
--- src/events.rt:88:9
 numbered-requires : tie.Need-numbered-requires
 numbered-requires c κs = search needs
 
--- src/events.rt:89:9
 sent-bytes-requires : tie.Need-sent-bytes-requires
 sent-bytes-requires c κs = search needs
 
--- src/events.rt:90:9
 aside-requires : tie.Need-aside-requires
 aside-requires c κs = search needs
 
--- src/events.rt:91:9
 answer-requires : tie.Need-answer-requires
 answer-requires c κs = search needs
 
--- src/events.rt:92:5
 replied-requires : tie.Need-replied-requires
 replied-requires c κs = search needs
 
--- src/events.rt:78:1
 returns : tie.Need-returns
-returns c = ?
+unfolding frameRow
+returns c = then _ _ _ _ _ (came-beside _ _ _ _ _ (then _ _ _ _ _ (c .before .before .before .before .numbered .ensures) (c .before .before .before .sent-bytes .ensures)) (c .before .before .aside .ensures) (c .before .answer .ensures)) (c .replied .ensures)
 
 pub frame-row-spec : {M : Type 1} → statement M
 frame-row-spec =

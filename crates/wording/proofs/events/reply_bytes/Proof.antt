@@ -1,49 +1,40 @@
-use native.Mathlib.Omega.{arith}
+-- No reply is not shown; a short one is, and of a long one its length. Assumes nothing.
+use borrow.Author.Tests.{eq-eqb, ne-eqb, le-leb, lt-leb}
+use Rattle.rows.proofs.Laws.{then, nothing-more}
+use Rattle.wording.specs.Events.{replyBytes}
 use borrow.Author.Needs.{needs}
 use Rattle.wording.proofs.events.reply_bytes.Statement.{statement}
 use Rattle.wording.proofs.events.reply_bytes.Tie as tie
-use Rattle.wording.proofs.events.reply_bytes.Reads as reads
-use Rattle.wording.proofs.events.reply_bytes.Lts as lts
-use Rattle.rows.proofs.marked_bytes.Reads as marked-bytes-reads
-use Rattle.rows.proofs.pad.Reads as pad-reads
-use Rattle.rows.proofs.size.Reads as size-reads
-use Rattle.rows.proofs.text.Reads as text-reads
 
--- src/events.rt:57:9
 returns : tie.Need-returns
-returns c = ?
+unfolding replyBytes
+returns c = rw (eq-eqb _ _ (c .if1 .taken)) (nothing-more _)
 
--- src/events.rt:59:9
 pad-requires : tie.Need-pad-requires
 pad-requires c κs = search needs
 
--- src/events.rt:61:9
 marked-bytes-requires : tie.Need-marked-bytes-requires
 marked-bytes-requires c κs = search needs
 
--- src/events.rt:61:9
 returns-2 : tie.Need-returns-2
-returns-2 c = ?
+unfolding replyBytes
+returns-2 c = rw (ne-eqb _ _ (c .before .before .before .if1 .left), le-leb _ _ (c .before .if2 .taken)) (then _ _ _ _ _ (c .before .before .pad .ensures) (c .marked-bytes .ensures))
 
--- src/events.rt:63:9
 pad-requires-2 : tie.Need-pad-requires-2
 pad-requires-2 c κs = search needs
 
--- src/events.rt:64:9
 size-requires : tie.Need-size-requires
 size-requires c κs = search needs
 
--- src/events.rt:65:19
 slice-aggregate-text : tie.Need-slice-aggregate-text
 slice-aggregate-text c = search needs
 
--- src/events.rt:65:5
 text-requires : tie.Need-text-requires
 text-requires c κs = search needs
 
--- src/events.rt:52:1
 returns-3 : tie.Need-returns-3
-returns-3 c = ?
+unfolding replyBytes
+returns-3 c = rw (ne-eqb _ _ (c .before .before .before .before .before .before .if1 .left), lt-leb _ _ (c .before .before .before .before .if2 .left)) (then _ _ _ _ _ (then _ _ _ _ _ (then _ _ _ _ _ (c .before .before .before .before .before .pad .ensures) (c .before .before .before .pad2 .ensures)) (c .before .before .size .ensures)) (c .text .ensures))
 
 pub reply-bytes-spec : {M : Type 1} → statement M
 reply-bytes-spec =

@@ -1,35 +1,30 @@
-use native.Mathlib.Omega.{arith}
+-- Nothing where there are none, else their count. Assumes nothing.
+use borrow.Author.Tests.{eq-eqb, ne-eqb}
+use Rattle.rows.proofs.Laws.{then, nothing-more}
+use Rattle.wording.specs.Lines.{wrongLines}
 use borrow.Author.Needs.{needs}
 use Rattle.wording.proofs.lines.wrong_lines.Statement.{statement}
 use Rattle.wording.proofs.lines.wrong_lines.Tie as tie
-use Rattle.wording.proofs.lines.wrong_lines.Reads as reads
-use Rattle.wording.proofs.lines.wrong_lines.Lts as lts
-use Rattle.rows.proofs.text.Reads as text-reads
-use Rattle.wording.proofs.words.counted.Reads as counted-reads
 
--- src/lines.rt:98:9
 returns : tie.Need-returns
-returns c = ?
+unfolding wrongLines
+returns c = rw (eq-eqb _ _ (c .if1 .taken)) (nothing-more _)
 
--- src/lines.rt:100:27
 slice-aggregate-text : tie.Need-slice-aggregate-text
 slice-aggregate-text c = search needs
 
--- src/lines.rt:100:9
 text-requires : tie.Need-text-requires
 text-requires c κs = search needs
 
--- src/lines.rt:101:26
 slice-aggregate-counted : tie.Need-slice-aggregate-counted
 slice-aggregate-counted c = search needs
 
--- src/lines.rt:101:5
 counted-requires : tie.Need-counted-requires
 counted-requires c κs = search needs
 
--- src/lines.rt:94:1
 returns-2 : tie.Need-returns-2
-returns-2 c = ?
+unfolding wrongLines
+returns-2 c = rw (ne-eqb _ _ (c .before .before .before .before .if1 .left)) (then _ _ _ _ _ (c .before .before .text .ensures) (c .counted .ensures))
 
 pub wrong-lines-spec : {M : Type 1} → statement M
 wrong-lines-spec =

@@ -1,57 +1,45 @@
-use native.Mathlib.Omega.{arith}
+-- No word is the line's end; else the word in quotes and its column. Assumes nothing.
+use borrow.Author.Tests.{eq-eqb, ne-eqb}
+use Rattle.rows.proofs.Laws.{then}
+use Rattle.wording.specs.Lines.{wrongText}
 use borrow.Author.Needs.{needs}
 use Rattle.wording.proofs.lines.wrong_word.Statement.{statement}
 use Rattle.wording.proofs.lines.wrong_word.Tie as tie
-use Rattle.wording.proofs.lines.wrong_word.Reads as reads
-use Rattle.wording.proofs.lines.wrong_word.Lts as lts
-use Rattle.rows.proofs.printed_bytes.Reads as printed-bytes-reads
-use Rattle.rows.proofs.size.Reads as size-reads
-use Rattle.rows.proofs.text.Reads as text-reads
-use Rattle.wording.proofs.lines.cut_off.Reads as cut-off-reads
 
--- src/lines.rt:31:30
 slice-aggregate-text : tie.Need-slice-aggregate-text
 slice-aggregate-text c = search needs
 
--- src/lines.rt:31:9
 text-requires : tie.Need-text-requires
 text-requires c κs = search needs
 
--- src/lines.rt:31:9
 returns : tie.Need-returns
-returns c = ?
+unfolding wrongText
+returns c = rw (eq-eqb _ _ (c .before .before .if1 .taken)) (c .text .ensures)
 
--- src/lines.rt:33:27
 slice-aggregate-text-2 : tie.Need-slice-aggregate-text-2
 slice-aggregate-text-2 c = search needs
 
--- src/lines.rt:33:9
 text-requires-2 : tie.Need-text-requires-2
 text-requires-2 c κs = search needs
 
--- src/lines.rt:34:9
 printed-bytes-requires : tie.Need-printed-bytes-requires
 printed-bytes-requires c κs = search needs
 
--- src/lines.rt:35:9
 cut-off-requires : tie.Need-cut-off-requires
 cut-off-requires c κs = search needs
 
--- src/lines.rt:36:27
 slice-aggregate-text-3 : tie.Need-slice-aggregate-text-3
 slice-aggregate-text-3 c = search needs
 
--- src/lines.rt:36:9
 text-requires-3 : tie.Need-text-requires-3
 text-requires-3 c κs = search needs
 
--- src/lines.rt:37:5
 size-requires : tie.Need-size-requires
 size-requires c κs = search needs
 
--- src/lines.rt:27:1
 returns-2 : tie.Need-returns-2
-returns-2 c = ?
+unfolding wrongText
+returns-2 c = rw (ne-eqb _ _ (c .before .before .before .before .before .before .before .if1 .left)) (then _ _ _ _ _ (then _ _ _ _ _ (then _ _ _ _ _ (then _ _ _ _ _ (c .before .before .before .before .before .text2 .ensures) (c .before .before .before .before .printed-bytes .ensures)) (c .before .before .before .cut-off .ensures)) (c .before .text3 .ensures)) (c .size .ensures))
 
 pub wrong-word-spec : {M : Type 1} → statement M
 wrong-word-spec =
