@@ -1,51 +1,42 @@
-use native.Mathlib.Omega.{arith}
+-- Each lock that is set has its name. Assumes nothing.
+use borrow.Author.Tests.{eq-eqb, ne-eqb}
+use Rattle.rows.proofs.Laws.{then}
+use Rattle.wording.specs.Questions.{lockNames}
 use borrow.Author.Needs.{needs}
 use Rattle.wording.proofs.questions.lock_names.Statement.{statement}
 use Rattle.wording.proofs.questions.lock_names.Tie as tie
-use Rattle.wording.proofs.questions.lock_names.Reads as reads
-use Rattle.wording.proofs.questions.lock_names.Lts as lts
-use Rattle.rows.proofs.text.Reads as text-reads
-use Rattle.wording.proofs.words.named.Reads as named-reads
 
--- src/questions.rt:240:30
 slice-aggregate-text : tie.Need-slice-aggregate-text
 slice-aggregate-text c = search needs
 
--- src/questions.rt:240:9
 text-requires : tie.Need-text-requires
 text-requires c κs = search needs
 
--- src/questions.rt:240:9
 returns : tie.Need-returns
-returns c = ?
+unfolding lockNames
+returns c = rw (eq-eqb _ _ (c .before .before .if1 .taken)) (c .text .ensures)
 
--- src/questions.rt:242:35
 slice-aggregate-named : tie.Need-slice-aggregate-named
 slice-aggregate-named c = search needs
 
--- src/questions.rt:242:9
 named-requires : tie.Need-named-requires
 named-requires c κs = search needs
 
--- src/questions.rt:243:35
 slice-aggregate-named-2 : tie.Need-slice-aggregate-named-2
 slice-aggregate-named-2 c = search needs
 
--- src/questions.rt:243:9
 named-requires-2 : tie.Need-named-requires-2
 named-requires-2 c κs = search needs
 
--- src/questions.rt:244:27
 slice-aggregate-named-3 : tie.Need-slice-aggregate-named-3
 slice-aggregate-named-3 c = search needs
 
--- src/questions.rt:244:5
 named-requires-3 : tie.Need-named-requires-3
 named-requires-3 c κs = search needs
 
--- src/questions.rt:236:1
 returns-2 : tie.Need-returns-2
-returns-2 c = ?
+unfolding lockNames
+returns-2 c = rw (ne-eqb _ _ (c .before .before .before .before .before .before .if1 .left)) (then _ _ _ _ _ (then _ _ _ _ _ (c .before .before .before .before .named .ensures) (c .before .before .named2 .ensures)) (c .named3 .ensures))
 
 pub lock-names-spec : {M : Type 1} → statement M
 lock-names-spec =

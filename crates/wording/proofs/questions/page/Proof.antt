@@ -1,36 +1,26 @@
-use native.Mathlib.Omega.{arith}
+-- The page and its range. Assumes nothing.
+use Rattle.rows.proofs.Laws.{then}
 use borrow.Author.Needs.{needs}
 use Rattle.wording.proofs.questions.page.Statement.{statement}
 use Rattle.wording.proofs.questions.page.Tie as tie
-use Rattle.wording.proofs.questions.page.Reads as reads
-use Rattle.wording.proofs.questions.page.Lts as lts
-use Rattle.rows.proofs.size.Reads as size-reads
-use Rattle.rows.proofs.text.Reads as text-reads
-use Rattle.wording.proofs.questions.range.Reads as range-reads
 
--- src/questions.rt:131:27
 slice-aggregate-text : tie.Need-slice-aggregate-text
 slice-aggregate-text c = search needs
 
--- src/questions.rt:131:9
 text-requires : tie.Need-text-requires
 text-requires c κs = search needs
 
--- src/questions.rt:132:9
 size-requires : tie.Need-size-requires
 size-requires c κs = search needs
 
--- src/questions.rt:133:17
 mul-range : tie.Need-mul-range
 mul-range c = search needs
 
--- src/questions.rt:133:5
 range-requires : tie.Need-range-requires
 range-requires c κs = search needs
 
--- src/questions.rt:127:1
 returns : tie.Need-returns
-returns c = ?
+returns c = then _ _ _ _ _ (then _ _ _ _ _ (c .before .before .text .ensures) (c .before .size .ensures)) (c .range .ensures)
 
 pub page-spec : {M : Type 1} → statement M
 page-spec =

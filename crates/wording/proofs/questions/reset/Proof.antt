@@ -1,34 +1,25 @@
-use native.Mathlib.Omega.{arith}
+-- By the flag. Assumes nothing.
 use borrow.Author.Needs.{needs}
 use Rattle.wording.proofs.questions.reset.Statement.{statement}
 use Rattle.wording.proofs.questions.reset.Tie as tie
-use Rattle.wording.proofs.questions.reset.Reads as reads
-use Rattle.wording.proofs.questions.reset.Lts as lts
-use Rattle.rows.proofs.text.Reads as text-reads
 
--- src/questions.rt:81:30
 slice-aggregate-text : tie.Need-slice-aggregate-text
 slice-aggregate-text c = search needs
 
--- src/questions.rt:81:9
 text-requires : tie.Need-text-requires
 text-requires c κs = search needs
 
--- src/questions.rt:81:9
 returns : tie.Need-returns
-returns c = ?
+returns c = rw (c .before .before .if1 .taken) (c .text .ensures)
 
--- src/questions.rt:83:19
 slice-aggregate-text-2 : tie.Need-slice-aggregate-text-2
 slice-aggregate-text-2 c = search needs
 
--- src/questions.rt:83:5
 text-requires-2 : tie.Need-text-requires-2
 text-requires-2 c κs = search needs
 
--- src/questions.rt:77:1
 returns-2 : tie.Need-returns-2
-returns-2 c = ?
+returns-2 c = rw (c .before .before .if1 .left) (c .text2 .ensures)
 
 pub reset-spec : {M : Type 1} → statement M
 reset-spec =

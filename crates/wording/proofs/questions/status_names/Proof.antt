@@ -1,75 +1,60 @@
-use native.Mathlib.Omega.{arith}
+-- Each bit that is set has its name. Assumes nothing.
+use borrow.Author.Tests.{eq-eqb, ne-eqb}
+use Rattle.rows.proofs.Laws.{then}
+use Rattle.wording.specs.Questions.{statusNames}
 use borrow.Author.Needs.{needs}
 use Rattle.wording.proofs.questions.status_names.Statement.{statement}
 use Rattle.wording.proofs.questions.status_names.Tie as tie
-use Rattle.wording.proofs.questions.status_names.Reads as reads
-use Rattle.wording.proofs.questions.status_names.Lts as lts
-use Rattle.rows.proofs.text.Reads as text-reads
-use Rattle.wording.proofs.words.named.Reads as named-reads
 
--- src/questions.rt:18:30
 slice-aggregate-text : tie.Need-slice-aggregate-text
 slice-aggregate-text c = search needs
 
--- src/questions.rt:18:9
 text-requires : tie.Need-text-requires
 text-requires c κs = search needs
 
--- src/questions.rt:18:9
 returns : tie.Need-returns
-returns c = ?
+unfolding statusNames
+returns c = rw (eq-eqb _ _ (c .before .before .if1 .taken)) (c .text .ensures)
 
--- src/questions.rt:20:35
 slice-aggregate-named : tie.Need-slice-aggregate-named
 slice-aggregate-named c = search needs
 
--- src/questions.rt:20:9
 named-requires : tie.Need-named-requires
 named-requires c κs = search needs
 
--- src/questions.rt:21:35
 slice-aggregate-named-2 : tie.Need-slice-aggregate-named-2
 slice-aggregate-named-2 c = search needs
 
--- src/questions.rt:21:9
 named-requires-2 : tie.Need-named-requires-2
 named-requires-2 c κs = search needs
 
--- src/questions.rt:22:35
 slice-aggregate-named-3 : tie.Need-slice-aggregate-named-3
 slice-aggregate-named-3 c = search needs
 
--- src/questions.rt:22:9
 named-requires-3 : tie.Need-named-requires-3
 named-requires-3 c κs = search needs
 
--- src/questions.rt:23:35
 slice-aggregate-named-4 : tie.Need-slice-aggregate-named-4
 slice-aggregate-named-4 c = search needs
 
--- src/questions.rt:23:9
 named-requires-4 : tie.Need-named-requires-4
 named-requires-4 c κs = search needs
 
--- src/questions.rt:24:36
 slice-aggregate-named-5 : tie.Need-slice-aggregate-named-5
 slice-aggregate-named-5 c = search needs
 
--- src/questions.rt:24:9
 named-requires-5 : tie.Need-named-requires-5
 named-requires-5 c κs = search needs
 
--- src/questions.rt:25:28
 slice-aggregate-named-6 : tie.Need-slice-aggregate-named-6
 slice-aggregate-named-6 c = search needs
 
--- src/questions.rt:25:5
 named-requires-6 : tie.Need-named-requires-6
 named-requires-6 c κs = search needs
 
--- src/questions.rt:14:1
 returns-2 : tie.Need-returns-2
-returns-2 c = ?
+unfolding statusNames
+returns-2 c = rw (ne-eqb _ _ (c .before .before .before .before .before .before .before .before .before .before .before .before .if1 .left)) (then _ _ _ _ _ (then _ _ _ _ _ (then _ _ _ _ _ (then _ _ _ _ _ (then _ _ _ _ _ (c .before .before .before .before .before .before .before .before .before .before .named .ensures) (c .before .before .before .before .before .before .before .before .named2 .ensures)) (c .before .before .before .before .before .before .named3 .ensures)) (c .before .before .before .before .named4 .ensures)) (c .before .before .named5 .ensures)) (c .named6 .ensures))
 
 pub status-names-spec : {M : Type 1} → statement M
 status-names-spec =
