@@ -1,2 +1,3 @@
 -- Laws of the rows that the player writes.
 pub mod Laws
+pub mod Unique
