@@ -122,7 +122,7 @@ pub fn new_row(line: u64) -> Row
     words::answer(r, 0)
 }
 
-// Sixteen bytes of a long reply, from a place on.
+// At most sixteen bytes of a long reply, from a place on; a place past the end shows none.
 pub fn reply_row(place: usize, reply: &[u8], marks: &[u8]) -> Row
     ensures { λ q. ⌜ q ≡ replyRow place (now (reply .entry)) (now (marks .entry)) ⌝ }
 {
