@@ -187,17 +187,22 @@ pub fn strayed(r: Reading) -> Reading
     }
 }
 
-pub fn judged(r: Reading) -> Reading
-    ensures { λ q. ⌜ q ≡ goes r (nextOf (r .place) (r .word)) ⌝ }
+pub fn went_on(r: Reading, next: Next) -> Reading
+    ensures { λ q. ⌜ q ≡ goes r next ⌝ }
 {
-    let place = r.place;
-    let word = r.word;
-    let next = grammar::follows(place, word);
     match next {
         Next::To(to) => went(r, to),
         Next::Stray => strayed(r),
         Next::Mistake => with_mode(r, Mode::Wrong),
     }
+}
+
+pub fn judged(r: Reading) -> Reading
+    ensures { λ q. ⌜ q ≡ goes r (nextOf (r .place) (r .word)) ⌝ }
+{
+    let place = r.place;
+    let word = r.word;
+    went_on(r, grammar::follows(place, word))
 }
 
 // There is a word to judge.
@@ -252,7 +257,11 @@ pub fn to_expected(r: Reading) -> bool
 pub fn known_of(w: Word) -> u8
     ensures { λ q. ⌜ q ≡ num (isByte (sortOf w)) ⌝ }
 {
-    grammar::is_byte(words::sort_of(w)) as u8
+    if grammar::is_byte(words::sort_of(w)) {
+        1
+    } else {
+        0
+    }
 }
 
 // The word before this byte or before the line's end.

@@ -1,3 +1,5 @@
+-- By the place, with its row or its number. Assumes nothing.
+use mathlib.Core.Path.{sym}
 use native.Mathlib.Omega.{arith}
 use borrow.Author.Needs.{needs}
 use Rattle.script.proofs.grammar.follows.Statement.{statement}
@@ -131,51 +133,51 @@ enum-told-12 c = search needs
 
 -- src/grammar.rt:139:1
 returns : tie.Need-returns
-returns c = search needs
+returns c = rw (c .before .before .enum-told .given .1, sym (c .before .sort-of .ensures)) (c .first .ensures)
 
 -- src/grammar.rt:139:1
 returns-2 : tie.Need-returns-2
-returns-2 c = search needs
+returns-2 c = rw (c .before .before .enum-told2 .given .1, sym (c .before .sort-of2 .ensures)) (c .sent .ensures)
 
 -- src/grammar.rt:139:1
 returns-3 : tie.Need-returns-3
-returns-3 c = search needs
+returns-3 c = rw (c .before .enum-told3 .given .1) (c .where-true .ensures)
 
 -- src/grammar.rt:139:1
 returns-4 : tie.Need-returns-4
-returns-4 c = search needs
+returns-4 c = rw (c .before .before .enum-told4 .given .1, sym (c .before .sort-of3 .ensures)) (c .replied .ensures)
 
 -- src/grammar.rt:139:1
 returns-5 : tie.Need-returns-5
-returns-5 c = search needs
+returns-5 c = rw (c .before .before .enum-told5 .given .1, sym (c .before .sort-of4 .ensures)) (c .expected .ensures)
 
 -- src/grammar.rt:139:1
 returns-6 : tie.Need-returns-6
-returns-6 c = search needs
+returns-6 c = rw (c .before .before .enum-told6 .given .1, sym (c .before .sort-of5 .ensures)) (c .more-expected .ensures)
 
 -- src/grammar.rt:139:1
 returns-7 : tie.Need-returns-7
-returns-7 c = search needs
+returns-7 c = rw (c .before .before .before .enum-told7 .given .1) (c .where-true2 .ensures)
 
 -- src/grammar.rt:139:1
 returns-8 : tie.Need-returns-8
-returns-8 c = search needs
+returns-8 c = rw (c .before .before .enum-told8 .given .1, sym (c .before .sort-of6 .ensures)) (c .after-event .ensures)
 
 -- src/grammar.rt:139:1
 returns-9 : tie.Need-returns-9
-returns-9 c = search needs
+returns-9 c = rw (c .before .enum-told9 .given .1) (c .where-true3 .ensures)
 
 -- src/grammar.rt:139:1
 returns-10 : tie.Need-returns-10
-returns-10 c = search needs
+returns-10 c = rw (c .before .before .before .enum-told10 .given .1) (c .where-true4 .ensures)
 
 -- src/grammar.rt:139:1
 returns-11 : tie.Need-returns-11
-returns-11 c = search needs
+returns-11 c = rw (c .before .enum-told11 .given .1) (c .where-true5 .ensures)
 
 -- src/grammar.rt:139:1
 returns-12 : tie.Need-returns-12
-returns-12 c = search needs
+returns-12 c = rw (c .enum-told12 .given .1)
 
 pub follows-spec : {M : Type 1} → statement M
 follows-spec =

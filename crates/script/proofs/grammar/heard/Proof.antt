@@ -1,3 +1,5 @@
+-- By the place: the field that its word sets. Assumes nothing.
+use mathlib.Core.Path.{_∙_}
 use native.Mathlib.Omega.{arith}
 use borrow.Author.Needs.{needs}
 use Rattle.script.proofs.grammar.heard.Statement.{statement}
@@ -112,7 +114,7 @@ at-most-requires-2 c κs = search needs
 
 -- src/grammar.rt:409:42
 cast-with-number : tie.Need-cast-with-number
-cast-with-number c = search needs
+cast-with-number c = let h = c .at-most2 .ensures in omega arith
 
 -- src/grammar.rt:409:27
 with-number-requires : tie.Need-with-number-requires
@@ -156,51 +158,51 @@ enum-told-12 c = search needs
 
 -- src/grammar.rt:398:1
 returns : tie.Need-returns
-returns c = search needs
+returns c = c .with-verb .ensures ∙ rw (c .before .before .before .verb-of .ensures, c .before .counted .ensures, c .before .before .is-byte .ensures, c .before .before .before .before .before .before .sort-of .ensures, c .before .before .before .before .enum-told .given .1)
 
 -- src/grammar.rt:398:1
 returns-2 : tie.Need-returns-2
-returns-2 c = search needs
+returns-2 c = c .with-sent .ensures ∙ rw (c .before .counted2 .ensures, c .before .before .is-byte2 .ensures, c .before .before .before .before .before .sort-of .ensures, c .before .before .before .enum-told2 .given .1)
 
 -- src/grammar.rt:398:1
 returns-3 : tie.Need-returns-3
-returns-3 c = search needs
+returns-3 c = c .with-wanted .ensures ∙ rw (c .before .at-most .ensures, c .before .before .enum-told3 .given .1)
 
 -- src/grammar.rt:398:1
 returns-4 : tie.Need-returns-4
-returns-4 c = search needs
+returns-4 c = rw (c .enum-told4 .given .1)
 
 -- src/grammar.rt:398:1
 returns-5 : tie.Need-returns-5
-returns-5 c = search needs
+returns-5 c = c .with-expected .ensures ∙ rw (c .before .counted3 .ensures, c .before .before .enum-told5 .given .1)
 
 -- src/grammar.rt:398:1
 returns-6 : tie.Need-returns-6
-returns-6 c = search needs
+returns-6 c = c .with-expected2 .ensures ∙ rw (c .before .counted4 .ensures, c .before .before .is-awaited .ensures, c .before .before .before .before .before .sort-of .ensures, c .before .before .before .enum-told6 .given .1)
 
 -- src/grammar.rt:398:1
 returns-7 : tie.Need-returns-7
-returns-7 c = search needs
+returns-7 c = c .with-number .ensures ∙ rw (c .before .at-most2 .ensures, c .before .before .enum-told7 .given .1)
 
 -- src/grammar.rt:398:1
 returns-8 : tie.Need-returns-8
-returns-8 c = search needs
+returns-8 c = rw (c .enum-told8 .given .1)
 
 -- src/grammar.rt:398:1
 returns-9 : tie.Need-returns-9
-returns-9 c = search needs
+returns-9 c = c .with-count .ensures ∙ rw (c .before .enum-told9 .given .1)
 
 -- src/grammar.rt:398:1
 returns-10 : tie.Need-returns-10
-returns-10 c = search needs
+returns-10 c = c .with-start .ensures ∙ rw (c .before .enum-told10 .given .1)
 
 -- src/grammar.rt:398:1
 returns-11 : tie.Need-returns-11
-returns-11 c = search needs
+returns-11 c = c .with-count2 .ensures ∙ rw (c .before .at-most3 .ensures, c .before .before .enum-told11 .given .1)
 
 -- src/grammar.rt:398:1
 returns-12 : tie.Need-returns-12
-returns-12 c = search needs
+returns-12 c = rw (c .enum-told12 .given .1)
 
 pub heard-spec : {M : Type 1} → statement M
 heard-spec =

@@ -1,3 +1,5 @@
+-- Each store is the definition's, and so is the reading. Assumes nothing.
+use Rattle.script.specs.Lines.{closed}
 use native.Mathlib.Omega.{arith}
 use borrow.Author.Needs.{needs}
 use Rattle.script.proofs.lines.close_word.Statement.{statement}
@@ -45,7 +47,8 @@ word-ended-requires c κs = search needs
 
 -- src/lines.rt:255:1
 returns : tie.Need-returns
-returns c = search needs
+unfolding closed
+returns c = rw (c .word-ended .ensures, c .before .before .before .before .before .before .store .ensures, c .before .before .before .before .store2 .ensures, c .before .store3 .ensures, c .before .before .before .before .before .before .before .to-frame .ensures, c .before .before .known-of .ensures, c .before .before .before .before .before .before .before .before .before .to-expected .ensures, c .before .before .before .before .before .before .before .before .before .before .byte-of .ensures)
 
 pub close-word-spec : {M : Type 1} → statement M
 close-word-spec =

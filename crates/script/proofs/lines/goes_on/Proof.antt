@@ -1,3 +1,4 @@
+-- Field by field. Assumes nothing.
 use native.Mathlib.Omega.{arith}
 use borrow.Author.Needs.{needs}
 use Rattle.script.proofs.lines.goes_on.Statement.{statement}
@@ -22,7 +23,7 @@ longer-requires c κs = search needs
 
 -- src/lines.rt:54:1
 returns : tie.Need-returns
-returns c = search needs
+returns c = rw (c .longer .ensures, c .before .shown-with .ensures, c .before .before .one-more .ensures)
 
 pub goes-on-spec : {M : Type 1} → statement M
 goes-on-spec = tie.close (tie.spec one-more-requires shown-with-requires longer-requires returns)

@@ -1,3 +1,7 @@
+-- By the mode. Assumes nothing.
+use Rattle.script.proofs.Picks.{while-open, in-remark, in-wrong}
+use Rattle.script.specs.Lines.{goesOn, passedBy}
+use mathlib.Core.Path.{_∙_}
 use native.Mathlib.Omega.{arith}
 use borrow.Author.Needs.{needs}
 use Rattle.script.proofs.lines.lettered.Statement.{statement}
@@ -33,15 +37,15 @@ passed-requires-2 c κs = search needs
 
 -- src/lines.rt:74:1
 returns : tie.Need-returns
-returns c = search needs
+returns c = c .goes-on .ensures ∙ while-open (c .before .enum-told .given .1) (goesOn (c .before .before .before .args .r) (c .before .before .before .args .b)) (passedBy (c .before .before .before .args .r))
 
 -- src/lines.rt:74:1
 returns-2 : tie.Need-returns-2
-returns-2 c = search needs
+returns-2 c = c .passed .ensures ∙ in-remark (c .before .enum-told2 .given .1) (goesOn (c .before .before .before .args .r) (c .before .before .before .args .b)) (passedBy (c .before .before .before .args .r))
 
 -- src/lines.rt:74:1
 returns-3 : tie.Need-returns-3
-returns-3 c = search needs
+returns-3 c = c .passed2 .ensures ∙ in-wrong (c .before .enum-told3 .given .1) (goesOn (c .before .before .before .args .r) (c .before .before .before .args .b)) (passedBy (c .before .before .before .args .r))
 
 pub lettered-spec : {M : Type 1} → statement M
 lettered-spec =

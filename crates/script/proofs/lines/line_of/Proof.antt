@@ -1,3 +1,5 @@
+-- Field by field. Assumes nothing.
+use Rattle.script.specs.Lines.{lineOf}
 use native.Mathlib.Omega.{arith}
 use borrow.Author.Needs.{needs}
 use Rattle.script.proofs.lines.line_of.Statement.{statement}
@@ -17,7 +19,8 @@ column-at-requires c κs = search needs
 
 -- src/lines.rt:319:1
 returns : tie.Need-returns
-returns c = search needs
+unfolding lineOf
+returns c = rw (c .before .verb-at .ensures, c .column-at .ensures)
 
 pub line-of-spec : {M : Type 1} → statement M
 line-of-spec = tie.close (tie.spec verb-at-requires column-at-requires returns)

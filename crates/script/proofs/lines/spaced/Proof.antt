@@ -1,3 +1,7 @@
+-- By the mode. Assumes nothing.
+use Rattle.script.proofs.Picks.{while-open, in-remark, in-wrong}
+use Rattle.script.specs.Lines.{blankMore, passedBy}
+use mathlib.Core.Path.{_∙_}
 use native.Mathlib.Omega.{arith}
 use borrow.Author.Needs.{needs}
 use Rattle.script.proofs.lines.spaced.Statement.{statement}
@@ -38,15 +42,15 @@ passed-requires-2 c κs = search needs
 
 -- src/lines.rt:93:1
 returns : tie.Need-returns
-returns c = search needs
+returns c = rw (c .blank-more .ensures, c .before .one-more .ensures) (while-open (c .before .before .enum-told .given .1) (blankMore (c .before .before .before .before .before .before .before .args .r)) (passedBy (c .before .before .before .before .before .before .before .args .r)))
 
 -- src/lines.rt:93:1
 returns-2 : tie.Need-returns-2
-returns-2 c = search needs
+returns-2 c = c .passed .ensures ∙ in-remark (c .before .enum-told2 .given .1) (blankMore (c .before .before .before .before .before .before .args .r)) (passedBy (c .before .before .before .before .before .before .args .r))
 
 -- src/lines.rt:93:1
 returns-3 : tie.Need-returns-3
-returns-3 c = search needs
+returns-3 c = c .passed2 .ensures ∙ in-wrong (c .before .enum-told3 .given .1) (blankMore (c .before .before .before .before .before .before .args .r)) (passedBy (c .before .before .before .before .before .before .args .r))
 
 pub spaced-spec : {M : Type 1} → statement M
 spaced-spec =

@@ -1,3 +1,5 @@
+-- By the byte: #, a blank, or a byte of a word. Assumes nothing.
+use Rattle.script.proofs.Steps.{step-hash, step-blank, step-letter}
 use native.Mathlib.Omega.{arith}
 use borrow.Author.Needs.{needs}
 use Rattle.script.proofs.lines.step.Statement.{statement}
@@ -20,7 +22,7 @@ remarked-requires c κs = search needs
 
 -- src/lines.rt:283:9
 returns : tie.Need-returns
-returns c = search needs
+returns c = step-hash (c .before .before .before .before .before .before .args .r) (c .before .before .before .before .before .before .args .frame .now) (c .before .before .before .before .before .before .args .expected .now) (c .before .before .before .before .before .before .args .known .now) _ _ _ (c .before .before .before .before .before .before .args .b) _ _ (c .before .before .before .before .before .if1 .taken) (c .before .close-word .ensures) (c .remarked .ensures)
 
 -- src/lines.rt:285:8
 is-blank-requires : tie.Need-is-blank-requires
@@ -36,7 +38,7 @@ spaced-requires c κs = search needs
 
 -- src/lines.rt:286:9
 returns-2 : tie.Need-returns-2
-returns-2 c = search needs
+returns-2 c = step-blank (c .before .before .before .before .before .before .before .before .args .r) (c .before .before .before .before .before .before .before .before .args .frame .now) (c .before .before .before .before .before .before .before .before .args .expected .now) (c .before .before .before .before .before .before .before .before .args .known .now) _ _ _ (c .before .before .before .before .before .before .before .before .args .b) _ _ _ (c .before .before .before .before .before .before .before .if1 .left) (c .before .before .before .before .before .before .is-blank .ensures) (c .before .before .before .before .before .if2 .taken) (c .before .close-word2 .ensures) (c .spaced .ensures)
 
 -- src/lines.rt:288:5
 lettered-requires : tie.Need-lettered-requires
@@ -44,7 +46,7 @@ lettered-requires c κs = search needs
 
 -- src/lines.rt:273:1
 returns-3 : tie.Need-returns-3
-returns-3 c = search needs
+returns-3 c = step-letter (c .before .before .before .before .args .r) (c .before .before .before .before .args .frame .now) (c .before .before .before .before .args .expected .now) (c .before .before .before .before .args .known .now) (c .before .before .before .before .args .b) _ _ (c .before .before .before .if1 .left) (c .before .before .is-blank .ensures) (c .before .if2 .left) (c .lettered .ensures)
 
 pub step-spec : {M : Type 1} → statement M
 step-spec =

@@ -1,3 +1,4 @@
+-- The tests are the definition's. Assumes nothing.
 use native.Mathlib.Omega.{arith}
 use borrow.Author.Needs.{needs}
 use Rattle.script.proofs.lines.to_frame.Statement.{statement}
@@ -22,7 +23,7 @@ framed-requires c κs = search needs
 
 -- src/lines.rt:231:1
 returns : tie.Need-returns
-returns c = search needs
+returns c = rw (c .framed .ensures, c .before .sort-of .ensures, c .before .before .has-word .ensures)
 
 pub to-frame-spec : {M : Type 1} → statement M
 to-frame-spec = tie.close (tie.spec has-word-requires sort-of-requires framed-requires returns)

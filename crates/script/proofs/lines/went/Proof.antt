@@ -1,3 +1,4 @@
+-- What the word says, and no word after it. Assumes nothing.
 use native.Mathlib.Omega.{arith}
 use borrow.Author.Needs.{needs}
 use Rattle.script.proofs.lines.went.Statement.{statement}
@@ -17,7 +18,7 @@ heard-requires c κs = search needs
 
 -- src/lines.rt:158:1
 returns : tie.Need-returns
-returns c = search needs
+returns c = rw (c .before .none .ensures, c .heard .ensures)
 
 pub went-spec : {M : Type 1} → statement M
 went-spec = tie.close (tie.spec none-requires heard-requires returns)

@@ -1,3 +1,7 @@
+-- A word is judged, where there is one. Assumes nothing.
+use Rattle.script.specs.Lines.{wordEnded}
+use Rattle.script.proofs.Picks.{picked, passed-over}
+use mathlib.Core.Path.{_∙_}
 use native.Mathlib.Omega.{arith}
 use borrow.Author.Needs.{needs}
 use Rattle.script.proofs.lines.word_ended.Statement.{statement}
@@ -17,11 +21,13 @@ judged-requires c κs = search needs
 
 -- src/lines.rt:213:1
 returns : tie.Need-returns
-returns c = search needs
+unfolding wordEnded
+returns c = c .judged .ensures ∙ picked _ _ (c .before .before .has-word .ensures) (c .before .if1 .taken)
 
 -- src/lines.rt:213:1
 returns-2 : tie.Need-returns-2
-returns-2 c = search needs
+unfolding wordEnded
+returns-2 c = passed-over _ _ (c .before .has-word .ensures) (c .if1 .left)
 
 pub word-ended-spec : {M : Type 1} → statement M
 word-ended-spec = tie.close (tie.spec has-word-requires judged-requires returns returns-2)

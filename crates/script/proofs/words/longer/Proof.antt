@@ -1,3 +1,5 @@
+-- Field by field. Assumes nothing.
+use Rattle.script.specs.Words.{wordWith}
 use native.Mathlib.Omega.{arith}
 use borrow.Author.Needs.{needs}
 use Rattle.script.proofs.words.longer.Statement.{statement}
@@ -37,7 +39,8 @@ hex-after-requires c κs = search needs
 
 -- src/words.rt:112:1
 returns : tie.Need-returns
-returns c = search needs
+unfolding wordWith
+returns c = rw (c .hex-after .ensures, c .before .before .tens .ensures, c .before .before .before .before .key-after .ensures, c .before .before .before .before .before .column-after .ensures, c .before .before .before .before .before .before .length-after .ensures, c .before .before .before .before .before .before .before .digit .ensures)
 
 pub longer-spec : {M : Type 1} → statement M
 longer-spec =
