@@ -14,6 +14,10 @@ use Rattle.script.specs.declared.Sort.{Sort}
 unfoldable pub blank : ℕ → Bool
 blank b = eqb b 0x20 || (eqb b 0x09 || (eqb b 0x0B || (eqb b 0x0C || eqb b 0x0D)))
 
+-- # or a blank
+abbrev pub endsWords : ℕ → Bool
+endsWords b = eqb b 0x23 || blank b
+
 -- what a hex digit stands for: 0 to 9, A to F, a to f; 16 for any other byte
 unfoldable pub digitOf : ℕ → ℕ
 digitOf b =

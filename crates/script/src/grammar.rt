@@ -139,15 +139,16 @@ pub fn where_true(test: bool, place: Place) -> Next
 pub fn follows(place: Place, w: Word) -> Next
     ensures { λ r. ⌜ r ≡ nextOf place w ⌝ }
 {
+    let sort = words::sort_of(w);
     match place {
-        Place::First => first(words::sort_of(w)),
-        Place::Sent => sent(words::sort_of(w)),
+        Place::First => first(sort),
+        Place::Sent => sent(sort),
         Place::ReplyCount => where_true(w.decimal, Place::Replied),
-        Place::Replied => replied(words::sort_of(w)),
-        Place::Expected => expected(words::sort_of(w)),
-        Place::MoreExpected => more_expected(words::sort_of(w)),
+        Place::Replied => replied(sort),
+        Place::Expected => expected(sort),
+        Place::MoreExpected => more_expected(sort),
         Place::Refusal => where_true(w.decimal & (w.number <= 12), Place::End),
-        Place::AfterEvent => after_event(words::sort_of(w)),
+        Place::AfterEvent => after_event(sort),
         Place::CutCount => where_true(w.decimal, Place::AfterEvent),
         Place::DumpPlace => { where_true(w.hexadecimal & (w.length <= 6), Place::DumpCount) }
         Place::DumpCount => where_true(w.decimal, Place::End),
@@ -399,18 +400,24 @@ pub fn heard(place: Place, w: Word, s: Said) -> Said
     ensures { λ r. ⌜ r ≡ saidWith place w s ⌝ }
 {
     let sort = words::sort_of(w);
+    let verb = verb_of(sort);
+    let sent = counted(s.sent, is_byte(sort));
+    let expected = counted(s.expected, is_awaited(sort));
+    let wanted = at_most(w.number, 65537) as usize;
+    let number = at_most(w.number, 12) as u8;
+    let count = at_most(w.number, 2097152);
     match place {
-        Place::First => with_verb(s, verb_of(sort), counted(s.sent, is_byte(sort))),
-        Place::Sent => with_sent(s, counted(s.sent, is_byte(sort))),
-        Place::ReplyCount => with_wanted(s, at_most(w.number, 65537) as usize),
+        Place::First => with_verb(s, verb, sent),
+        Place::Sent => with_sent(s, sent),
+        Place::ReplyCount => with_wanted(s, wanted),
         Place::Replied => s,
-        Place::Expected => with_expected(s, counted(s.expected, true)),
-        Place::MoreExpected => with_expected(s, counted(s.expected, is_awaited(sort))),
-        Place::Refusal => with_number(s, at_most(w.number, 12) as u8),
+        Place::Expected => with_expected(s, expected),
+        Place::MoreExpected => with_expected(s, expected),
+        Place::Refusal => with_number(s, number),
         Place::AfterEvent => s,
         Place::CutCount => with_count(s, w.number),
         Place::DumpPlace => with_start(s, w.hex),
-        Place::DumpCount => with_count(s, at_most(w.number, 2097152)),
+        Place::DumpCount => with_count(s, count),
         Place::End => s,
     }
 }

@@ -16,7 +16,7 @@ ghost use Rattle.script.specs.declared.Next.the-variants.{Stray};
 ghost use Rattle.script.specs.declared.Verb.{Verb};
 ghost use Rattle.script.specs.Words.{oneMore, noWord, sortOf};
 ghost use Rattle.script.specs.Grammar.{isByte, nextOf};
-ghost use Rattle.script.specs.Lines.{passedBy, shownWith, goesOn, afterLetter, afterBlank, afterHash, withMode, wentTo, goes, hasWord, wordEnded, stored, toFrame, toExpected, held, closed, stepped, verbAt, whileOpen, lineOf};
+ghost use Rattle.script.specs.Lines.{passedBy, shownWith, goesOn, blankMore, remarkFrom, takenOpen, isOpen, isWrong, takenByte, closedAt, withMode, wentTo, goes, hasWord, wordEnded, stored, toFrame, toExpected, held, closed, stepped, lineOf};
 
 // ---- one byte
 
@@ -70,18 +70,6 @@ pub fn goes_on(r: Reading, b: u8) -> Reading
     }
 }
 
-// A byte of a word.
-pub fn lettered(r: Reading, b: u8) -> Reading
-    ensures { λ q. ⌜ q ≡ afterLetter r b ⌝ }
-{
-    let mode = r.mode;
-    match mode {
-        Mode::Open => goes_on(r, b),
-        Mode::Remark => passed(r),
-        Mode::Wrong => passed(r),
-    }
-}
-
 // One blank more, at most 2.
 pub fn blank_more(w: Word) -> Word
     ensures { λ q. ⌜ q ≡ noWord (pick (eqb (w .blanks) 0) 1 2) ⌝ }
@@ -93,49 +81,73 @@ pub fn blank_more(w: Word) -> Word
     }
 }
 
-// A blank, no word before it.
-pub fn spaced(r: Reading) -> Reading
-    ensures { λ q. ⌜ q ≡ afterBlank r ⌝ }
+// One blank more, where no word is.
+pub fn blanked(r: Reading) -> Reading
+    ensures { λ q. ⌜ q ≡ blankMore r ⌝ }
 {
-    let mode = r.mode;
     let place = r.place;
     let shown = r.shown;
     let word = r.word;
     let said = r.said;
-    match mode {
-        Mode::Open => Reading {
-            mode: Mode::Open,
-            place,
-            read: words::one_more(r.read),
-            shown,
-            word: blank_more(word),
-            said,
-        },
-        Mode::Remark => passed(r),
-        Mode::Wrong => passed(r),
+    Reading {
+        mode: Mode::Open,
+        place,
+        read: words::one_more(r.read),
+        shown,
+        word: blank_more(word),
+        said,
     }
 }
 
-// A #, no word before it.
-pub fn remarked(r: Reading) -> Reading
-    ensures { λ q. ⌜ q ≡ afterHash r ⌝ }
+// A remark begins, where no word is.
+pub fn remark_from(r: Reading) -> Reading
+    ensures { λ q. ⌜ q ≡ remarkFrom r ⌝ }
 {
-    let mode = r.mode;
     let place = r.place;
     let shown = r.shown;
     let said = r.said;
     let read = words::one_more(r.read);
-    match mode {
-        Mode::Open => Reading {
-            mode: Mode::Remark,
-            place,
-            read,
-            shown,
-            word: words::none_at(read),
-            said,
-        },
-        Mode::Remark => passed(r),
-        Mode::Wrong => passed(r),
+    Reading {
+        mode: Mode::Remark,
+        place,
+        read,
+        shown,
+        word: words::none_at(read),
+        said,
+    }
+}
+
+// A byte after which no word goes on: # or a blank, no word before it; or a byte of a word.
+pub fn taken_open(r: Reading, b: u8) -> Reading
+    ensures { λ q. ⌜ q ≡ takenOpen r b ⌝ }
+{
+    if b == 35 {
+        return remark_from(r);
+    }
+    if words::is_blank(b) {
+        return blanked(r);
+    }
+    goes_on(r, b)
+}
+
+pub fn is_open(m: Mode) -> bool
+    ensures { λ q. ⌜ q ≡ isOpen m ⌝ }
+{
+    match m {
+        Mode::Open => true,
+        Mode::Remark => false,
+        Mode::Wrong => false,
+    }
+}
+
+pub fn taken(r: Reading, b: u8) -> Reading
+    ensures { λ q. ⌜ q ≡ takenByte r b ⌝ }
+{
+    let mode = r.mode;
+    if is_open(mode) {
+        taken_open(r, b)
+    } else {
+        passed(r)
     }
 }
 
@@ -211,11 +223,7 @@ pub fn has_word(r: Reading) -> bool
 {
     let mode = r.mode;
     let word = r.word;
-    match mode {
-        Mode::Open => word.length != 0,
-        Mode::Remark => false,
-        Mode::Wrong => false,
-    }
+    is_open(mode) & (word.length != 0)
 }
 
 // A word's end.
@@ -283,6 +291,22 @@ pub fn close_word(
     word_ended(r)
 }
 
+// The word before this byte is over, where the byte ends words.
+pub fn close_at(
+    r: Reading,
+    b: u8,
+    frame: &mut [u8; 65537],
+    expected: &mut [u8; 65537],
+    known: &mut [u8; 65537],
+) -> Reading
+    ensures { λ q. ⌜ held q (now (frame .exit)) (now (expected .exit)) (now (known .exit)) ≡ closedAt b (held r (now (frame .entry)) (now (expected .entry)) (now (known .entry))) ⌝ }
+{
+    if words::ends_words(b) {
+        return close_word(r, frame, expected, known);
+    }
+    r
+}
+
 pub fn step(
     r: Reading,
     b: u8,
@@ -292,41 +316,36 @@ pub fn step(
 ) -> Reading
     ensures { λ q. ⌜ held q (now (frame .exit)) (now (expected .exit)) (now (known .exit)) ≡ stepped (held r (now (frame .entry)) (now (expected .entry)) (now (known .entry))) b ⌝ }
 {
-    if b == 35 {
-        return remarked(close_word(r, frame, expected, known));
-    }
-    if words::is_blank(b) {
-        return spaced(close_word(r, frame, expected, known));
-    }
-    lettered(r, b)
+    let at = close_at(r, b, frame, expected, known);
+    taken(at, b)
 }
 
 // ---- the line
 
-pub fn verb_at(mode: Mode, place: Place, verb: Verb) -> Verb
-    ensures { λ q. ⌜ q ≡ verbAt mode place verb ⌝ }
+// A mistake, or a line that ends too early, is wrong.
+pub fn verb_at(wrong: bool, ends: bool, verb: Verb) -> Verb
+    ensures { λ q. ⌜ q ≡ pick wrong Verb.Wrong (pick ends verb Verb.Wrong) ⌝ }
 {
-    match mode {
-        Mode::Open => verb_where(grammar::can_end(place), verb),
-        Mode::Remark => verb_where(grammar::can_end(place), verb),
-        Mode::Wrong => Verb::Wrong,
+    if wrong {
+        return Verb::Wrong;
     }
-}
-
-pub fn verb_where(ends: bool, verb: Verb) -> Verb
-    ensures { λ q. ⌜ q ≡ pick ends verb Verb.Wrong ⌝ }
-{
     if ends { verb } else { Verb::Wrong }
 }
 
-pub fn column_at(mode: Mode, column: usize, read: usize) -> usize
-    ensures { λ q. ⌜ q ≡ whileOpen mode (oneMore read) column ⌝ }
+pub fn is_wrong(m: Mode) -> bool
+    ensures { λ q. ⌜ q ≡ isWrong m ⌝ }
 {
-    match mode {
-        Mode::Open => words::one_more(read),
-        Mode::Remark => column,
-        Mode::Wrong => column,
+    match m {
+        Mode::Open => false,
+        Mode::Remark => false,
+        Mode::Wrong => true,
     }
+}
+
+pub fn column_at(goes: bool, column: usize, read: usize) -> usize
+    ensures { λ q. ⌜ q ≡ pick goes (oneMore read) column ⌝ }
+{
+    if goes { words::one_more(read) } else { column }
 }
 
 pub fn line_of(r: Reading) -> Line
@@ -339,7 +358,7 @@ pub fn line_of(r: Reading) -> Line
     let said = r.said;
     let verb = said.verb;
     Line {
-        verb: verb_at(mode, place, verb),
+        verb: verb_at(is_wrong(mode), grammar::can_end(place), verb),
         sent: said.sent,
         wanted: said.wanted,
         expects: said.expects,
@@ -351,6 +370,6 @@ pub fn line_of(r: Reading) -> Line
         place,
         word: shown,
         length: word.length,
-        column: column_at(mode, word.column, r.read),
+        column: column_at(is_open(mode), word.column, r.read),
     }
 }

@@ -6,7 +6,7 @@ ghost use mathlib.Core.Path.{_≡_};
 ghost use Prim.Native.Nat.{_+_, _*_, _%_, _^_, min};
 ghost use lib.Dec.{eqb};
 ghost use Rattle.rules.specs.Words.{pick};
-ghost use Rattle.script.specs.Words.{blank, digitOf, oneMore, tensOf, noWord, noWordAt, wordWith, byKey, sortOf, byteOf};
+ghost use Rattle.script.specs.Words.{blank, endsWords, digitOf, oneMore, tensOf, noWord, noWordAt, wordWith, byKey, sortOf, byteOf};
 
 pub fn smaller(a: usize, b: usize) -> usize
     ensures { λ r. ⌜ r ≡ min a b ⌝ }
@@ -26,6 +26,13 @@ pub fn is_blank(b: u8) -> bool
     ensures { λ r. ⌜ r ≡ blank b ⌝ }
 {
     (b == 32) | ((b == 9) | ((b == 11) | ((b == 12) | (b == 13))))
+}
+
+// # or a blank.
+pub fn ends_words(b: u8) -> bool
+    ensures { λ r. ⌜ r ≡ endsWords b ⌝ }
+{
+    (b == 35) | is_blank(b)
 }
 
 // What a hex digit stands for; 16 for any other byte.
