@@ -4,7 +4,7 @@ use mathlib.Core.Path.{_≡_, sym, ap, _∙_}
 use mathlib.Core.Bool.{Bool, true, false}
 use mathlib.Core.List.{List}
 use Rattle.script.specs.declared.Reading.{Reading}
-use Rattle.script.specs.Words.{endsWords}
+use Rattle.grammar.specs.Words.{endsWords}
 use Rattle.script.specs.Lines.{Held, held, closed, closedAt, takenByte, stepped, wordEnded}
 use Rattle.script.proofs.Picks.{picked, passed-over}
 

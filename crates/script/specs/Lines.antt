@@ -9,14 +9,14 @@ use Rattle.rules.specs.Words.{pick, num}
 use Rattle.script.specs.declared.Line.{Line}
 use Rattle.script.specs.declared.Mode.{Mode}
 use Rattle.script.specs.declared.Mode.the-variants.{Open, Remark, Wrong}
-use Rattle.script.specs.declared.Next.{Next}
-use Rattle.script.specs.declared.Next.the-variants.{To, Stray, Mistake}
-use Rattle.script.specs.declared.Place.{Place}
+use Rattle.grammar.specs.declared.Next.{Next}
+use Rattle.grammar.specs.declared.Next.the-variants.{To, Stray, Mistake}
+use Rattle.grammar.specs.declared.Place.{Place}
 use Rattle.script.specs.declared.Reading.{Reading}
-use Rattle.script.specs.declared.Verb.{Verb}
-use Rattle.script.specs.declared.Word.{Word}
-use Rattle.script.specs.Words.{blank, endsWords, oneMore, noWord, noWordAt, wordWith, sortOf, byteOf}
-use Rattle.script.specs.Grammar.{nothingSaid, nextOf, canEnd, saidWith, ofFrame, ofExpected, isByte}
+use Rattle.grammar.specs.declared.Verb.{Verb}
+use Rattle.grammar.specs.declared.Word.{Word}
+use Rattle.grammar.specs.Words.{blank, endsWords, oneMore, noWord, noWordAt, wordWith, sortOf, byteOf}
+use Rattle.grammar.specs.Grammar.{nothingSaid, nextOf, canEnd, saidWith, ofFrame, ofExpected, isByte}
 
 -- ---- a byte
 

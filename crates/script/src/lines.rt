@@ -1,21 +1,20 @@
 // A line half read, by the byte and by the word. specs/Lines.antt.
 use crate::Line;
 use crate::Mode;
-use crate::Next;
-use crate::Place;
 use crate::Reading;
-use crate::Said;
-use crate::Verb;
-use crate::Word;
-use crate::grammar;
-use crate::words;
+use grammar::Next;
+use grammar::Place;
+use grammar::Verb;
+use grammar::Word;
+use grammar::places;
+use grammar::words;
 ghost use mathlib.Core.Path.{_≡_};
 ghost use lib.Dec.{eqb};
 ghost use Rattle.rules.specs.Words.{pick, num};
-ghost use Rattle.script.specs.declared.Next.the-variants.{Stray};
-ghost use Rattle.script.specs.declared.Verb.{Verb};
-ghost use Rattle.script.specs.Words.{oneMore, noWord, sortOf};
-ghost use Rattle.script.specs.Grammar.{isByte, nextOf};
+ghost use Rattle.grammar.specs.declared.Next.the-variants.{Stray};
+ghost use Rattle.grammar.specs.declared.Verb.{Verb};
+ghost use Rattle.grammar.specs.Words.{oneMore, noWord, sortOf};
+ghost use Rattle.grammar.specs.Grammar.{isByte, nextOf};
 ghost use Rattle.script.specs.Lines.{passedBy, shownWith, goesOn, blankMore, remarkFrom, takenOpen, isOpen, isWrong, takenByte, closedAt, withMode, wentTo, goes, hasWord, wordEnded, stored, toFrame, toExpected, held, closed, stepped, lineOf};
 
 // ---- one byte
@@ -183,7 +182,7 @@ pub fn went(r: Reading, to: Place) -> Reading
         read: r.read,
         shown: [0; 24],
         word: words::none(0),
-        said: grammar::heard(place, word, said),
+        said: places::heard(place, word, said),
     }
 }
 
@@ -214,7 +213,7 @@ pub fn judged(r: Reading) -> Reading
 {
     let place = r.place;
     let word = r.word;
-    went_on(r, grammar::follows(place, word))
+    went_on(r, places::follows(place, word))
 }
 
 // There is a word to judge.
@@ -250,7 +249,7 @@ pub fn to_frame(r: Reading) -> bool
 {
     let place = r.place;
     let word = r.word;
-    has_word(r) & grammar::framed(place, words::sort_of(word))
+    has_word(r) & places::framed(place, words::sort_of(word))
 }
 
 pub fn to_expected(r: Reading) -> bool
@@ -258,14 +257,14 @@ pub fn to_expected(r: Reading) -> bool
 {
     let place = r.place;
     let word = r.word;
-    has_word(r) & grammar::awaited(place, words::sort_of(word))
+    has_word(r) & places::awaited(place, words::sort_of(word))
 }
 
 // 1 for a byte, 0 for ??.
 pub fn known_of(w: Word) -> u8
     ensures { λ q. ⌜ q ≡ num (isByte (sortOf w)) ⌝ }
 {
-    if grammar::is_byte(words::sort_of(w)) {
+    if places::is_byte(words::sort_of(w)) {
         1
     } else {
         0
@@ -358,7 +357,7 @@ pub fn line_of(r: Reading) -> Line
     let said = r.said;
     let verb = said.verb;
     Line {
-        verb: verb_at(is_wrong(mode), grammar::can_end(place), verb),
+        verb: verb_at(is_wrong(mode), places::can_end(place), verb),
         sent: said.sent,
         wanted: said.wanted,
         expects: said.expects,

@@ -11,7 +11,7 @@ use Rattle.script.proofs.read.Tie as tie
 use Rattle.script.proofs.read.Reads as reads
 use Rattle.script.proofs.read.Lts as lts
 use Rattle.script.proofs.lines.step.Reads as step-reads
-use Rattle.script.proofs.words.smaller.Reads as smaller-reads
+use Rattle.grammar.proofs.words.smaller.Reads as smaller-reads
 
 abbrev Inv-loop : tie.InvT-loop
 Inv-loop text from to frame₀ expected₀ known₀ end now₀ i₀ frame expected known now i = record { ends : end ≡ min to (length text); is : readOn (held now frame expected known) (part i to text) ≡ readOn (held now₀ frame₀ expected₀ known₀) (part from to text) }

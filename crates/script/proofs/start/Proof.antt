@@ -5,8 +5,8 @@ use Rattle.script.proofs.start.Statement.{statement}
 use Rattle.script.proofs.start.Tie as tie
 use Rattle.script.proofs.start.Reads as reads
 use Rattle.script.proofs.start.Lts as lts
-use Rattle.script.proofs.grammar.nothing.Reads as nothing-reads
-use Rattle.script.proofs.words.none.Reads as none-reads
+use Rattle.grammar.proofs.places.nothing.Reads as nothing-reads
+use Rattle.grammar.proofs.words.none.Reads as none-reads
 
 -- src/lib.rt:172:15
 none-requires : tie.Need-none-requires

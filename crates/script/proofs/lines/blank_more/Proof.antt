@@ -6,7 +6,7 @@ use Rattle.script.proofs.lines.blank_more.Statement.{statement}
 use Rattle.script.proofs.lines.blank_more.Tie as tie
 use Rattle.script.proofs.lines.blank_more.Reads as reads
 use Rattle.script.proofs.lines.blank_more.Lts as lts
-use Rattle.script.proofs.words.none.Reads as none-reads
+use Rattle.grammar.proofs.words.none.Reads as none-reads
 
 -- src/lines.rt:90:9
 none-requires : tie.Need-none-requires

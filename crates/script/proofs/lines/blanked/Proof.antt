@@ -6,7 +6,7 @@ use Rattle.script.proofs.lines.blanked.Tie as tie
 use Rattle.script.proofs.lines.blanked.Reads as reads
 use Rattle.script.proofs.lines.blanked.Lts as lts
 use Rattle.script.proofs.lines.blank_more.Reads as blank-more-reads
-use Rattle.script.proofs.words.one_more.Reads as one-more-reads
+use Rattle.grammar.proofs.words.one_more.Reads as one-more-reads
 
 -- src/lines.rt:95:15
 one-more-requires : tie.Need-one-more-requires

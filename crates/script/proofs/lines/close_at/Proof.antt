@@ -8,7 +8,7 @@ use Rattle.script.proofs.lines.close_at.Tie as tie
 use Rattle.script.proofs.lines.close_at.Reads as reads
 use Rattle.script.proofs.lines.close_at.Lts as lts
 use Rattle.script.proofs.lines.close_word.Reads as close-word-reads
-use Rattle.script.proofs.words.ends_words.Reads as ends-words-reads
+use Rattle.grammar.proofs.words.ends_words.Reads as ends-words-reads
 
 -- src/lines.rt:304:8
 ends-words-requires : tie.Need-ends-words-requires

@@ -11,7 +11,7 @@ use Rattle.script.proofs.lines.store.Reads as store-reads
 use Rattle.script.proofs.lines.to_expected.Reads as to-expected-reads
 use Rattle.script.proofs.lines.to_frame.Reads as to-frame-reads
 use Rattle.script.proofs.lines.word_ended.Reads as word-ended-reads
-use Rattle.script.proofs.words.byte_of.Reads as byte-of-reads
+use Rattle.grammar.proofs.words.byte_of.Reads as byte-of-reads
 
 -- src/lines.rt:265:9
 byte-of-requires : tie.Need-byte-of-requires

@@ -5,7 +5,7 @@ use Rattle.script.proofs.lines.column_at.Statement.{statement}
 use Rattle.script.proofs.lines.column_at.Tie as tie
 use Rattle.script.proofs.lines.column_at.Reads as reads
 use Rattle.script.proofs.lines.column_at.Lts as lts
-use Rattle.script.proofs.words.one_more.Reads as one-more-reads
+use Rattle.grammar.proofs.words.one_more.Reads as one-more-reads
 
 -- src/lines.rt:348:15
 one-more-requires : tie.Need-one-more-requires

@@ -6,8 +6,8 @@ use Rattle.script.proofs.lines.goes_on.Tie as tie
 use Rattle.script.proofs.lines.goes_on.Reads as reads
 use Rattle.script.proofs.lines.goes_on.Lts as lts
 use Rattle.script.proofs.lines.shown_with.Reads as shown-with-reads
-use Rattle.script.proofs.words.longer.Reads as longer-reads
-use Rattle.script.proofs.words.one_more.Reads as one-more-reads
+use Rattle.grammar.proofs.words.longer.Reads as longer-reads
+use Rattle.grammar.proofs.words.one_more.Reads as one-more-reads
 
 -- src/lines.rt:61:9
 one-more-requires : tie.Need-one-more-requires

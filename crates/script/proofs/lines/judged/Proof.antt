@@ -7,7 +7,7 @@ use Rattle.script.proofs.lines.judged.Statement.{statement}
 use Rattle.script.proofs.lines.judged.Tie as tie
 use Rattle.script.proofs.lines.judged.Reads as reads
 use Rattle.script.proofs.lines.judged.Lts as lts
-use Rattle.script.proofs.grammar.follows.Reads as follows-reads
+use Rattle.grammar.proofs.places.follows.Reads as follows-reads
 use Rattle.script.proofs.lines.went_on.Reads as went-on-reads
 
 -- src/lines.rt:205:16

@@ -1,5 +1,5 @@
 -- By the word's sort. Assumes nothing.
-use Rattle.script.specs.Grammar.{isByte}
+use Rattle.grammar.specs.Grammar.{isByte}
 use Rattle.rules.specs.Words.{num}
 use mathlib.Core.Path.{sym, ap, _∙_}
 use native.Mathlib.Omega.{arith}
@@ -8,8 +8,8 @@ use Rattle.script.proofs.lines.known_of.Statement.{statement}
 use Rattle.script.proofs.lines.known_of.Tie as tie
 use Rattle.script.proofs.lines.known_of.Reads as reads
 use Rattle.script.proofs.lines.known_of.Lts as lts
-use Rattle.script.proofs.grammar.is_byte.Reads as is-byte-reads
-use Rattle.script.proofs.words.sort_of.Reads as sort-of-reads
+use Rattle.grammar.proofs.places.is_byte.Reads as is-byte-reads
+use Rattle.grammar.proofs.words.sort_of.Reads as sort-of-reads
 
 -- src/lines.rt:255:25
 sort-of-requires : tie.Need-sort-of-requires

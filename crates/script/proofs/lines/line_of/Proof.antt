@@ -6,7 +6,7 @@ use Rattle.script.proofs.lines.line_of.Statement.{statement}
 use Rattle.script.proofs.lines.line_of.Tie as tie
 use Rattle.script.proofs.lines.line_of.Reads as reads
 use Rattle.script.proofs.lines.line_of.Lts as lts
-use Rattle.script.proofs.grammar.can_end.Reads as can-end-reads
+use Rattle.grammar.proofs.places.can_end.Reads as can-end-reads
 use Rattle.script.proofs.lines.column_at.Reads as column-at-reads
 use Rattle.script.proofs.lines.is_open.Reads as is-open-reads
 use Rattle.script.proofs.lines.is_wrong.Reads as is-wrong-reads

@@ -5,8 +5,8 @@ use Rattle.script.proofs.lines.remark_from.Statement.{statement}
 use Rattle.script.proofs.lines.remark_from.Tie as tie
 use Rattle.script.proofs.lines.remark_from.Reads as reads
 use Rattle.script.proofs.lines.remark_from.Lts as lts
-use Rattle.script.proofs.words.none_at.Reads as none-at-reads
-use Rattle.script.proofs.words.one_more.Reads as one-more-reads
+use Rattle.grammar.proofs.words.none_at.Reads as none-at-reads
+use Rattle.grammar.proofs.words.one_more.Reads as one-more-reads
 
 -- src/lines.rt:109:9
 one-more-requires : tie.Need-one-more-requires

@@ -12,7 +12,7 @@ use Rattle.script.proofs.lines.taken_open.Lts as lts
 use Rattle.script.proofs.lines.blanked.Reads as blanked-reads
 use Rattle.script.proofs.lines.goes_on.Reads as goes-on-reads
 use Rattle.script.proofs.lines.remark_from.Reads as remark-from-reads
-use Rattle.script.proofs.words.is_blank.Reads as is-blank-reads
+use Rattle.grammar.proofs.words.is_blank.Reads as is-blank-reads
 
 -- src/lines.rt:125:9
 remark-from-requires : tie.Need-remark-from-requires

@@ -5,9 +5,9 @@ use Rattle.script.proofs.lines.to_expected.Statement.{statement}
 use Rattle.script.proofs.lines.to_expected.Tie as tie
 use Rattle.script.proofs.lines.to_expected.Reads as reads
 use Rattle.script.proofs.lines.to_expected.Lts as lts
-use Rattle.script.proofs.grammar.awaited.Reads as awaited-reads
+use Rattle.grammar.proofs.places.awaited.Reads as awaited-reads
 use Rattle.script.proofs.lines.has_word.Reads as has-word-reads
-use Rattle.script.proofs.words.sort_of.Reads as sort-of-reads
+use Rattle.grammar.proofs.words.sort_of.Reads as sort-of-reads
 
 -- src/lines.rt:244:5
 has-word-requires : tie.Need-has-word-requires

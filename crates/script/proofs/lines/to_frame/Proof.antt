@@ -5,9 +5,9 @@ use Rattle.script.proofs.lines.to_frame.Statement.{statement}
 use Rattle.script.proofs.lines.to_frame.Tie as tie
 use Rattle.script.proofs.lines.to_frame.Reads as reads
 use Rattle.script.proofs.lines.to_frame.Lts as lts
-use Rattle.script.proofs.grammar.framed.Reads as framed-reads
+use Rattle.grammar.proofs.places.framed.Reads as framed-reads
 use Rattle.script.proofs.lines.has_word.Reads as has-word-reads
-use Rattle.script.proofs.words.sort_of.Reads as sort-of-reads
+use Rattle.grammar.proofs.words.sort_of.Reads as sort-of-reads
 
 -- src/lines.rt:236:5
 has-word-requires : tie.Need-has-word-requires

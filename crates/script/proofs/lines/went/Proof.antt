@@ -5,8 +5,8 @@ use Rattle.script.proofs.lines.went.Statement.{statement}
 use Rattle.script.proofs.lines.went.Tie as tie
 use Rattle.script.proofs.lines.went.Reads as reads
 use Rattle.script.proofs.lines.went.Lts as lts
-use Rattle.script.proofs.grammar.heard.Reads as heard-reads
-use Rattle.script.proofs.words.none.Reads as none-reads
+use Rattle.grammar.proofs.places.heard.Reads as heard-reads
+use Rattle.grammar.proofs.words.none.Reads as none-reads
 
 -- src/lines.rt:169:15
 none-requires : tie.Need-none-requires
