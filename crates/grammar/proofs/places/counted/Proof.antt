@@ -3,22 +3,16 @@ use native.Mathlib.Omega.{arith}
 use borrow.Author.Needs.{needs}
 use Rattle.grammar.proofs.places.counted.Statement.{statement}
 use Rattle.grammar.proofs.places.counted.Tie as tie
-use Rattle.grammar.proofs.places.counted.Reads as reads
-use Rattle.grammar.proofs.places.counted.Lts as lts
 
--- src/grammar.rt:276:24
 add-result : tie.Need-add-result
 add-result c = search needs
 
--- src/grammar.rt:272:1
 returns : tie.Need-returns
 returns c = rw (c .before .if1 .taken) (omega arith)
 
--- src/grammar.rt:272:1
 returns-2 : tie.Need-returns-2
 returns-2 c = rw (c .before .if1 .taken) (omega arith)
 
--- src/grammar.rt:272:1
 returns-3 : tie.Need-returns-3
 returns-3 c = search needs
 

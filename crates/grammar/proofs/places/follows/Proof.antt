@@ -1,161 +1,114 @@
 -- By the place, with its row or its number. Assumes nothing.
 use mathlib.Core.Path.{sym}
-use native.Mathlib.Omega.{arith}
 use borrow.Author.Needs.{needs}
 use Rattle.grammar.proofs.places.follows.Statement.{statement}
 use Rattle.grammar.proofs.places.follows.Tie as tie
-use Rattle.grammar.proofs.places.follows.Reads as reads
-use Rattle.grammar.proofs.places.follows.Lts as lts
-use Rattle.grammar.proofs.places.after_event.Reads as after-event-reads
-use Rattle.grammar.proofs.places.expected.Reads as expected-reads
-use Rattle.grammar.proofs.places.first.Reads as first-reads
-use Rattle.grammar.proofs.places.more_expected.Reads as more-expected-reads
-use Rattle.grammar.proofs.places.replied.Reads as replied-reads
-use Rattle.grammar.proofs.places.sent.Reads as sent-reads
-use Rattle.grammar.proofs.places.where_true.Reads as where-true-reads
-use Rattle.grammar.proofs.words.sort_of.Reads as sort-of-reads
 
--- src/grammar.rt:142:9
 sort-of-requires : tie.Need-sort-of-requires
 sort-of-requires c κs = search needs
 
--- src/grammar.rt:144:25
 enum-told : tie.Need-enum-told
 enum-told c = search needs
 
--- src/grammar.rt:144:25
 first-requires : tie.Need-first-requires
 first-requires c κs = search needs
 
--- src/grammar.rt:145:24
 enum-told-2 : tie.Need-enum-told-2
 enum-told-2 c = search needs
 
--- src/grammar.rt:145:24
 sent-requires : tie.Need-sent-requires
 sent-requires c κs = search needs
 
--- src/grammar.rt:146:52
 enum-told-3 : tie.Need-enum-told-3
 enum-told-3 c = search needs
 
--- src/grammar.rt:146:30
 where-true-requires : tie.Need-where-true-requires
 where-true-requires c κs = search needs
 
--- src/grammar.rt:147:27
 enum-told-4 : tie.Need-enum-told-4
 enum-told-4 c = search needs
 
--- src/grammar.rt:147:27
 replied-requires : tie.Need-replied-requires
 replied-requires c κs = search needs
 
--- src/grammar.rt:148:28
 enum-told-5 : tie.Need-enum-told-5
 enum-told-5 c = search needs
 
--- src/grammar.rt:148:28
 expected-requires : tie.Need-expected-requires
 expected-requires c κs = search needs
 
--- src/grammar.rt:149:32
 enum-told-6 : tie.Need-enum-told-6
 enum-told-6 c = search needs
 
--- src/grammar.rt:149:32
 more-expected-requires : tie.Need-more-expected-requires
 more-expected-requires c κs = search needs
 
--- src/grammar.rt:150:51
 enum-told-7 : tie.Need-enum-told-7
 enum-told-7 c = search needs
 
--- src/grammar.rt:150:27
 where-true-requires-2 : tie.Need-where-true-requires-2
 where-true-requires-2 c κs = search needs
 
--- src/grammar.rt:151:30
 enum-told-8 : tie.Need-enum-told-8
 enum-told-8 c = search needs
 
--- src/grammar.rt:151:30
 after-event-requires : tie.Need-after-event-requires
 after-event-requires c κs = search needs
 
--- src/grammar.rt:152:50
 enum-told-9 : tie.Need-enum-told-9
 enum-told-9 c = search needs
 
--- src/grammar.rt:152:28
 where-true-requires-3 : tie.Need-where-true-requires-3
 where-true-requires-3 c κs = search needs
 
--- src/grammar.rt:153:59
 enum-told-10 : tie.Need-enum-told-10
 enum-told-10 c = search needs
 
--- src/grammar.rt:153:31
 where-true-requires-4 : tie.Need-where-true-requires-4
 where-true-requires-4 c κs = search needs
 
--- src/grammar.rt:154:51
 enum-told-11 : tie.Need-enum-told-11
 enum-told-11 c = search needs
 
--- src/grammar.rt:154:29
 where-true-requires-5 : tie.Need-where-true-requires-5
 where-true-requires-5 c κs = search needs
 
--- src/grammar.rt:155:23
 enum-told-12 : tie.Need-enum-told-12
 enum-told-12 c = search needs
 
--- src/grammar.rt:139:1
 returns : tie.Need-returns
 returns c = rw (c .before .enum-told .given .1, sym (c .before .before .before .sort-of .ensures)) (c .first .ensures)
 
--- src/grammar.rt:139:1
 returns-2 : tie.Need-returns-2
 returns-2 c = rw (c .before .enum-told2 .given .1, sym (c .before .before .before .sort-of .ensures)) (c .sent .ensures)
 
--- src/grammar.rt:139:1
 returns-3 : tie.Need-returns-3
 returns-3 c = rw (c .before .enum-told3 .given .1) (c .where-true .ensures)
 
--- src/grammar.rt:139:1
 returns-4 : tie.Need-returns-4
 returns-4 c = rw (c .before .enum-told4 .given .1, sym (c .before .before .before .sort-of .ensures)) (c .replied .ensures)
 
--- src/grammar.rt:139:1
 returns-5 : tie.Need-returns-5
 returns-5 c = rw (c .before .enum-told5 .given .1, sym (c .before .before .before .sort-of .ensures)) (c .expected .ensures)
 
--- src/grammar.rt:139:1
 returns-6 : tie.Need-returns-6
 returns-6 c = rw (c .before .enum-told6 .given .1, sym (c .before .before .before .sort-of .ensures)) (c .more-expected .ensures)
 
--- src/grammar.rt:139:1
 returns-7 : tie.Need-returns-7
 returns-7 c = rw (c .before .before .before .enum-told7 .given .1) (c .where-true2 .ensures)
 
--- src/grammar.rt:139:1
 returns-8 : tie.Need-returns-8
 returns-8 c = rw (c .before .enum-told8 .given .1, sym (c .before .before .before .sort-of .ensures)) (c .after-event .ensures)
 
--- src/grammar.rt:139:1
 returns-9 : tie.Need-returns-9
 returns-9 c = rw (c .before .enum-told9 .given .1) (c .where-true3 .ensures)
 
--- src/grammar.rt:139:1
 returns-10 : tie.Need-returns-10
 returns-10 c = rw (c .before .before .before .enum-told10 .given .1) (c .where-true4 .ensures)
 
--- src/grammar.rt:139:1
 returns-11 : tie.Need-returns-11
 returns-11 c = rw (c .before .enum-told11 .given .1) (c .where-true5 .ensures)
 
--- src/grammar.rt:139:1
 returns-12 : tie.Need-returns-12
 returns-12 c = rw (c .enum-told12 .given .1)
 

@@ -4,191 +4,133 @@ use native.Mathlib.Omega.{arith}
 use borrow.Author.Needs.{needs}
 use Rattle.grammar.proofs.places.heard.Statement.{statement}
 use Rattle.grammar.proofs.places.heard.Tie as tie
-use Rattle.grammar.proofs.places.heard.Reads as reads
-use Rattle.grammar.proofs.places.heard.Lts as lts
-use Rattle.grammar.proofs.places.at_most.Reads as at-most-reads
-use Rattle.grammar.proofs.places.counted.Reads as counted-reads
-use Rattle.grammar.proofs.places.is_awaited.Reads as is-awaited-reads
-use Rattle.grammar.proofs.places.is_byte.Reads as is-byte-reads
-use Rattle.grammar.proofs.places.verb_of.Reads as verb-of-reads
-use Rattle.grammar.proofs.places.with_count.Reads as with-count-reads
-use Rattle.grammar.proofs.places.with_expected.Reads as with-expected-reads
-use Rattle.grammar.proofs.places.with_number.Reads as with-number-reads
-use Rattle.grammar.proofs.places.with_sent.Reads as with-sent-reads
-use Rattle.grammar.proofs.places.with_start.Reads as with-start-reads
-use Rattle.grammar.proofs.places.with_verb.Reads as with-verb-reads
-use Rattle.grammar.proofs.places.with_wanted.Reads as with-wanted-reads
-use Rattle.grammar.proofs.words.sort_of.Reads as sort-of-reads
 
--- src/grammar.rt:402:9
 sort-of-requires : tie.Need-sort-of-requires
 sort-of-requires c κs = search needs
 
--- src/grammar.rt:403:9
 verb-of-requires : tie.Need-verb-of-requires
 verb-of-requires c κs = search needs
 
--- src/grammar.rt:404:32
 is-byte-requires : tie.Need-is-byte-requires
 is-byte-requires c κs = search needs
 
--- src/grammar.rt:404:9
 counted-requires : tie.Need-counted-requires
 counted-requires c κs = search needs
 
--- src/grammar.rt:405:40
 is-awaited-requires : tie.Need-is-awaited-requires
 is-awaited-requires c κs = search needs
 
--- src/grammar.rt:405:9
 counted-requires-2 : tie.Need-counted-requires-2
 counted-requires-2 c κs = search needs
 
--- src/grammar.rt:406:18
 at-most-requires : tie.Need-at-most-requires
 at-most-requires c κs = search needs
 
--- src/grammar.rt:407:18
 at-most-requires-2 : tie.Need-at-most-requires-2
 at-most-requires-2 c κs = search needs
 
--- src/grammar.rt:407:18
 cast-number : tie.Need-cast-number
 cast-number c = let h = c .at-most2 .ensures in omega arith
 
--- src/grammar.rt:408:9
 at-most-requires-3 : tie.Need-at-most-requires-3
 at-most-requires-3 c κs = search needs
 
--- src/grammar.rt:410:25
 enum-told : tie.Need-enum-told
 enum-told c = search needs
 
--- src/grammar.rt:410:25
 with-verb-requires : tie.Need-with-verb-requires
 with-verb-requires c κs = search needs
 
--- src/grammar.rt:411:24
 enum-told-2 : tie.Need-enum-told-2
 enum-told-2 c = search needs
 
--- src/grammar.rt:411:24
 with-sent-requires : tie.Need-with-sent-requires
 with-sent-requires c κs = search needs
 
--- src/grammar.rt:412:30
 enum-told-3 : tie.Need-enum-told-3
 enum-told-3 c = search needs
 
--- src/grammar.rt:412:30
 with-wanted-requires : tie.Need-with-wanted-requires
 with-wanted-requires c κs = search needs
 
--- src/grammar.rt:413:27
 enum-told-4 : tie.Need-enum-told-4
 enum-told-4 c = search needs
 
--- src/grammar.rt:414:28
 enum-told-5 : tie.Need-enum-told-5
 enum-told-5 c = search needs
 
--- src/grammar.rt:414:28
 with-expected-requires : tie.Need-with-expected-requires
 with-expected-requires c κs = search needs
 
--- src/grammar.rt:415:32
 enum-told-6 : tie.Need-enum-told-6
 enum-told-6 c = search needs
 
--- src/grammar.rt:415:32
 with-expected-requires-2 : tie.Need-with-expected-requires-2
 with-expected-requires-2 c κs = search needs
 
--- src/grammar.rt:416:27
 enum-told-7 : tie.Need-enum-told-7
 enum-told-7 c = search needs
 
--- src/grammar.rt:416:27
 with-number-requires : tie.Need-with-number-requires
 with-number-requires c κs = search needs
 
--- src/grammar.rt:417:30
 enum-told-8 : tie.Need-enum-told-8
 enum-told-8 c = search needs
 
--- src/grammar.rt:418:28
 enum-told-9 : tie.Need-enum-told-9
 enum-told-9 c = search needs
 
--- src/grammar.rt:418:28
 with-count-requires : tie.Need-with-count-requires
 with-count-requires c κs = search needs
 
--- src/grammar.rt:419:29
 enum-told-10 : tie.Need-enum-told-10
 enum-told-10 c = search needs
 
--- src/grammar.rt:419:29
 with-start-requires : tie.Need-with-start-requires
 with-start-requires c κs = search needs
 
--- src/grammar.rt:420:29
 enum-told-11 : tie.Need-enum-told-11
 enum-told-11 c = search needs
 
--- src/grammar.rt:420:29
 with-count-requires-2 : tie.Need-with-count-requires-2
 with-count-requires-2 c κs = search needs
 
--- src/grammar.rt:421:23
 enum-told-12 : tie.Need-enum-told-12
 enum-told-12 c = search needs
 
--- src/grammar.rt:399:1
 returns : tie.Need-returns
 returns c = c .with-verb .ensures ∙ rw (c .before .before .before .before .before .before .before .before .before .before .verb-of .ensures, c .before .before .before .before .before .before .before .before .counted .ensures, c .before .before .before .before .before .before .before .before .before .is-byte .ensures, c .before .before .before .before .before .before .before .before .before .before .before .sort-of .ensures, c .before .enum-told .given .1)
 
--- src/grammar.rt:399:1
 returns-2 : tie.Need-returns-2
 returns-2 c = c .with-sent .ensures ∙ rw (c .before .before .before .before .before .before .before .before .counted .ensures, c .before .before .before .before .before .before .before .before .before .is-byte .ensures, c .before .before .before .before .before .before .before .before .before .before .before .sort-of .ensures, c .before .enum-told2 .given .1)
 
--- src/grammar.rt:399:1
 returns-3 : tie.Need-returns-3
 returns-3 c = c .with-wanted .ensures ∙ rw (c .before .before .before .before .before .at-most .ensures, c .before .enum-told3 .given .1)
 
--- src/grammar.rt:399:1
 returns-4 : tie.Need-returns-4
 returns-4 c = rw (c .enum-told4 .given .1)
 
--- src/grammar.rt:399:1
 returns-5 : tie.Need-returns-5
 returns-5 c = c .with-expected .ensures ∙ rw (c .before .before .before .before .before .before .counted2 .ensures, c .before .before .before .before .before .before .before .is-awaited .ensures, c .before .before .before .before .before .before .before .before .before .before .before .sort-of .ensures, c .before .enum-told5 .given .1)
 
--- src/grammar.rt:399:1
 returns-6 : tie.Need-returns-6
 returns-6 c = c .with-expected2 .ensures ∙ rw (c .before .before .before .before .before .before .counted2 .ensures, c .before .before .before .before .before .before .before .is-awaited .ensures, c .before .before .before .before .before .before .before .before .before .before .before .sort-of .ensures, c .before .enum-told6 .given .1)
 
--- src/grammar.rt:399:1
 returns-7 : tie.Need-returns-7
 returns-7 c = c .with-number .ensures ∙ rw (c .before .before .before .before .at-most2 .ensures, c .before .enum-told7 .given .1)
 
--- src/grammar.rt:399:1
 returns-8 : tie.Need-returns-8
 returns-8 c = rw (c .enum-told8 .given .1)
 
--- src/grammar.rt:399:1
 returns-9 : tie.Need-returns-9
 returns-9 c = c .with-count .ensures ∙ rw (c .before .enum-told9 .given .1)
 
--- src/grammar.rt:399:1
 returns-10 : tie.Need-returns-10
 returns-10 c = c .with-start .ensures ∙ rw (c .before .enum-told10 .given .1)
 
--- src/grammar.rt:399:1
 returns-11 : tie.Need-returns-11
 returns-11 c = c .with-count2 .ensures ∙ rw (c .before .before .before .at-most3 .ensures, c .before .enum-told11 .given .1)
 
--- src/grammar.rt:399:1
 returns-12 : tie.Need-returns-12
 returns-12 c = rw (c .enum-told12 .given .1)
 

@@ -1,16 +1,11 @@
 -- The test picks the place. Assumes nothing.
-use native.Mathlib.Omega.{arith}
 use borrow.Author.Needs.{needs}
 use Rattle.grammar.proofs.places.where_true.Statement.{statement}
 use Rattle.grammar.proofs.places.where_true.Tie as tie
-use Rattle.grammar.proofs.places.where_true.Reads as reads
-use Rattle.grammar.proofs.places.where_true.Lts as lts
 
--- src/grammar.rt:133:1
 returns : tie.Need-returns
 returns c = rw (c .if1 .taken)
 
--- src/grammar.rt:133:1
 returns-2 : tie.Need-returns-2
 returns-2 c = search needs
 

@@ -1,14 +1,9 @@
 -- The tests are the definition's. Assumes nothing.
 use Rattle.grammar.specs.Words.{blank}
 use mathlib.Core.Path.{refl}
-use borrow.Author.Needs.{needs}
-use native.Mathlib.Omega.{arith}
 use Rattle.grammar.proofs.words.is_blank.Statement.{statement}
 use Rattle.grammar.proofs.words.is_blank.Tie as tie
-use Rattle.grammar.proofs.words.is_blank.Reads as reads
-use Rattle.grammar.proofs.words.is_blank.Lts as lts
 
--- src/words.rt:25:1
 returns : tie.Need-returns
 unfolding blank
 returns c = refl

@@ -1,28 +1,19 @@
 -- By whether the byte ends words. Assumes nothing.
 use Rattle.script.proofs.Steps.{closed-at, kept-at}
 use Rattle.script.specs.Lines.{held}
-use native.Mathlib.Omega.{arith}
 use borrow.Author.Needs.{needs}
 use Rattle.script.proofs.lines.close_at.Statement.{statement}
 use Rattle.script.proofs.lines.close_at.Tie as tie
-use Rattle.script.proofs.lines.close_at.Reads as reads
-use Rattle.script.proofs.lines.close_at.Lts as lts
-use Rattle.script.proofs.lines.close_word.Reads as close-word-reads
-use Rattle.grammar.proofs.words.ends_words.Reads as ends-words-reads
 
--- src/lines.rt:304:8
 ends-words-requires : tie.Need-ends-words-requires
 ends-words-requires c κs = search needs
 
--- src/lines.rt:305:9
 close-word-requires : tie.Need-close-word-requires
 close-word-requires c κs = search needs
 
--- src/lines.rt:305:9
 returns : tie.Need-returns
 returns c = closed-at (c .before .before .before .before .before .before .args .b) (held (c .before .before .before .before .before .before .args .r) (c .before .before .before .before .before .before .args .frame .now) (c .before .before .before .before .before .before .args .expected .now) (c .before .before .before .before .before .before .args .known .now)) _ _ (c .before .before .before .before .before .ends-words .ensures) (c .before .before .before .before .if1 .taken) (c .close-word .ensures)
 
--- src/lines.rt:295:1
 returns-2 : tie.Need-returns-2
 returns-2 c = kept-at (c .before .before .args .b) (held (c .before .before .args .r) (c .before .before .args .frame .now) (c .before .before .args .expected .now) (c .before .before .args .known .now)) _ (c .before .ends-words .ensures) (c .if1 .left)
 
