@@ -116,7 +116,7 @@ pub fn remark_from(r: Reading) -> Reading
     }
 }
 
-// A byte after which no word goes on: # or a blank, no word before it; or a byte of a word.
+// A byte while the line is open: # or a blank, where no word is, or a byte of a word.
 pub fn taken_open(r: Reading, b: u8) -> Reading
     ensures { λ q. ⌜ q ≡ takenOpen r b ⌝ }
 {
