@@ -28,7 +28,7 @@ pub fn nothing() -> Said
 
 // ---- what may follow
 
-pub fn first(s: Sort) -> Next
+fn first(s: Sort) -> Next
     ensures { λ r. ⌜ r ≡ afterNothing s ⌝ }
 {
     match s {
@@ -45,7 +45,7 @@ pub fn first(s: Sort) -> Next
     }
 }
 
-pub fn sent(s: Sort) -> Next
+fn sent(s: Sort) -> Next
     ensures { λ r. ⌜ r ≡ afterSent s ⌝ }
 {
     match s {
@@ -62,7 +62,7 @@ pub fn sent(s: Sort) -> Next
     }
 }
 
-pub fn replied(s: Sort) -> Next
+fn replied(s: Sort) -> Next
     ensures { λ r. ⌜ r ≡ afterReplied s ⌝ }
 {
     match s {
@@ -79,7 +79,7 @@ pub fn replied(s: Sort) -> Next
     }
 }
 
-pub fn expected(s: Sort) -> Next
+fn expected(s: Sort) -> Next
     ensures { λ r. ⌜ r ≡ afterExpect s ⌝ }
 {
     match s {
@@ -96,7 +96,7 @@ pub fn expected(s: Sort) -> Next
     }
 }
 
-pub fn more_expected(s: Sort) -> Next
+fn more_expected(s: Sort) -> Next
     ensures { λ r. ⌜ r ≡ afterExpected s ⌝ }
 {
     match s {
@@ -113,7 +113,7 @@ pub fn more_expected(s: Sort) -> Next
     }
 }
 
-pub fn after_event(s: Sort) -> Next
+fn after_event(s: Sort) -> Next
     ensures { λ r. ⌜ r ≡ afterEvent s ⌝ }
 {
     match s {
@@ -130,7 +130,7 @@ pub fn after_event(s: Sort) -> Next
     }
 }
 
-pub fn where_true(test: bool, place: Place) -> Next
+fn where_true(test: bool, place: Place) -> Next
     ensures { λ r. ⌜ r ≡ whereTrue test place ⌝ }
 {
     if test { Next::To(place) } else { Next::Mistake }
@@ -195,7 +195,7 @@ pub fn is_byte(s: Sort) -> bool
     }
 }
 
-pub fn is_awaited(s: Sort) -> bool
+fn is_awaited(s: Sort) -> bool
     ensures { λ r. ⌜ r ≡ isExpected s ⌝ }
 {
     match s {
@@ -212,7 +212,7 @@ pub fn is_awaited(s: Sort) -> bool
     }
 }
 
-pub fn verb_of(s: Sort) -> Verb
+fn verb_of(s: Sort) -> Verb
     ensures { λ r. ⌜ r ≡ verbOf s ⌝ }
 {
     match s {
@@ -270,7 +270,7 @@ pub fn awaited(place: Place, s: Sort) -> bool
 }
 
 // One more where the test holds, at most 65,537.
-pub fn counted(n: usize, test: bool) -> usize
+fn counted(n: usize, test: bool) -> usize
     ensures { λ r. ⌜ r ≡ countOf n test ⌝ }
 {
     if test {
@@ -281,13 +281,13 @@ pub fn counted(n: usize, test: bool) -> usize
 }
 
 // At most that many.
-pub fn at_most(n: u64, most: u64) -> u64
+fn at_most(n: u64, most: u64) -> u64
     ensures { λ r. ⌜ r ≡ min n most ⌝ }
 {
     if n < most { n } else { most }
 }
 
-pub fn with_verb(s: Said, verb: Verb, sent: usize) -> Said
+fn with_verb(s: Said, verb: Verb, sent: usize) -> Said
     ensures { λ r. ⌜ r ≡ withVerb verb sent s ⌝ }
 {
     Said {
@@ -303,14 +303,14 @@ pub fn with_verb(s: Said, verb: Verb, sent: usize) -> Said
     }
 }
 
-pub fn with_sent(s: Said, sent: usize) -> Said
+fn with_sent(s: Said, sent: usize) -> Said
     ensures { λ r. ⌜ r ≡ withVerb (s .verb) sent s ⌝ }
 {
     let verb = s.verb;
     with_verb(s, verb, sent)
 }
 
-pub fn with_wanted(s: Said, wanted: usize) -> Said
+fn with_wanted(s: Said, wanted: usize) -> Said
     ensures { λ r. ⌜ r ≡ withWanted wanted s ⌝ }
 {
     let verb = s.verb;
@@ -327,7 +327,7 @@ pub fn with_wanted(s: Said, wanted: usize) -> Said
     }
 }
 
-pub fn with_expected(s: Said, expected: usize) -> Said
+fn with_expected(s: Said, expected: usize) -> Said
     ensures { λ r. ⌜ r ≡ withExpected expected s ⌝ }
 {
     let verb = s.verb;
@@ -344,7 +344,7 @@ pub fn with_expected(s: Said, expected: usize) -> Said
     }
 }
 
-pub fn with_number(s: Said, number: u8) -> Said
+fn with_number(s: Said, number: u8) -> Said
     ensures { λ r. ⌜ r ≡ withNumber number s ⌝ }
 {
     let verb = s.verb;
@@ -361,7 +361,7 @@ pub fn with_number(s: Said, number: u8) -> Said
     }
 }
 
-pub fn with_count(s: Said, count: u64) -> Said
+fn with_count(s: Said, count: u64) -> Said
     ensures { λ r. ⌜ r ≡ withCount count s ⌝ }
 {
     let verb = s.verb;
@@ -378,7 +378,7 @@ pub fn with_count(s: Said, count: u64) -> Said
     }
 }
 
-pub fn with_start(s: Said, start: usize) -> Said
+fn with_start(s: Said, start: usize) -> Said
     ensures { λ r. ⌜ r ≡ withStart start s ⌝ }
 {
     let verb = s.verb;

@@ -17,3 +17,4 @@
 --
 -- Crate `grammar`, specs/Words: bytes to words, and their sorts; specs/Grammar: what may follow what, and what it says. Lines, here: a line as a fold over its bytes.
 pub mod Lines
+pub mod Listing

@@ -1,0 +1,3 @@
+-- Laws of words.
+pub mod Unique
+pub mod Spelled
