@@ -51,7 +51,8 @@ noWord blanks = record { length = 0; column = 0; blanks = blanks; key = 1; decim
 abbrev pub noWordAt : ℕ → Word
 noWordAt column = record { length = 0; column = column; blanks = 0; key = 1; decimal = true; number = 0; hexadecimal = true; hex = 0 }
 
--- the word with the byte b at its end, which stands at that column
+-- the word with the byte b at its end, which stands at that column. What its fields are, told of the word's bytes as a whole: proofs/Spelled and
+-- proofs/Keys. The key is kept of the last seven bytes and the hex number of the last six digits: they are asked of words of at most six
 unfoldable pub wordWith : Word → ℕ → ℕ → Word
 wordWith w b column =
     record {

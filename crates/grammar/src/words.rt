@@ -145,7 +145,8 @@ pub fn longer(w: Word, b: u8, column: usize) -> Word
     }
 }
 
-// The sort of a word of at most six bytes that is no byte, by its bytes as one number.
+// The sort of a word of at most six bytes that is no byte, by its bytes as one number, after a 01:
+// > = ! ?? done cut dump new status work locks full short.
 fn by_key(key: u64) -> Sort
     ensures { λ r. ⌜ r ≡ byKey key ⌝ }
 {
