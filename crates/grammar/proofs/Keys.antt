@@ -1,14 +1,17 @@
 -- A word's key is the number of its bytes, and no other word has it: so a keyword is known by its key. Assumes nothing.
-use Prim.Native.Nat.{ℕ, suc, _+_, _*_, _%_, _^_, _≤_, _<_}
+use Prim.Native.Nat.{ℕ, suc, _+_, _*_, _%_, _^_, _≤_, _<_, min}
 use mathlib.Core.Path.{_≡_, refl, sym, ap, _∙_}
+use mathlib.Core.Bool.{Bool, true, false, _&&_}
 use mathlib.Core.List.{List, [], _∷_, reverse, reverseAux, reverse-reverse}
 use native.Mathlib.Omega.{arith}
 use native.Mathlib.Nat.{pow-suc, pow-le-pow-right}
-use lib.Dec.{lit<}
+use lib.Dec.{eqb, ltb, lit<}
 use lib.ListN.{length}
+use borrow.Author.Tests.{eqb-true, lt-ltb, le-ltb}
+use Rattle.grammar.specs.declared.Sort.{Sort}
 use Rattle.grammar.specs.declared.Word.{Word}
-use Rattle.grammar.specs.Words.{oneMore, noWord, wordWith, keyFrom, key}
-use Rattle.grammar.proofs.Spelled.{spelled}
+use Rattle.grammar.specs.Words.{oneMore, noWord, wordWith, keyFrom, key, byKey, sortOf}
+use Rattle.grammar.proofs.Spelled.{spelled, digits, length-is, hexadecimal-is}
 
 -- each is a byte
 pub data Bytes : List ℕ → Type 0 where
@@ -62,3 +65,30 @@ key-from w c k r (b ∷ bs) (more h p) e lt le =
 
 pub key-is : (n c : ℕ) (bs : List ℕ) → Bytes bs → length bs ≤ 6 → spelled (noWord n) c bs .key ≡ key bs
 key-is n c bs p h = key-from (noWord n) c 1 1 bs p refl (lit< tt) (omega arith)
+
+-- ---- so the sort of a word is known from its bytes: two hex digits (Spelled, `byte-is`), a keyword, or none
+
+no-byte : (x y : Bool) → (y ≡ true → x ≡ false) → (x && y) ≡ false
+no-byte x true h = ap (λ (b : Bool). b && true) (h refl)
+no-byte true false h = refl
+no-byte false false h = refl
+
+-- a word of at most six bytes that is no byte has the sort of its key
+pub keyword-is : (n c : ℕ) (bs : List ℕ) → Bytes bs → length bs ≤ 6 → (length bs ≡ 2 → digits 16 bs ≡ false) → sortOf (spelled (noWord n) c bs) ≡ byKey (key bs)
+unfolding sortOf
+keyword-is n c bs p h other =
+    let w : Word = spelled (noWord n) c bs in
+    let l : w .length ≡ length bs = length-is n c bs ∙ (let m : min (length bs) 25 ≡ length bs = omega arith in m) in
+    let f : (w .hexadecimal && eqb (w .length) 2) ≡ false =
+    no-byte (w .hexadecimal) (eqb (w .length) 2) (λ q. hexadecimal-is n c bs ∙ other (sym l ∙ eqb-true (w .length) 2 q)) in
+    rw (f, le-ltb 6 (w .length) (omega arith), key-is n c bs p h)
+
+-- a longer word has none
+pub long-is : (n c : ℕ) (bs : List ℕ) → 6 < length bs → sortOf (spelled (noWord n) c bs) ≡ Sort.Other
+unfolding sortOf
+long-is n c bs h =
+    let w : Word = spelled (noWord n) c bs in
+    let l = length-is n c bs in
+    let f : (w .hexadecimal && eqb (w .length) 2) ≡ false =
+    no-byte (w .hexadecimal) (eqb (w .length) 2) (λ q. let k = eqb-true (w .length) 2 q in absurd (omega arith)) in
+    rw (f, lt-ltb 6 (w .length) (omega arith))
