@@ -8,7 +8,7 @@ use crate::Word;
 use crate::words;
 ghost use mathlib.Core.Path.{_≡_};
 ghost use Prim.Native.Nat.{min};
-ghost use Rattle.grammar.specs.Grammar.{nothingSaid, afterNothing, afterSent, afterReplied, afterExpect, afterExpected, afterEvent, whereTrue, nextOf, canEnd, isByte, isExpected, verbOf, ofFrame, ofExpected, countOf, withVerb, withWanted, withExpected, withNumber, withCount, withStart, saidWith};
+ghost use Rattle.grammar.specs.Grammar.{nothingSaid, afterNothing, afterSent, afterReplied, afterExpect, afterExpected, afterEvent, afterAll, whereTrue, nextOf, canEnd, isByte, isExpected, verbOf, ofFrame, ofExpected, countOf, withVerb, withWanted, withExpected, withNumber, withCount, withStart, saidWith};
 
 pub fn nothing() -> Said
     ensures { λ r. ⌜ r ≡ nothingSaid ⌝ }
@@ -50,9 +50,9 @@ fn sent(s: Sort) -> Next
 {
     match s {
         Sort::Byte => Next::To(Place::Sent),
-        Sort::Any => Next::Stray,
+        Sort::Any => Next::Mistake,
         Sort::Reply => Next::To(Place::ReplyCount),
-        Sort::Expect => Next::Stray,
+        Sort::Expect => Next::Mistake,
         Sort::Refuse => Next::To(Place::Refusal),
         Sort::Done => Next::Stray,
         Sort::Cut => Next::Stray,
@@ -66,9 +66,9 @@ fn replied(s: Sort) -> Next
     ensures { λ r. ⌜ r ≡ afterReplied s ⌝ }
 {
     match s {
-        Sort::Byte => Next::Stray,
-        Sort::Any => Next::Stray,
-        Sort::Reply => Next::Stray,
+        Sort::Byte => Next::Mistake,
+        Sort::Any => Next::Mistake,
+        Sort::Reply => Next::Mistake,
         Sort::Expect => Next::To(Place::Expected),
         Sort::Refuse => Next::To(Place::Refusal),
         Sort::Done => Next::Stray,
@@ -102,8 +102,8 @@ fn more_expected(s: Sort) -> Next
     match s {
         Sort::Byte => Next::To(Place::MoreExpected),
         Sort::Any => Next::To(Place::MoreExpected),
-        Sort::Reply => Next::Stray,
-        Sort::Expect => Next::Stray,
+        Sort::Reply => Next::Mistake,
+        Sort::Expect => Next::Mistake,
         Sort::Refuse => Next::To(Place::Refusal),
         Sort::Done => Next::Stray,
         Sort::Cut => Next::Stray,
@@ -117,11 +117,28 @@ fn after_event(s: Sort) -> Next
     ensures { λ r. ⌜ r ≡ afterEvent s ⌝ }
 {
     match s {
-        Sort::Byte => Next::Stray,
-        Sort::Any => Next::Stray,
-        Sort::Reply => Next::Stray,
-        Sort::Expect => Next::Stray,
+        Sort::Byte => Next::Mistake,
+        Sort::Any => Next::Mistake,
+        Sort::Reply => Next::Mistake,
+        Sort::Expect => Next::Mistake,
         Sort::Refuse => Next::To(Place::Refusal),
+        Sort::Done => Next::Stray,
+        Sort::Cut => Next::Stray,
+        Sort::Dump => Next::Stray,
+        Sort::Alone(_) => Next::Stray,
+        Sort::Other => Next::Stray,
+    }
+}
+
+fn at_end(s: Sort) -> Next
+    ensures { λ r. ⌜ r ≡ afterAll s ⌝ }
+{
+    match s {
+        Sort::Byte => Next::Mistake,
+        Sort::Any => Next::Mistake,
+        Sort::Reply => Next::Mistake,
+        Sort::Expect => Next::Mistake,
+        Sort::Refuse => Next::Mistake,
         Sort::Done => Next::Stray,
         Sort::Cut => Next::Stray,
         Sort::Dump => Next::Stray,
@@ -152,7 +169,7 @@ pub fn follows(place: Place, w: Word) -> Next
         Place::CutCount => where_true(w.decimal, Place::AfterEvent),
         Place::DumpPlace => { where_true(w.hexadecimal & (w.length <= 6), Place::DumpCount) }
         Place::DumpCount => where_true(w.decimal, Place::End),
-        Place::End => Next::Stray,
+        Place::End => at_end(sort),
     }
 }
 

@@ -117,6 +117,8 @@ wrongLines =
     ∷ wrong "06 0" Place.Sent "0" 1 4
     ∷ wrong "06 a frame" Place.Sent "a" 1 4
     ∷ wrong "06 06 = 11" Place.Sent "=" 1 7
+    ∷ wrong "03 00 01 FE   = 11" Place.Sent "=" 1 15
+    ∷ wrong "03 00 01 FE > 2   11 22" Place.Replied "11" 2 19
     ∷ wrong "cut" Place.CutCount "" 0 4
     ∷ wrong "cut ten" Place.CutCount "ten" 3 5
     ∷ wrong "03 > x" Place.ReplyCount "x" 1 6

@@ -186,7 +186,7 @@ fn went(r: Reading, to: Place) -> Reading
     }
 }
 
-// A word that cannot stand where it stands: a remark after two blanks.
+// A word, no byte and no sign, that cannot stand where it stands: a remark after two blanks.
 fn strayed(r: Reading) -> Reading
     ensures { λ q. ⌜ q ≡ goes r Stray ⌝ }
 {
