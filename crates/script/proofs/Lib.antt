@@ -1,0 +1,6 @@
+-- Laws of a line's reading.
+pub mod Picks
+pub mod Steps
+pub mod Parts
+pub mod Listing
+pub mod Unique
