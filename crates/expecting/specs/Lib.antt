@@ -1,0 +1,2 @@
+-- When what a script expects is met.
+pub mod Expectations
