@@ -1,0 +1,37 @@
+// What a script expected and did not get.
+use crate::words;
+use rows::Row;
+
+// At most eight expected bytes from a place on; ?? where any byte is allowed.
+pub fn expected_row(place: usize, expected: &[u8], known: &[u8]) -> Row {
+    let r = words::below();
+    let r = rows::text(r, b"expected from +");
+    let r = rows::place(r, 4, place);
+    let r = rows::pad(r, 1);
+    rows::marked_bytes(r, expected, known, place, 8)
+}
+
+// The first byte that differs: what the chip gave, with its mark, and what was expected.
+pub fn difference_row(place: usize, byte: u8, mark: u8, expected: u8) -> Row {
+    let r = words::below();
+    let r = rows::text(r, b"at +");
+    let r = rows::place(r, 4, place);
+    let r = rows::text(r, b": the chip gave ");
+    let r = rows::known_byte(r, byte, mark);
+    let r = rows::text(r, b", the script expects ");
+    rows::byte(r, expected)
+}
+
+pub fn length_row(expected: usize, replied: usize) -> Row {
+    let r = words::below();
+    let r = rows::text(r, b"the script expects ");
+    let r = words::counted(r, expected as u64, b"byte");
+    let r = rows::text(r, b", the reply has ");
+    rows::size(r, replied)
+}
+
+pub fn number_row(expected: u8) -> Row {
+    let r = words::below();
+    let r = rows::text(r, b"the script expects ");
+    words::answer(r, expected)
+}

@@ -1,0 +1,117 @@
+// A row an event: its text, and from column 40 on what came.
+use crate::words;
+use rows::Row;
+
+// Blanks to column 40, or two of them behind a longer text.
+fn aside(r: Row) -> Row {
+    let at = r.length;
+    if at < 38 {
+        return rows::pad(r, 40 - at);
+    }
+    rows::pad(r, 2)
+}
+
+// How many bytes were sent, where not all are shown.
+fn longer(r: Row, n: usize) -> Row {
+    if n <= 8 {
+        return r;
+    }
+    let r = rows::text(r, b" .. ");
+    let r = rows::size(r, n);
+    rows::text(r, b" bytes")
+}
+
+fn wants(r: Row, sent: usize, wanted: usize) -> Row {
+    if (wanted == 0) & (0 < sent) {
+        return r;
+    }
+    let r = rows::text(r, b" > ");
+    rows::size(r, wanted)
+}
+
+fn sent_bytes(r: Row, sent: &[u8], wanted: usize) -> Row {
+    let n = sent.len();
+    let r = rows::plain_bytes(r, sent, 0, 8);
+    let r = longer(r, n);
+    wants(r, n, wanted)
+}
+
+// A short reply, or how long it is.
+fn reply_bytes(r: Row, reply: &[u8], marks: &[u8]) -> Row {
+    let n = reply.len();
+    if n == 0 {
+        return r;
+    }
+    let r = rows::pad(r, 1);
+    if n <= 8 {
+        return rows::marked_bytes(r, reply, marks, 0, 8);
+    }
+    let r = rows::pad(r, 1);
+    let r = rows::size(r, n);
+    rows::text(r, b" bytes:")
+}
+
+fn replied(r: Row, number: u8, reply: &[u8], marks: &[u8]) -> Row {
+    if number == 0 {
+        return reply_bytes(r, reply, marks);
+    }
+    r
+}
+
+// A frame: at most eight of its bytes, the reply bytes wanted, the answer, and of a done one the reply.
+pub fn frame_row(
+    line: u64,
+    sent: &[u8],
+    wanted: usize,
+    number: u8,
+    reply: &[u8],
+    marks: &[u8],
+) -> Row {
+    let r = words::numbered(line);
+    let r = sent_bytes(r, sent, wanted);
+    let r = aside(r);
+    let r = words::answer(r, number);
+    replied(r, number, reply, marks)
+}
+
+// A completion.
+pub fn done_row(line: u64, number: u8) -> Row {
+    let r = words::numbered(line);
+    let r = rows::text(r, b" done");
+    let r = aside(r);
+    words::answer(r, number)
+}
+
+// A power cut after k bytes.
+pub fn cut_row(line: u64, k: u64, number: u8) -> Row {
+    let r = words::numbered(line);
+    let r = rows::text(r, b" cut ");
+    let r = rows::number(r, k);
+    let r = aside(r);
+    words::answer(r, number)
+}
+
+// A new chip.
+pub fn new_row(line: u64) -> Row {
+    let r = words::numbered(line);
+    let r = rows::text(r, b" new");
+    let r = aside(r);
+    words::answer(r, 0)
+}
+
+// Sixteen bytes of a long reply, from a place on.
+pub fn reply_row(place: usize, reply: &[u8], marks: &[u8]) -> Row {
+    let r = words::below();
+    let r = rows::text(r, b"+");
+    let r = rows::place(r, 4, place);
+    let r = rows::pad(r, 1);
+    rows::marked_bytes(r, reply, marks, place, 16)
+}
+
+// So many bytes of a reply are not shown.
+pub fn more_row(hidden: usize) -> Row {
+    let r = words::below();
+    let r = rows::text(r, b".. ");
+    let r = words::counted(r, hidden as u64, b"more byte");
+    rows::text(r, b"; the line \"full\" shows all")
+}

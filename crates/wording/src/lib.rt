@@ -1,0 +1,30 @@
+// What the script player writes, a row at a time. Each function gives the row that specs/ says: Events, Differences, Questions, Lines.
+mod differences;
+mod events;
+mod lines;
+mod questions;
+mod words;
+
+pub use differences::difference_row;
+pub use differences::expected_row;
+pub use differences::length_row;
+pub use differences::number_row;
+pub use events::cut_row;
+pub use events::done_row;
+pub use events::frame_row;
+pub use events::more_row;
+pub use events::new_row;
+pub use events::reply_row;
+pub use lines::allowed_row;
+pub use lines::totals_row;
+pub use lines::wrong_row;
+pub use questions::configuration_row;
+pub use questions::dump_head_row;
+pub use questions::dump_row;
+pub use questions::lock_down_row;
+pub use questions::lock_row;
+pub use questions::locks_row;
+pub use questions::protocol_row;
+pub use questions::running_row;
+pub use questions::status_row;
+pub use questions::suspended_row;

@@ -1,0 +1,93 @@
+// A wrong line of a script, and the counts at its end.
+use crate::words;
+use rows::Row;
+
+// Two dots behind a word that is longer than what is shown of it.
+fn cut_off(r: Row, length: usize) -> Row {
+    if length <= 24 {
+        return r;
+    }
+    rows::text(r, b"..")
+}
+
+// The word that is wrong (its first bytes, and its length, 25 for a longer one), and its column. No word: the line's end.
+pub fn wrong_row(line: u64, word: &[u8; 24], length: usize, column: usize) -> Row {
+    let r = words::numbered(line);
+    let r = rows::text(r, b" wrong: ");
+    if length == 0 {
+        return rows::text(r, b"the line ends too early");
+    }
+    let r = rows::text(r, b"\"");
+    let r = rows::printed_bytes(r, word, 0, length);
+    let r = cut_off(r, length);
+    let r = rows::text(r, b"\" at column ");
+    rows::size(r, column)
+}
+
+// What is allowed at a place of a line's grammar.
+fn allowed(r: Row, place: u8) -> Row {
+    if place == 0 {
+        return rows::text(
+            r,
+            b"byte, >, done, cut, new, status, work, locks, dump, full, short",
+        );
+    }
+    if place == 1 {
+        return rows::text(
+            r,
+            b"two hex digits, > and a count, ! and a number, # remark",
+        );
+    }
+    if place == 2 {
+        return rows::text(r, b"a count of reply bytes, in decimal");
+    }
+    if place == 3 {
+        return rows::text(r, b"= and expected bytes, ! and a number, # remark");
+    }
+    if place == 4 {
+        return rows::text(r, b"two hex digits or ??");
+    }
+    if place == 5 {
+        return rows::text(r, b"two hex digits or ??, ! and a number, # remark");
+    }
+    if place == 6 {
+        return rows::text(r, b"a number from 0 (done) to 12");
+    }
+    if place == 7 {
+        return rows::text(r, b"! and a number, # remark");
+    }
+    if place == 8 {
+        return rows::text(r, b"a count of bytes, in decimal");
+    }
+    if place == 9 {
+        return rows::text(r, b"a place of the array, one to six hex digits");
+    }
+    if place == 10 {
+        return rows::text(r, b"a count of bytes, in decimal");
+    }
+    rows::text(r, b"nothing more, or # remark")
+}
+
+pub fn allowed_row(place: u8) -> Row {
+    let r = words::below();
+    let r = rows::text(r, b"allowed: ");
+    allowed(r, place)
+}
+
+fn wrong_lines(r: Row, n: u64) -> Row {
+    if n == 0 {
+        return r;
+    }
+    let r = rows::text(r, b", ");
+    words::counted(r, n, b"wrong line")
+}
+
+// The last row.
+pub fn totals_row(events: u64, refused: u64, differences: u64, wrong: u64) -> Row {
+    let r = words::counted(rows::empty(), events, b"event");
+    let r = rows::text(r, b", ");
+    let r = rows::number(r, refused);
+    let r = rows::text(r, b" refused, ");
+    let r = words::counted(r, differences, b"difference");
+    wrong_lines(r, wrong)
+}

@@ -1,0 +1,238 @@
+// Answers to a script's questions: status, work, locks, dump.
+use crate::words;
+use rows::Row;
+use rules::Work;
+
+// ---- status
+
+fn status_names(r: Row, s: u8) -> Row {
+    if s == 0 {
+        return rows::text(r, b" no bits set");
+    }
+    let r = words::named(r, s, 1, b"BUSY");
+    let r = words::named(r, s, 2, b"WEL");
+    let r = words::named(r, s, 4, b"WSE (erase suspended)");
+    let r = words::named(r, s, 8, b"WSP (program suspended)");
+    let r = words::named(r, s, 16, b"WPLD");
+    words::named(r, s, 32, b"SEC")
+}
+
+pub fn status_row(line: u64, status: u8) -> Row {
+    let r = words::numbered(line);
+    let r = rows::text(r, b" status ");
+    let r = rows::byte(r, status);
+    let r = rows::text(r, b":");
+    status_names(r, status)
+}
+
+fn configuration_names(r: Row, s: u8) -> Row {
+    if s == 0 {
+        return rows::text(r, b" no bits set");
+    }
+    let r = words::named(r, s, 2, b"IOC");
+    let r = words::named(r, s, 8, b"BPNV");
+    words::named(r, s, 128, b"WPEN")
+}
+
+pub fn configuration_row(configuration: u8) -> Row {
+    let r = words::below();
+    let r = rows::text(r, b"configuration ");
+    let r = rows::byte(r, configuration);
+    let r = rows::text(r, b":");
+    configuration_names(r, configuration)
+}
+
+pub fn protocol_row(sqi: bool, enable: bool) -> Row {
+    let r = words::below();
+    let r = rows::text(r, b"protocol ");
+    let r = protocol(r, sqi);
+    reset(r, enable)
+}
+
+fn protocol(r: Row, sqi: bool) -> Row {
+    if sqi {
+        return rows::text(r, b"SQI");
+    }
+    rows::text(r, b"SPI")
+}
+
+fn reset(r: Row, enable: bool) -> Row {
+    if enable {
+        return rows::text(r, b", reset enabled");
+    }
+    rows::text(r, b", reset not enabled")
+}
+
+// ---- work
+
+// The places of a range of at least one place: the first and the last.
+fn range(r: Row, digits: usize, first: usize, last: usize) -> Row {
+    let r = rows::text(r, b", ");
+    let r = rows::place(r, digits, first);
+    let r = rows::text(r, b" to ");
+    rows::place(r, digits, last)
+}
+
+fn sector(r: Row, n: usize) -> Row {
+    let m = n % 512;
+    let r = rows::text(r, b"erase of sector ");
+    let r = rows::size(r, m);
+    range(r, 6, m * 4096, m * 4096 + 4095)
+}
+
+fn block(r: Row, n: usize) -> Row {
+    let b = blocks::block_at(n % 40);
+    let r = rows::text(r, b"erase of the block of bit ");
+    let r = rows::size(r, b.write as usize);
+    range(r, 6, b.start, b.start + b.size - 1)
+}
+
+fn array(r: Row) -> Row {
+    let r = rows::text(r, b"erase of the array");
+    range(r, 6, 0, 2097151)
+}
+
+fn page(r: Row, n: usize) -> Row {
+    let m = n % 8192;
+    let r = rows::text(r, b"program of page ");
+    let r = rows::size(r, m);
+    range(r, 6, m * 256, m * 256 + 255)
+}
+
+fn security_page(r: Row, n: usize) -> Row {
+    let m = n % 8;
+    let r = rows::text(r, b"program of Security ID page ");
+    let r = rows::size(r, m);
+    range(r, 3, m * 256, m * 256 + 255)
+}
+
+fn flag(r: Row, on: bool) -> Row {
+    if on {
+        return rows::text(r, b"1");
+    }
+    rows::text(r, b"0")
+}
+
+fn configuration(r: Row, ioc: bool, wpen: bool) -> Row {
+    let r = rows::text(r, b"write of the configuration, IOC ");
+    let r = flag(r, ioc);
+    let r = rows::text(r, b", WPEN ");
+    flag(r, wpen)
+}
+
+fn permanent(r: Row, bits: u64) -> Row {
+    let r = rows::text(r, b"add of permanent bits ");
+    rows::hexadecimal(r, 12, bits)
+}
+
+fn work(r: Row, w: Work) -> Row {
+    match w {
+        Work::Nothing => rows::text(r, b"nothing"),
+        Work::EraseSector(n) => sector(r, n),
+        Work::EraseBlock(n) => block(r, n),
+        Work::EraseArray => array(r),
+        Work::ProgramPage(n) => page(r, n),
+        Work::ProgramSecurity(n) => security_page(r, n),
+        Work::LockSecurity => rows::text(r, b"lock of the Security ID"),
+        Work::WriteConfiguration(ioc, wpen) => configuration(r, ioc, wpen),
+        Work::AddPermanent(bits) => permanent(r, bits),
+    }
+}
+
+pub fn running_row(line: u64, w: Work) -> Row {
+    let r = words::numbered(line);
+    let r = rows::text(r, b" running: ");
+    work(r, w)
+}
+
+pub fn suspended_row(w: Work) -> Row {
+    let r = words::below();
+    let r = rows::text(r, b"suspended: ");
+    work(r, w)
+}
+
+// ---- locks
+
+pub fn locks_row(line: u64, protection: u64, permanent: u64) -> Row {
+    let r = words::numbered(line);
+    let r = rows::text(r, b" protection ");
+    let r = rows::hexadecimal(r, 12, protection);
+    let r = rows::text(r, b", permanent ");
+    rows::hexadecimal(r, 12, permanent)
+}
+
+fn two(r: Row, n: usize) -> Row {
+    if n < 10 {
+        let r = rows::pad(r, 1);
+        return rows::size(r, n);
+    }
+    rows::size(r, n)
+}
+
+// The locks of a block as bits: 1 write, 2 read, 4 permanent.
+fn locks(write: u32, paired: bool, protection: u64, permanent: u64) -> u8 {
+    let w = blocks::bit_at(protection, write);
+    let o = blocks::bit_at(protection, write + 1);
+    let p = blocks::bit_at(permanent, write);
+    (w as u8) + 2 * ((paired & o) as u8) + 4 * (p as u8)
+}
+
+fn lock_names(r: Row, s: u8) -> Row {
+    if s == 0 {
+        return rows::text(r, b" open");
+    }
+    let r = words::named(r, s, 1, b"write-locked");
+    let r = words::named(r, s, 2, b"read-locked");
+    words::named(r, s, 4, b"permanent")
+}
+
+// A block of document 01's table, by its place there.
+pub fn lock_row(n: usize, protection: u64, permanent: u64) -> Row {
+    let b = blocks::block_at(n % 40);
+    let write = b.write;
+    let start = b.start;
+    let size = b.size;
+    let r = words::below();
+    let r = rows::text(r, b"bit ");
+    let r = two(r, write as usize);
+    let r = rows::pad(r, 2);
+    let r = rows::place(r, 6, start);
+    let r = rows::text(r, b" to ");
+    let r = rows::place(r, 6, start + size - 1);
+    let r = rows::pad(r, 2);
+    let r = two(r, size / 1024);
+    let r = rows::text(r, b" KB ");
+    let s = locks(write, b.paired, protection, permanent);
+    lock_names(r, s)
+}
+
+pub fn lock_down_row(wpld: bool) -> Row {
+    let r = words::below();
+    if wpld {
+        return rows::text(r, b"locked down: WPLD 1");
+    }
+    rows::text(r, b"not locked down: WPLD 0")
+}
+
+// ---- dump
+
+pub fn dump_head_row(line: u64, place: usize, count: u64) -> Row {
+    let r = words::numbered(line);
+    let r = rows::text(r, b" dump ");
+    let r = rows::place(r, 6, place);
+    let r = rows::text(r, b", ");
+    words::counted(r, count, b"byte")
+}
+
+// At most n bytes and at most sixteen as stored from a place on.
+pub fn dump_row(place: usize, array: &[u8], n: usize) -> Row {
+    let m = rows::least(n, 16);
+    let shown = rows::count_within(array.len(), place, m);
+    let r = rows::place(rows::empty(), 6, place);
+    let r = rows::pad(r, 1);
+    let r = rows::plain_bytes(r, array, place, m);
+    let r = rows::pad(r, 3 * (16 - shown));
+    let r = rows::text(r, b"  |");
+    let r = rows::printed_bytes(r, array, place, m);
+    rows::text(r, b"|")
+}
