@@ -1,0 +1,288 @@
+// Scripts from files and from standard input: each on a new chip, with counts of its own.
+use crate::bench::Identity;
+use crate::bench::Lent;
+use crate::bench::Memory;
+use crate::bytes::blank;
+use crate::lines::Session;
+use crate::lines::line_ended;
+use crate::lines::session_begun;
+use crate::lines::text_played;
+use crate::lines::totals_told;
+use crate::say::say;
+
+// What one read gave: the session after it, and whether there may be more.
+struct Turn {
+    session: Session,
+    more: bool,
+}
+
+fn part_played(
+    s: Session,
+    fd: i32,
+    input: &mut [u8; 65536],
+    array: &mut Memory,
+    security: &mut Identity,
+    frame: &mut Lent,
+    expected: &mut Lent,
+    known: &mut Lent,
+    reply: &mut Lent,
+    marks: &mut Lent,
+) -> Turn {
+    let got = libc::read(fd, input);
+    let n = io::count(got, input);
+    if got < 0 {
+        say(b"       cannot be read to its end\n");
+    }
+    let after = text_played(
+        s,
+        &input[..n],
+        array,
+        security,
+        frame,
+        expected,
+        known,
+        reply,
+        marks,
+    );
+    Turn {
+        session: after,
+        more: n != 0,
+    }
+}
+
+// A proved loop has to end, and nothing says that an input does: so it counts its turns down, from a number that no run uses up.
+fn parts_played(
+    s: Session,
+    fd: i32,
+    input: &mut [u8; 65536],
+    array: &mut Memory,
+    security: &mut Identity,
+    frame: &mut Lent,
+    expected: &mut Lent,
+    known: &mut Lent,
+    reply: &mut Lent,
+    marks: &mut Lent,
+) -> Session {
+    let mut turns = u64::MAX;
+    let mut turn = Turn {
+        session: s,
+        more: true,
+    };
+    while turns > 0 && turn.more {
+        turns -= 1;
+        let before = turn.session;
+        turn = part_played(
+            before,
+            fd,
+            input,
+            array,
+            security,
+            frame,
+            expected,
+            known,
+            reply,
+            marks,
+        );
+    }
+    turn.session
+}
+
+// A script to its end. Its last line may lack the newline; an empty one says nothing.
+fn script_played(
+    fd: i32,
+    input: &mut [u8; 65536],
+    array: &mut Memory,
+    security: &mut Identity,
+    frame: &mut Lent,
+    expected: &mut Lent,
+    known: &mut Lent,
+    reply: &mut Lent,
+    marks: &mut Lent,
+) {
+    blank(array, security);
+    let read = parts_played(
+        session_begun(),
+        fd,
+        input,
+        array,
+        security,
+        frame,
+        expected,
+        known,
+        reply,
+        marks,
+    );
+    let whole = line_ended(read, array, security, frame, expected, known, reply, marks);
+    totals_told(whole);
+}
+
+fn is_dash(name: &[u8]) -> bool {
+    if name.len() == 1 {
+        return name[0] == b'-';
+    }
+    false
+}
+
+// Why a file cannot be opened, where that is one of the usual reasons.
+fn reason_told(error: i32) {
+    if error == libc::ENOENT {
+        say(b", there is no such file");
+    }
+    if error == libc::EACCES {
+        say(b", that is not permitted");
+    }
+    say(b"\n");
+}
+
+fn unopened_told(name: &[u8]) {
+    let error = os::errno();
+    say(name);
+    say(b" cannot be opened");
+    reason_told(error);
+}
+
+// `-` is standard input.
+fn descriptor_of(name: &[u8]) -> i32 {
+    if is_dash(name) {
+        return libc::STDIN_FILENO;
+    }
+    os::open_read(name)
+}
+
+fn file_played(
+    name: &[u8],
+    many: bool,
+    input: &mut [u8; 65536],
+    array: &mut Memory,
+    security: &mut Identity,
+    frame: &mut Lent,
+    expected: &mut Lent,
+    known: &mut Lent,
+    reply: &mut Lent,
+    marks: &mut Lent,
+) {
+    let fd = descriptor_of(name);
+    if fd < 0 {
+        unopened_told(name);
+        return;
+    }
+    if many {
+        say(name);
+        say(b"\n");
+    }
+    script_played(
+        fd,
+        input,
+        array,
+        security,
+        frame,
+        expected,
+        known,
+        reply,
+        marks,
+    );
+    libc::close(fd);
+}
+
+fn argument_played(
+    i: usize,
+    many: bool,
+    input: &mut [u8; 65536],
+    array: &mut Memory,
+    security: &mut Identity,
+    frame: &mut Lent,
+    expected: &mut Lent,
+    known: &mut Lent,
+    reply: &mut Lent,
+    marks: &mut Lent,
+) {
+    let mut name = io::buffer();
+    let n = os::arg(i, &mut name);
+    if os::errno() != 0 {
+        say(b"a name is too long\n");
+        return;
+    }
+    file_played(
+        &name[..n],
+        many,
+        input,
+        array,
+        security,
+        frame,
+        expected,
+        known,
+        reply,
+        marks,
+    );
+}
+
+// The arguments from the first on; rows of blanks stand between the files.
+fn arguments_played(
+    n: usize,
+    input: &mut [u8; 65536],
+    array: &mut Memory,
+    security: &mut Identity,
+    frame: &mut Lent,
+    expected: &mut Lent,
+    known: &mut Lent,
+    reply: &mut Lent,
+    marks: &mut Lent,
+) {
+    let mut i: usize = 1;
+    while i < n {
+        if 1 < i {
+            say(b"\n");
+        }
+        argument_played(
+            i,
+            2 < n,
+            input,
+            array,
+            security,
+            frame,
+            expected,
+            known,
+            reply,
+            marks,
+        );
+        i += 1;
+    }
+}
+
+pub fn all_played(
+    input: &mut [u8; 65536],
+    array: &mut Memory,
+    security: &mut Identity,
+    frame: &mut Lent,
+    expected: &mut Lent,
+    known: &mut Lent,
+    reply: &mut Lent,
+    marks: &mut Lent,
+) {
+    let n = os::arg_count();
+    if n < 2 {
+        script_played(
+            libc::STDIN_FILENO,
+            input,
+            array,
+            security,
+            frame,
+            expected,
+            known,
+            reply,
+            marks,
+        );
+        return;
+    }
+    arguments_played(
+        n,
+        input,
+        array,
+        security,
+        frame,
+        expected,
+        known,
+        reply,
+        marks,
+    );
+}
