@@ -9,6 +9,9 @@ use crate::lines::session_begun;
 use crate::lines::text_played;
 use crate::lines::totals_told;
 use crate::say::say;
+ghost use Rattle.io.specs.Counts.{Counts};
+
+type Input = [u8; 65536];
 
 // What one read gave: the session after it, and whether there may be more.
 struct Turn {
@@ -16,10 +19,21 @@ struct Turn {
     more: bool,
 }
 
+// The next bytes of the input; none at its end.
+fn some_read(fd: i32, input: &mut [u8]) -> usize
+    ensures { λ r. ⌜ Counts r (now (input .exit)) ⌝ }
+{
+    let got = libc::read(fd, input);
+    if got < 0 {
+        say(b"       cannot be read to its end\n");
+    }
+    io::count(got, input)
+}
+
 fn part_played(
     s: Session,
     fd: i32,
-    input: &mut [u8; 65536],
+    input: &mut [u8],
     array: &mut Memory,
     security: &mut Identity,
     frame: &mut Lent,
@@ -28,11 +42,7 @@ fn part_played(
     reply: &mut Lent,
     marks: &mut Lent,
 ) -> Turn {
-    let got = libc::read(fd, input);
-    let n = io::count(got, input);
-    if got < 0 {
-        say(b"       cannot be read to its end\n");
-    }
+    let n = some_read(fd, input);
     let after = text_played(
         s,
         &input[..n],
@@ -54,7 +64,7 @@ fn part_played(
 fn parts_played(
     s: Session,
     fd: i32,
-    input: &mut [u8; 65536],
+    input: &mut Input,
     array: &mut Memory,
     security: &mut Identity,
     frame: &mut Lent,
@@ -90,7 +100,7 @@ fn parts_played(
 // A script to its end. Its last line may lack the newline; an empty one says nothing.
 fn script_played(
     fd: i32,
-    input: &mut [u8; 65536],
+    input: &mut Input,
     array: &mut Memory,
     security: &mut Identity,
     frame: &mut Lent,
@@ -152,7 +162,7 @@ fn descriptor_of(name: &[u8]) -> i32 {
 fn file_played(
     name: &[u8],
     many: bool,
-    input: &mut [u8; 65536],
+    input: &mut Input,
     array: &mut Memory,
     security: &mut Identity,
     frame: &mut Lent,
@@ -187,7 +197,7 @@ fn file_played(
 fn argument_played(
     i: usize,
     many: bool,
-    input: &mut [u8; 65536],
+    input: &mut Input,
     array: &mut Memory,
     security: &mut Identity,
     frame: &mut Lent,
@@ -219,7 +229,7 @@ fn argument_played(
 // The arguments from the first on; rows of blanks stand between the files.
 fn arguments_played(
     n: usize,
-    input: &mut [u8; 65536],
+    input: &mut Input,
     array: &mut Memory,
     security: &mut Identity,
     frame: &mut Lent,
@@ -250,7 +260,7 @@ fn arguments_played(
 }
 
 pub fn all_played(
-    input: &mut [u8; 65536],
+    input: &mut Input,
     array: &mut Memory,
     security: &mut Identity,
     frame: &mut Lent,

@@ -162,6 +162,27 @@ fn part_read(
     }
 }
 
+// A line from one place of the text to another. Where it ends before the text does, it is played.
+fn line_fed(
+    s: Session,
+    text: &[u8],
+    from: usize,
+    to: usize,
+    array: &mut Memory,
+    security: &mut Identity,
+    frame: &mut Lent,
+    expected: &mut Lent,
+    known: &mut Lent,
+    reply: &mut Lent,
+    marks: &mut Lent,
+) -> Session {
+    let read = part_read(s, text, from, to, frame, expected, known);
+    if to < text.len() {
+        return line_ended(read, array, security, frame, expected, known, reply, marks);
+    }
+    read
+}
+
 // A part of the text: lines that end in it are played, and the last may go on in the next part.
 pub fn text_played(
     s: Session,
@@ -180,10 +201,19 @@ pub fn text_played(
         let start = from;
         let to = line_end(text, start);
         from = to + 1;
-        now = part_read(now, text, start, to, frame, expected, known);
-        if to < text.len() {
-            now = line_ended(now, array, security, frame, expected, known, reply, marks);
-        }
+        now = line_fed(
+            now,
+            text,
+            start,
+            to,
+            array,
+            security,
+            frame,
+            expected,
+            known,
+            reply,
+            marks,
+        );
     }
     now
 }

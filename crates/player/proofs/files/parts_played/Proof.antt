@@ -1,0 +1,41 @@
+-- The turns that are left fall. Assumes nothing.
+use borrow.Author.Needs.{needs}
+use Rattle.player.proofs.files.parts_played.Statement.{statement}
+use Rattle.player.proofs.files.parts_played.Tie as tie
+
+abbrev Inv-loop : tie.InvT-loop
+Inv-loop fd input₀ array₀ security₀ frame₀ expected₀ known₀ reply₀ marks₀ turns₀ turn₀ input array security frame expected known reply marks turns turn = Unit {0}
+
+abbrev μ-loop : tie.MeasureT-loop
+μ-loop fd input₀ array₀ security₀ frame₀ expected₀ known₀ reply₀ marks₀ turns₀ turn₀ input array security frame expected known reply marks turns turn = turns
+
+loop-holds : tie.Need-loop-holds Inv-loop μ-loop
+loop-holds c = search needs
+
+sub-turns : tie.Need-sub-turns Inv-loop μ-loop
+sub-turns c = search needs
+
+part-played-requires : tie.Need-part-played-requires Inv-loop μ-loop
+part-played-requires c κs = search needs
+
+loop-less : tie.Need-loop-less Inv-loop μ-loop
+loop-less c = search needs
+
+loop-again : tie.Need-loop-again Inv-loop μ-loop
+loop-again c = search needs
+
+returns : tie.Need-returns Inv-loop μ-loop
+returns c = search needs
+
+pub parts-played-spec : {M : Type 1} → statement M
+parts-played-spec =
+    tie.close
+    (tie.spec
+    Inv-loop
+    μ-loop
+    loop-holds
+    sub-turns
+    part-played-requires
+    loop-less
+    loop-again
+    returns)
