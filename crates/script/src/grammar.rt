@@ -6,8 +6,13 @@ use crate::Sort;
 use crate::Verb;
 use crate::Word;
 use crate::words;
+ghost use mathlib.Core.Path.{_≡_};
+ghost use Prim.Native.Nat.{min};
+ghost use Rattle.script.specs.Grammar.{nothingSaid, afterNothing, afterSent, afterReplied, afterExpect, afterExpected, afterEvent, whereTrue, nextOf, canEnd, isByte, isExpected, verbOf, ofFrame, ofExpected, countOf, withVerb, withWanted, withExpected, withNumber, withCount, withStart, saidWith};
 
-pub fn nothing() -> Said {
+pub fn nothing() -> Said
+    ensures { λ r. ⌜ r ≡ nothingSaid ⌝ }
+{
     Said {
         verb: Verb::Blank,
         sent: 0,
@@ -23,7 +28,9 @@ pub fn nothing() -> Said {
 
 // ---- what may follow
 
-pub fn first(s: Sort) -> Next {
+pub fn first(s: Sort) -> Next
+    ensures { λ r. ⌜ r ≡ afterNothing s ⌝ }
+{
     match s {
         Sort::Byte => Next::To(Place::Sent),
         Sort::Any => Next::Mistake,
@@ -38,7 +45,9 @@ pub fn first(s: Sort) -> Next {
     }
 }
 
-pub fn sent(s: Sort) -> Next {
+pub fn sent(s: Sort) -> Next
+    ensures { λ r. ⌜ r ≡ afterSent s ⌝ }
+{
     match s {
         Sort::Byte => Next::To(Place::Sent),
         Sort::Any => Next::Stray,
@@ -53,7 +62,9 @@ pub fn sent(s: Sort) -> Next {
     }
 }
 
-pub fn replied(s: Sort) -> Next {
+pub fn replied(s: Sort) -> Next
+    ensures { λ r. ⌜ r ≡ afterReplied s ⌝ }
+{
     match s {
         Sort::Byte => Next::Stray,
         Sort::Any => Next::Stray,
@@ -68,7 +79,9 @@ pub fn replied(s: Sort) -> Next {
     }
 }
 
-pub fn expected(s: Sort) -> Next {
+pub fn expected(s: Sort) -> Next
+    ensures { λ r. ⌜ r ≡ afterExpect s ⌝ }
+{
     match s {
         Sort::Byte => Next::To(Place::MoreExpected),
         Sort::Any => Next::To(Place::MoreExpected),
@@ -83,7 +96,9 @@ pub fn expected(s: Sort) -> Next {
     }
 }
 
-pub fn more_expected(s: Sort) -> Next {
+pub fn more_expected(s: Sort) -> Next
+    ensures { λ r. ⌜ r ≡ afterExpected s ⌝ }
+{
     match s {
         Sort::Byte => Next::To(Place::MoreExpected),
         Sort::Any => Next::To(Place::MoreExpected),
@@ -98,7 +113,9 @@ pub fn more_expected(s: Sort) -> Next {
     }
 }
 
-pub fn after_event(s: Sort) -> Next {
+pub fn after_event(s: Sort) -> Next
+    ensures { λ r. ⌜ r ≡ afterEvent s ⌝ }
+{
     match s {
         Sort::Byte => Next::Stray,
         Sort::Any => Next::Stray,
@@ -113,11 +130,15 @@ pub fn after_event(s: Sort) -> Next {
     }
 }
 
-pub fn where_true(test: bool, place: Place) -> Next {
+pub fn where_true(test: bool, place: Place) -> Next
+    ensures { λ r. ⌜ r ≡ whereTrue test place ⌝ }
+{
     if test { Next::To(place) } else { Next::Mistake }
 }
 
-pub fn follows(place: Place, w: Word) -> Next {
+pub fn follows(place: Place, w: Word) -> Next
+    ensures { λ r. ⌜ r ≡ nextOf place w ⌝ }
+{
     match place {
         Place::First => first(words::sort_of(w)),
         Place::Sent => sent(words::sort_of(w)),
@@ -135,7 +156,9 @@ pub fn follows(place: Place, w: Word) -> Next {
 }
 
 // The line could end here.
-pub fn can_end(place: Place) -> bool {
+pub fn can_end(place: Place) -> bool
+    ensures { λ r. ⌜ r ≡ canEnd place ⌝ }
+{
     match place {
         Place::First => true,
         Place::Sent => true,
@@ -154,7 +177,9 @@ pub fn can_end(place: Place) -> bool {
 
 // ---- what a word says
 
-pub fn is_byte(s: Sort) -> bool {
+pub fn is_byte(s: Sort) -> bool
+    ensures { λ r. ⌜ r ≡ isByte s ⌝ }
+{
     match s {
         Sort::Byte => true,
         Sort::Any => false,
@@ -169,7 +194,9 @@ pub fn is_byte(s: Sort) -> bool {
     }
 }
 
-pub fn is_awaited(s: Sort) -> bool {
+pub fn is_awaited(s: Sort) -> bool
+    ensures { λ r. ⌜ r ≡ isExpected s ⌝ }
+{
     match s {
         Sort::Byte => true,
         Sort::Any => true,
@@ -184,7 +211,9 @@ pub fn is_awaited(s: Sort) -> bool {
     }
 }
 
-pub fn verb_of(s: Sort) -> Verb {
+pub fn verb_of(s: Sort) -> Verb
+    ensures { λ r. ⌜ r ≡ verbOf s ⌝ }
+{
     match s {
         Sort::Byte => Verb::Frame,
         Sort::Any => Verb::Wrong,
@@ -200,7 +229,9 @@ pub fn verb_of(s: Sort) -> Verb {
 }
 
 // The word is a byte of the frame.
-pub fn framed(place: Place, s: Sort) -> bool {
+pub fn framed(place: Place, s: Sort) -> bool
+    ensures { λ r. ⌜ r ≡ ofFrame place s ⌝ }
+{
     match place {
         Place::First => is_byte(s),
         Place::Sent => is_byte(s),
@@ -218,7 +249,9 @@ pub fn framed(place: Place, s: Sort) -> bool {
 }
 
 // The word is an expected byte.
-pub fn awaited(place: Place, s: Sort) -> bool {
+pub fn awaited(place: Place, s: Sort) -> bool
+    ensures { λ r. ⌜ r ≡ ofExpected place s ⌝ }
+{
     match place {
         Place::First => false,
         Place::Sent => false,
@@ -236,7 +269,9 @@ pub fn awaited(place: Place, s: Sort) -> bool {
 }
 
 // One more where the test holds, at most 65,537.
-pub fn counted(n: usize, test: bool) -> usize {
+pub fn counted(n: usize, test: bool) -> usize
+    ensures { λ r. ⌜ r ≡ countOf n test ⌝ }
+{
     if test {
         if n < 65537 { n + 1 } else { 65537 }
     } else {
@@ -245,11 +280,15 @@ pub fn counted(n: usize, test: bool) -> usize {
 }
 
 // At most that many.
-pub fn at_most(n: u64, most: u64) -> u64 {
+pub fn at_most(n: u64, most: u64) -> u64
+    ensures { λ r. ⌜ r ≡ min n most ⌝ }
+{
     if n < most { n } else { most }
 }
 
-pub fn with_verb(s: Said, verb: Verb, sent: usize) -> Said {
+pub fn with_verb(s: Said, verb: Verb, sent: usize) -> Said
+    ensures { λ r. ⌜ r ≡ withVerb verb sent s ⌝ }
+{
     Said {
         verb,
         sent,
@@ -263,12 +302,16 @@ pub fn with_verb(s: Said, verb: Verb, sent: usize) -> Said {
     }
 }
 
-pub fn with_sent(s: Said, sent: usize) -> Said {
+pub fn with_sent(s: Said, sent: usize) -> Said
+    ensures { λ r. ⌜ r ≡ withVerb (s .verb) sent s ⌝ }
+{
     let verb = s.verb;
     with_verb(s, verb, sent)
 }
 
-pub fn with_wanted(s: Said, wanted: usize) -> Said {
+pub fn with_wanted(s: Said, wanted: usize) -> Said
+    ensures { λ r. ⌜ r ≡ withWanted wanted s ⌝ }
+{
     let verb = s.verb;
     Said {
         verb,
@@ -283,7 +326,9 @@ pub fn with_wanted(s: Said, wanted: usize) -> Said {
     }
 }
 
-pub fn with_expected(s: Said, expected: usize) -> Said {
+pub fn with_expected(s: Said, expected: usize) -> Said
+    ensures { λ r. ⌜ r ≡ withExpected expected s ⌝ }
+{
     let verb = s.verb;
     Said {
         verb,
@@ -298,7 +343,9 @@ pub fn with_expected(s: Said, expected: usize) -> Said {
     }
 }
 
-pub fn with_number(s: Said, number: u8) -> Said {
+pub fn with_number(s: Said, number: u8) -> Said
+    ensures { λ r. ⌜ r ≡ withNumber number s ⌝ }
+{
     let verb = s.verb;
     Said {
         verb,
@@ -313,7 +360,9 @@ pub fn with_number(s: Said, number: u8) -> Said {
     }
 }
 
-pub fn with_count(s: Said, count: u64) -> Said {
+pub fn with_count(s: Said, count: u64) -> Said
+    ensures { λ r. ⌜ r ≡ withCount count s ⌝ }
+{
     let verb = s.verb;
     Said {
         verb,
@@ -328,7 +377,9 @@ pub fn with_count(s: Said, count: u64) -> Said {
     }
 }
 
-pub fn with_start(s: Said, start: usize) -> Said {
+pub fn with_start(s: Said, start: usize) -> Said
+    ensures { λ r. ⌜ r ≡ withStart start s ⌝ }
+{
     let verb = s.verb;
     Said {
         verb,
@@ -344,7 +395,9 @@ pub fn with_start(s: Said, start: usize) -> Said {
 }
 
 // What the words so far say with this one.
-pub fn heard(place: Place, w: Word, s: Said) -> Said {
+pub fn heard(place: Place, w: Word, s: Said) -> Said
+    ensures { λ r. ⌜ r ≡ saidWith place w s ⌝ }
+{
     let sort = words::sort_of(w);
     match place {
         Place::First => with_verb(s, verb_of(sort), counted(s.sent, is_byte(sort))),

@@ -3,6 +3,9 @@ mod grammar;
 mod lines;
 mod words;
 
+ghost use mathlib.Core.Path.{_≡_};
+ghost use Rattle.script.specs.Lines.{begun, ReadPromise, EndPromise};
+
 // ---- what a line says
 
 pub enum Verb {
@@ -158,7 +161,9 @@ pub enum Next {
 // ---- the calls
 
 // A line of which nothing is read.
-pub fn start() -> Reading {
+pub fn start() -> Reading
+    ensures { λ r. ⌜ r ≡ begun ⌝ }
+{
     Reading {
         mode: Mode::Open,
         place: Place::First,
@@ -178,7 +183,9 @@ pub fn read(
     frame: &mut [u8; 65537],
     expected: &mut [u8; 65537],
     known: &mut [u8; 65537],
-) -> Reading {
+) -> Reading
+    ensures { λ q. ⌜ ReadPromise r (now (text .entry)) from to (now (frame .entry)) (now (expected .entry)) (now (known .entry)) q (now (frame .exit)) (now (expected .exit)) (now (known .exit)) ⌝ }
+{
     let end = words::smaller(to, text.len());
     let mut now = r;
     let mut i = from;
@@ -195,7 +202,9 @@ pub fn ended(
     frame: &mut [u8; 65537],
     expected: &mut [u8; 65537],
     known: &mut [u8; 65537],
-) -> Line {
+) -> Line
+    ensures { λ l. ⌜ EndPromise r (now (frame .entry)) (now (expected .entry)) (now (known .entry)) l (now (frame .exit)) (now (expected .exit)) (now (known .exit)) ⌝ }
+{
     let last = lines::close_word(r, frame, expected, known);
     lines::line_of(last)
 }

@@ -9,11 +9,21 @@ use crate::Verb;
 use crate::Word;
 use crate::grammar;
 use crate::words;
+ghost use mathlib.Core.Path.{_≡_};
+ghost use lib.Dec.{eqb};
+ghost use Rattle.rules.specs.Words.{pick, num};
+ghost use Rattle.script.specs.declared.Next.the-variants.{Stray};
+ghost use Rattle.script.specs.declared.Verb.{Verb};
+ghost use Rattle.script.specs.Words.{oneMore, noWord, sortOf};
+ghost use Rattle.script.specs.Grammar.{isByte, nextOf};
+ghost use Rattle.script.specs.Lines.{passedBy, shownWith, goesOn, afterLetter, afterBlank, afterHash, withMode, wentTo, goes, hasWord, wordEnded, stored, toFrame, toExpected, held, closed, stepped, verbAt, whileOpen, lineOf};
 
 // ---- one byte
 
 // A byte that says nothing more: of a remark, or after a mistake.
-pub fn passed(r: Reading) -> Reading {
+pub fn passed(r: Reading) -> Reading
+    ensures { λ q. ⌜ q ≡ passedBy r ⌝ }
+{
     let mode = r.mode;
     let place = r.place;
     let shown = r.shown;
@@ -30,7 +40,9 @@ pub fn passed(r: Reading) -> Reading {
 }
 
 // The byte is shown if it is among the first 24.
-pub fn shown_with(shown: [u8; 24], length: usize, b: u8) -> [u8; 24] {
+pub fn shown_with(shown: [u8; 24], length: usize, b: u8) -> [u8; 24]
+    ensures { λ q. ⌜ q ≡ shownWith shown length b ⌝ }
+{
     let mut more = shown;
     if length < 24 {
         more[length] = b;
@@ -39,7 +51,9 @@ pub fn shown_with(shown: [u8; 24], length: usize, b: u8) -> [u8; 24] {
 }
 
 // The word goes on, or begins.
-pub fn goes_on(r: Reading, b: u8) -> Reading {
+pub fn goes_on(r: Reading, b: u8) -> Reading
+    ensures { λ q. ⌜ q ≡ goesOn r b ⌝ }
+{
     let place = r.place;
     let shown = r.shown;
     let word = r.word;
@@ -57,7 +71,9 @@ pub fn goes_on(r: Reading, b: u8) -> Reading {
 }
 
 // A byte of a word.
-pub fn lettered(r: Reading, b: u8) -> Reading {
+pub fn lettered(r: Reading, b: u8) -> Reading
+    ensures { λ q. ⌜ q ≡ afterLetter r b ⌝ }
+{
     let mode = r.mode;
     match mode {
         Mode::Open => goes_on(r, b),
@@ -67,12 +83,20 @@ pub fn lettered(r: Reading, b: u8) -> Reading {
 }
 
 // One blank more, at most 2.
-pub fn blank_more(w: Word) -> Word {
-    words::none(if w.blanks == 0 { 1 } else { 2 })
+pub fn blank_more(w: Word) -> Word
+    ensures { λ q. ⌜ q ≡ noWord (pick (eqb (w .blanks) 0) 1 2) ⌝ }
+{
+    if w.blanks == 0 {
+        words::none(1)
+    } else {
+        words::none(2)
+    }
 }
 
 // A blank, no word before it.
-pub fn spaced(r: Reading) -> Reading {
+pub fn spaced(r: Reading) -> Reading
+    ensures { λ q. ⌜ q ≡ afterBlank r ⌝ }
+{
     let mode = r.mode;
     let place = r.place;
     let shown = r.shown;
@@ -93,7 +117,9 @@ pub fn spaced(r: Reading) -> Reading {
 }
 
 // A #, no word before it.
-pub fn remarked(r: Reading) -> Reading {
+pub fn remarked(r: Reading) -> Reading
+    ensures { λ q. ⌜ q ≡ afterHash r ⌝ }
+{
     let mode = r.mode;
     let place = r.place;
     let shown = r.shown;
@@ -115,7 +141,9 @@ pub fn remarked(r: Reading) -> Reading {
 
 // ---- one word
 
-pub fn with_mode(r: Reading, mode: Mode) -> Reading {
+pub fn with_mode(r: Reading, mode: Mode) -> Reading
+    ensures { λ q. ⌜ q ≡ withMode mode r ⌝ }
+{
     let place = r.place;
     let shown = r.shown;
     let word = r.word;
@@ -131,7 +159,9 @@ pub fn with_mode(r: Reading, mode: Mode) -> Reading {
 }
 
 // The word stands where it may; that place comes next.
-pub fn went(r: Reading, to: Place) -> Reading {
+pub fn went(r: Reading, to: Place) -> Reading
+    ensures { λ q. ⌜ q ≡ wentTo r to ⌝ }
+{
     let place = r.place;
     let word = r.word;
     let said = r.said;
@@ -146,7 +176,9 @@ pub fn went(r: Reading, to: Place) -> Reading {
 }
 
 // A word that cannot stand where it stands: a remark after two blanks.
-pub fn strayed(r: Reading) -> Reading {
+pub fn strayed(r: Reading) -> Reading
+    ensures { λ q. ⌜ q ≡ goes r Stray ⌝ }
+{
     let word = r.word;
     if 1 < word.blanks {
         with_mode(r, Mode::Remark)
@@ -155,10 +187,9 @@ pub fn strayed(r: Reading) -> Reading {
     }
 }
 
-pub fn judged(r: Reading) -> Reading {
-    let place = r.place;
-    let word = r.word;
-    let next = grammar::follows(place, word);
+pub fn went_on(r: Reading, next: Next) -> Reading
+    ensures { λ q. ⌜ q ≡ goes r next ⌝ }
+{
     match next {
         Next::To(to) => went(r, to),
         Next::Stray => strayed(r),
@@ -166,8 +197,18 @@ pub fn judged(r: Reading) -> Reading {
     }
 }
 
+pub fn judged(r: Reading) -> Reading
+    ensures { λ q. ⌜ q ≡ goes r (nextOf (r .place) (r .word)) ⌝ }
+{
+    let place = r.place;
+    let word = r.word;
+    went_on(r, grammar::follows(place, word))
+}
+
 // There is a word to judge.
-pub fn has_word(r: Reading) -> bool {
+pub fn has_word(r: Reading) -> bool
+    ensures { λ q. ⌜ q ≡ hasWord r ⌝ }
+{
     let mode = r.mode;
     let word = r.word;
     match mode {
@@ -178,13 +219,17 @@ pub fn has_word(r: Reading) -> bool {
 }
 
 // A word's end.
-pub fn word_ended(r: Reading) -> Reading {
+pub fn word_ended(r: Reading) -> Reading
+    ensures { λ q. ⌜ q ≡ wordEnded r ⌝ }
+{
     if has_word(r) { judged(r) } else { r }
 }
 
 // ---- what is stored
 
-pub fn store(a: &mut [u8; 65537], at: usize, v: u8, test: bool) {
+pub fn store(a: &mut [u8; 65537], at: usize, v: u8, test: bool)
+    ensures { λ _. ⌜ now (a .exit) ≡ stored (now (a .entry)) at v test ⌝ }
+{
     if test {
         if at < 65537 {
             a[at] = v;
@@ -192,21 +237,31 @@ pub fn store(a: &mut [u8; 65537], at: usize, v: u8, test: bool) {
     }
 }
 
-pub fn to_frame(r: Reading) -> bool {
+pub fn to_frame(r: Reading) -> bool
+    ensures { λ q. ⌜ q ≡ toFrame r ⌝ }
+{
     let place = r.place;
     let word = r.word;
     has_word(r) & grammar::framed(place, words::sort_of(word))
 }
 
-pub fn to_expected(r: Reading) -> bool {
+pub fn to_expected(r: Reading) -> bool
+    ensures { λ q. ⌜ q ≡ toExpected r ⌝ }
+{
     let place = r.place;
     let word = r.word;
     has_word(r) & grammar::awaited(place, words::sort_of(word))
 }
 
 // 1 for a byte, 0 for ??.
-pub fn known_of(w: Word) -> u8 {
-    grammar::is_byte(words::sort_of(w)) as u8
+pub fn known_of(w: Word) -> u8
+    ensures { λ q. ⌜ q ≡ num (isByte (sortOf w)) ⌝ }
+{
+    if grammar::is_byte(words::sort_of(w)) {
+        1
+    } else {
+        0
+    }
 }
 
 // The word before this byte or before the line's end.
@@ -215,7 +270,9 @@ pub fn close_word(
     frame: &mut [u8; 65537],
     expected: &mut [u8; 65537],
     known: &mut [u8; 65537],
-) -> Reading {
+) -> Reading
+    ensures { λ q. ⌜ held q (now (frame .exit)) (now (expected .exit)) (now (known .exit)) ≡ closed (held r (now (frame .entry)) (now (expected .entry)) (now (known .entry))) ⌝ }
+{
     let word = r.word;
     let said = r.said;
     let value = words::byte_of(word);
@@ -232,7 +289,9 @@ pub fn step(
     frame: &mut [u8; 65537],
     expected: &mut [u8; 65537],
     known: &mut [u8; 65537],
-) -> Reading {
+) -> Reading
+    ensures { λ q. ⌜ held q (now (frame .exit)) (now (expected .exit)) (now (known .exit)) ≡ stepped (held r (now (frame .entry)) (now (expected .entry)) (now (known .entry))) b ⌝ }
+{
     if b == 35 {
         return remarked(close_word(r, frame, expected, known));
     }
@@ -244,7 +303,9 @@ pub fn step(
 
 // ---- the line
 
-pub fn verb_at(mode: Mode, place: Place, verb: Verb) -> Verb {
+pub fn verb_at(mode: Mode, place: Place, verb: Verb) -> Verb
+    ensures { λ q. ⌜ q ≡ verbAt mode place verb ⌝ }
+{
     match mode {
         Mode::Open => verb_where(grammar::can_end(place), verb),
         Mode::Remark => verb_where(grammar::can_end(place), verb),
@@ -252,11 +313,15 @@ pub fn verb_at(mode: Mode, place: Place, verb: Verb) -> Verb {
     }
 }
 
-pub fn verb_where(ends: bool, verb: Verb) -> Verb {
+pub fn verb_where(ends: bool, verb: Verb) -> Verb
+    ensures { λ q. ⌜ q ≡ pick ends verb Verb.Wrong ⌝ }
+{
     if ends { verb } else { Verb::Wrong }
 }
 
-pub fn column_at(mode: Mode, column: usize, read: usize) -> usize {
+pub fn column_at(mode: Mode, column: usize, read: usize) -> usize
+    ensures { λ q. ⌜ q ≡ whileOpen mode (oneMore read) column ⌝ }
+{
     match mode {
         Mode::Open => words::one_more(read),
         Mode::Remark => column,
@@ -264,7 +329,9 @@ pub fn column_at(mode: Mode, column: usize, read: usize) -> usize {
     }
 }
 
-pub fn line_of(r: Reading) -> Line {
+pub fn line_of(r: Reading) -> Line
+    ensures { λ q. ⌜ q ≡ lineOf r ⌝ }
+{
     let mode = r.mode;
     let place = r.place;
     let shown = r.shown;

@@ -2,33 +2,61 @@
 use crate::Sort;
 use crate::Verb;
 use crate::Word;
+ghost use mathlib.Core.Path.{_≡_};
+ghost use Prim.Native.Nat.{_+_, _*_, _%_, _^_, min};
+ghost use lib.Dec.{eqb};
+ghost use Rattle.rules.specs.Words.{pick};
+ghost use Rattle.script.specs.Words.{blank, digitOf, oneMore, tensOf, noWord, noWordAt, wordWith, byKey, sortOf, byteOf};
 
-pub fn smaller(a: usize, b: usize) -> usize {
+pub fn smaller(a: usize, b: usize) -> usize
+    ensures { λ r. ⌜ r ≡ min a b ⌝ }
+{
     if a < b { a } else { b }
 }
 
 // One more, at most 2^64 - 1.
-pub fn one_more(n: usize) -> usize {
+pub fn one_more(n: usize) -> usize
+    ensures { λ r. ⌜ r ≡ oneMore n ⌝ }
+{
     if n < 18446744073709551615 { n + 1 } else { n }
 }
 
 // Space, tab, vertical tab, form feed, CR.
-pub fn is_blank(b: u8) -> bool {
-    b == 32 || b == 9 || b == 11 || b == 12 || b == 13
+pub fn is_blank(b: u8) -> bool
+    ensures { λ r. ⌜ r ≡ blank b ⌝ }
+{
+    (b == 32) | ((b == 9) | ((b == 11) | ((b == 12) | (b == 13))))
 }
 
 // What a hex digit stands for; 16 for any other byte.
-pub fn digit(b: u8) -> u8 {
-    match b {
-        48..=57 => b - 48,
-        65..=70 => b - 55,
-        97..=102 => b - 87,
-        _ => 16,
+pub fn digit(b: u8) -> u8
+    ensures { λ r. ⌜ r ≡ digitOf b ⌝ }
+{
+    if b < 0x30 {
+        return 16;
     }
+    if b < 0x3a {
+        return b - 0x30;
+    }
+    if b < 0x41 {
+        return 16;
+    }
+    if b < 0x47 {
+        return b - 0x37;
+    }
+    if b < 0x61 {
+        return 16;
+    }
+    if b < 0x67 {
+        return b - 0x57;
+    }
+    16
 }
 
 // One digit more, at most 2^64 - 1.
-pub fn tens(number: u64, d: u8) -> u64 {
+pub fn tens(number: u64, d: u8) -> u64
+    ensures { λ r. ⌜ r ≡ tensOf number d ⌝ }
+{
     let digit = d as u64;
     if number <= (18446744073709551615 - digit) / 10 {
         number * 10 + digit
@@ -37,24 +65,34 @@ pub fn tens(number: u64, d: u8) -> u64 {
     }
 }
 
-pub fn length_after(n: usize) -> usize {
+pub fn length_after(n: usize) -> usize
+    ensures { λ r. ⌜ r ≡ min (n + 1) 25 ⌝ }
+{
     if n < 25 { n + 1 } else { 25 }
 }
 
-pub fn column_after(length: usize, old: usize, column: usize) -> usize {
+pub fn column_after(length: usize, old: usize, column: usize) -> usize
+    ensures { λ r. ⌜ r ≡ pick (eqb length 0) column old ⌝ }
+{
     if length == 0 { column } else { old }
 }
 
-pub fn key_after(key: u64, b: u8) -> u64 {
+pub fn key_after(key: u64, b: u8) -> u64
+    ensures { λ r. ⌜ r ≡ key % 2 ^ 48 * 256 + b ⌝ }
+{
     key % 281474976710656 * 256 + b as u64
 }
 
-pub fn hex_after(hex: usize, d: u8) -> usize {
+pub fn hex_after(hex: usize, d: u8) -> usize
+    ensures { λ r. ⌜ r ≡ hex % 2 ^ 20 * 16 + d ⌝ }
+{
     hex % 1048576 * 16 + d as usize
 }
 
 // No word yet, after so many blanks.
-pub fn none(blanks: u8) -> Word {
+pub fn none(blanks: u8) -> Word
+    ensures { λ r. ⌜ r ≡ noWord blanks ⌝ }
+{
     Word {
         length: 0,
         column: 0,
@@ -68,7 +106,9 @@ pub fn none(blanks: u8) -> Word {
 }
 
 // No word, where a remark begins.
-pub fn none_at(column: usize) -> Word {
+pub fn none_at(column: usize) -> Word
+    ensures { λ r. ⌜ r ≡ noWordAt column ⌝ }
+{
     Word {
         length: 0,
         column,
@@ -82,7 +122,9 @@ pub fn none_at(column: usize) -> Word {
 }
 
 // The word with one byte more, which stands at that column.
-pub fn longer(w: Word, b: u8, column: usize) -> Word {
+pub fn longer(w: Word, b: u8, column: usize) -> Word
+    ensures { λ r. ⌜ r ≡ wordWith w b column ⌝ }
+{
     let d = digit(b);
     Word {
         length: length_after(w.length),
@@ -97,7 +139,9 @@ pub fn longer(w: Word, b: u8, column: usize) -> Word {
 }
 
 // The sort of a word of at most six bytes that is no byte, by its bytes as one number.
-pub fn by_key(key: u64) -> Sort {
+pub fn by_key(key: u64) -> Sort
+    ensures { λ r. ⌜ r ≡ byKey key ⌝ }
+{
     match key {
         0x013e => Sort::Reply,
         0x013d => Sort::Expect,
@@ -116,7 +160,9 @@ pub fn by_key(key: u64) -> Sort {
     }
 }
 
-pub fn sort_of(w: Word) -> Sort {
+pub fn sort_of(w: Word) -> Sort
+    ensures { λ r. ⌜ r ≡ sortOf w ⌝ }
+{
     if w.hexadecimal & (w.length == 2) {
         return Sort::Byte;
     }
@@ -127,7 +173,9 @@ pub fn sort_of(w: Word) -> Sort {
 }
 
 // The byte that two hex digits stand for; 0 for ??.
-pub fn byte_of(w: Word) -> u8 {
+pub fn byte_of(w: Word) -> u8
+    ensures { λ r. ⌜ r ≡ byteOf w ⌝ }
+{
     if w.hexadecimal {
         (w.hex % 256) as u8
     } else {

@@ -1,0 +1,4 @@
+-- Laws of a line's reading.
+pub mod Picks
+pub mod Steps
+pub mod Parts

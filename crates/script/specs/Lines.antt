@@ -1,0 +1,180 @@
+-- A line as a fold over its bytes: what one byte does, what a word's end does, what is stored, and the line that is left at its end.
+use Prim.Native.Nat.{ℕ, _-_}
+use mathlib.Core.Path.{_≡_}
+use mathlib.Core.Bool.{Bool, true, false, not, _&&_}
+use mathlib.Core.List.{List, [], _∷_}
+use lib.Dec.{eqb, ltb}
+use lib.ListN.{set, take, drop, replicate}
+use Rattle.rules.specs.Words.{pick, num}
+use Rattle.script.specs.declared.Line.{Line}
+use Rattle.script.specs.declared.Mode.{Mode}
+use Rattle.script.specs.declared.Mode.the-variants.{Open, Remark, Wrong}
+use Rattle.script.specs.declared.Next.{Next}
+use Rattle.script.specs.declared.Next.the-variants.{To, Stray, Mistake}
+use Rattle.script.specs.declared.Place.{Place}
+use Rattle.script.specs.declared.Reading.{Reading}
+use Rattle.script.specs.declared.Verb.{Verb}
+use Rattle.script.specs.declared.Word.{Word}
+use Rattle.script.specs.Words.{blank, oneMore, noWord, noWordAt, wordWith, sortOf, byteOf}
+use Rattle.script.specs.Grammar.{nothingSaid, nextOf, canEnd, saidWith, ofFrame, ofExpected, isByte}
+
+-- ---- a byte
+
+-- a line of which nothing is read
+abbrev pub begun : Reading
+begun = record { mode = Open; place = Place.First; read = 0; shown = replicate 24 0; word = noWord 0; said = nothingSaid }
+
+-- in a remark, or after a mistake: only counted
+abbrev pub passedBy : Reading → Reading
+passedBy r = record { mode = r .mode; place = r .place; read = oneMore (r .read); shown = r .shown; word = r .word; said = r .said }
+
+-- the word's first bytes with one more, as long as there is room
+abbrev pub shownWith : List ℕ → ℕ → ℕ → List ℕ
+shownWith l n b = pick (ltb n 24) (set l n b) l
+
+-- the word goes on, or begins
+abbrev pub goesOn : Reading → ℕ → Reading
+goesOn r b =
+    record {
+      mode = Open;
+      place = r .place;
+      read = oneMore (r .read);
+      shown = shownWith (r .shown) (r .word .length) b;
+      word = wordWith (r .word) b (oneMore (r .read));
+      said = r .said;
+    }
+
+-- one blank more, where no word is
+abbrev pub blankMore : Reading → Reading
+blankMore r =
+    record { mode = Open; place = r .place; read = oneMore (r .read); shown = r .shown; word = noWord (pick (eqb (r .word .blanks) 0) 1 2); said = r .said }
+
+-- a remark begins, where no word is
+abbrev pub remarkFrom : Reading → Reading
+remarkFrom r =
+    record { mode = Remark; place = r .place; read = oneMore (r .read); shown = r .shown; word = noWordAt (oneMore (r .read)); said = r .said }
+
+-- a while the line is open, else b
+abbrev pub whileOpen {ℓ} : {A : Type ℓ} → Mode → A → A → A
+whileOpen Open a b = a
+whileOpen Remark a b = b
+whileOpen Wrong a b = b
+
+-- ---- a word's end
+
+abbrev pub withMode : Mode → Reading → Reading
+withMode m r = record { mode = m; place = r .place; read = r .read; shown = r .shown; word = r .word; said = r .said }
+
+-- the word may stand here, and that place comes next
+abbrev pub wentTo : Reading → Place → Reading
+wentTo r to =
+    record { mode = Open; place = to; read = r .read; shown = replicate 24 0; word = noWord 0; said = saidWith (r .place) (r .word) (r .said) }
+
+-- what follows a word. A stray word starts a remark after two blanks, and is a mistake after one
+abbrev pub goes : Reading → Next → Reading
+goes r (To p) = wentTo r p
+goes r Stray = pick (ltb 1 (r .word .blanks)) (withMode Remark r) (withMode Wrong r)
+goes r Mistake = withMode Wrong r
+
+-- a word stands before the blank, the # or the line's end
+abbrev pub hasWord : Reading → Bool
+hasWord r = whileOpen (r .mode) (not (eqb (r .word .length) 0)) false
+
+unfoldable pub wordEnded : Reading → Reading
+wordEnded r = pick (hasWord r) (goes r (nextOf (r .place) (r .word))) r
+
+-- ---- what is stored
+
+-- what is held while a line is read: the reading, and the bytes of the frame, the expected bytes, and 1 where one of these is known
+pub record Held : Type 0 where
+  pub reading : Reading
+  pub frame : List ℕ
+  pub expected : List ℕ
+  pub known : List ℕ
+
+abbrev pub held : Reading → List ℕ → List ℕ → List ℕ → Held
+held r f e k = record { reading = r; frame = f; expected = e; known = k }
+
+-- v at that place, where the test holds and the place is one of the 65,537
+abbrev pub stored : List ℕ → ℕ → ℕ → Bool → List ℕ
+stored l at v t = pick t (pick (ltb at 65537) (set l at v) l) l
+
+abbrev pub toFrame : Reading → Bool
+toFrame r = hasWord r && ofFrame (r .place) (sortOf (r .word))
+
+abbrev pub toExpected : Reading → Bool
+toExpected r = hasWord r && ofExpected (r .place) (sortOf (r .word))
+
+-- the word before this byte, or before the line's end, is over
+unfoldable pub closed : Held → Held
+closed h =
+    held (wordEnded (h .reading))
+    (stored (h .frame) (h .reading .said .sent) (byteOf (h .reading .word)) (toFrame (h .reading)))
+    (stored (h .expected) (h .reading .said .expected) (byteOf (h .reading .word)) (toExpected (h .reading)))
+    (stored (h .known) (h .reading .said .expected) (num (isByte (sortOf (h .reading .word)))) (toExpected (h .reading)))
+
+-- ---- the fold
+
+abbrev pub afterLetter : Reading → ℕ → Reading
+afterLetter r b = whileOpen (r .mode) (goesOn r b) (passedBy r)
+
+abbrev pub afterBlank : Reading → Reading
+afterBlank r = whileOpen (r .mode) (blankMore r) (passedBy r)
+
+abbrev pub afterHash : Reading → Reading
+afterHash r = whileOpen (r .mode) (remarkFrom r) (passedBy r)
+
+abbrev pub onReading : (Reading → Reading) → Held → Held
+onReading f h = held (f (h .reading)) (h .frame) (h .expected) (h .known)
+
+-- one byte: # or a blank after the word before it, or a byte of a word
+unfoldable pub stepped : Held → ℕ → Held
+stepped h b =
+    pick (eqb b 0x23) (onReading afterHash (closed h))
+    (pick (blank b) (onReading afterBlank (closed h))
+    (held (afterLetter (h .reading) b) (h .frame) (h .expected) (h .known)))
+
+unfoldable pub readOn : Held → List ℕ → Held
+readOn h [] = h
+readOn h (b ∷ bs) = readOn (stepped h b) bs
+
+-- the bytes from `from` to `to` of a text, as far as it goes
+abbrev pub part : ℕ → ℕ → List ℕ → List ℕ
+part from to text = take (to - from) (drop from text)
+
+-- ---- the line's end
+
+-- a mistake, or a line that ends too early, is wrong
+abbrev pub verbAt : Mode → Place → Verb → Verb
+verbAt Open p v = pick (canEnd p) v Verb.Wrong
+verbAt Remark p v = pick (canEnd p) v Verb.Wrong
+verbAt Wrong p v = Verb.Wrong
+
+unfoldable pub lineOf : Reading → Line
+lineOf r =
+    record {
+      verb = verbAt (r .mode) (r .place) (r .said .verb);
+      sent = r .said .sent;
+      wanted = r .said .wanted;
+      expects = r .said .expects;
+      expected = r .said .expected;
+      judged = r .said .judged;
+      number = r .said .number;
+      count = r .said .count;
+      start = r .said .start;
+      place = r .place;
+      word = r .shown;
+      length = r .word .length;
+      column = whileOpen (r .mode) (oneMore (r .read)) (r .word .column);
+    }
+
+-- ---- the promises
+
+-- what reading more of a line gives back and leaves
+pub record ReadPromise (r : Reading) (text : List ℕ) (from to : ℕ) (frame expected known : List ℕ) (r′ : Reading) (frame′ expected′ known′ : List ℕ) : Type 0 where
+  pub outcome : held r′ frame′ expected′ known′ ≡ readOn (held r frame expected known) (part from to text)
+
+-- what the line's end gives back and leaves
+pub record EndPromise (r : Reading) (frame expected known : List ℕ) (l : Line) (frame′ expected′ known′ : List ℕ) : Type 0 where
+  pub line : l ≡ lineOf (wordEnded r)
+  pub stores : held (wordEnded r) frame′ expected′ known′ ≡ closed (held r frame expected known)
