@@ -1,9 +1,15 @@
 // A row an event: its text, and from column 40 on what came.
 use crate::words;
 use rows::Row;
+ghost use mathlib.Core.Path.{_≡_};
+ghost use lib.ListN.{length};
+ghost use Rattle.rows.specs.Rows.{put, blanks};
+ghost use Rattle.wording.specs.Events.{gap, longer, wants, sentBytes, replyBytes, replied, frameRow, doneRow, cutRow, newRow, replyRow, moreRow};
 
 // Blanks to column 40, or two of them behind a longer text.
-fn aside(r: Row) -> Row {
+fn aside(r: Row) -> Row
+    ensures { λ q. ⌜ q ≡ put r (blanks (gap (r .length))) ⌝ }
+{
     let at = r.length;
     if at < 38 {
         return rows::pad(r, 40 - at);
@@ -12,7 +18,9 @@ fn aside(r: Row) -> Row {
 }
 
 // How many bytes were sent, where not all are shown.
-fn longer(r: Row, n: usize) -> Row {
+fn longer(r: Row, n: usize) -> Row
+    ensures { λ q. ⌜ q ≡ put r (longer n) ⌝ }
+{
     if n <= 8 {
         return r;
     }
@@ -21,7 +29,9 @@ fn longer(r: Row, n: usize) -> Row {
     rows::text(r, b" bytes")
 }
 
-fn wants(r: Row, sent: usize, wanted: usize) -> Row {
+fn wants(r: Row, sent: usize, wanted: usize) -> Row
+    ensures { λ q. ⌜ q ≡ put r (wants sent wanted) ⌝ }
+{
     if (wanted == 0) & (0 < sent) {
         return r;
     }
@@ -29,7 +39,9 @@ fn wants(r: Row, sent: usize, wanted: usize) -> Row {
     rows::size(r, wanted)
 }
 
-fn sent_bytes(r: Row, sent: &[u8], wanted: usize) -> Row {
+fn sent_bytes(r: Row, sent: &[u8], wanted: usize) -> Row
+    ensures { λ q. ⌜ q ≡ put r (sentBytes (now (sent .entry)) wanted) ⌝ }
+{
     let n = sent.len();
     let r = rows::plain_bytes(r, sent, 0, 8);
     let r = longer(r, n);
@@ -37,7 +49,9 @@ fn sent_bytes(r: Row, sent: &[u8], wanted: usize) -> Row {
 }
 
 // A short reply, or how long it is.
-fn reply_bytes(r: Row, reply: &[u8], marks: &[u8]) -> Row {
+fn reply_bytes(r: Row, reply: &[u8], marks: &[u8]) -> Row
+    ensures { λ q. ⌜ q ≡ put r (replyBytes (now (reply .entry)) (now (marks .entry))) ⌝ }
+{
     let n = reply.len();
     if n == 0 {
         return r;
@@ -51,7 +65,9 @@ fn reply_bytes(r: Row, reply: &[u8], marks: &[u8]) -> Row {
     rows::text(r, b" bytes:")
 }
 
-fn replied(r: Row, number: u8, reply: &[u8], marks: &[u8]) -> Row {
+fn replied(r: Row, number: u8, reply: &[u8], marks: &[u8]) -> Row
+    ensures { λ q. ⌜ q ≡ put r (replied number (now (reply .entry)) (now (marks .entry))) ⌝ }
+{
     if number == 0 {
         return reply_bytes(r, reply, marks);
     }
@@ -66,7 +82,9 @@ pub fn frame_row(
     number: u8,
     reply: &[u8],
     marks: &[u8],
-) -> Row {
+) -> Row
+    ensures { λ q. ⌜ q ≡ frameRow line (now (sent .entry)) wanted number (now (reply .entry)) (now (marks .entry)) ⌝ }
+{
     let r = words::numbered(line);
     let r = sent_bytes(r, sent, wanted);
     let r = aside(r);
@@ -75,7 +93,9 @@ pub fn frame_row(
 }
 
 // A completion.
-pub fn done_row(line: u64, number: u8) -> Row {
+pub fn done_row(line: u64, number: u8) -> Row
+    ensures { λ q. ⌜ q ≡ doneRow line number ⌝ }
+{
     let r = words::numbered(line);
     let r = rows::text(r, b" done");
     let r = aside(r);
@@ -83,7 +103,9 @@ pub fn done_row(line: u64, number: u8) -> Row {
 }
 
 // A power cut after k bytes.
-pub fn cut_row(line: u64, k: u64, number: u8) -> Row {
+pub fn cut_row(line: u64, k: u64, number: u8) -> Row
+    ensures { λ q. ⌜ q ≡ cutRow line k number ⌝ }
+{
     let r = words::numbered(line);
     let r = rows::text(r, b" cut ");
     let r = rows::number(r, k);
@@ -92,7 +114,9 @@ pub fn cut_row(line: u64, k: u64, number: u8) -> Row {
 }
 
 // A new chip.
-pub fn new_row(line: u64) -> Row {
+pub fn new_row(line: u64) -> Row
+    ensures { λ q. ⌜ q ≡ newRow line ⌝ }
+{
     let r = words::numbered(line);
     let r = rows::text(r, b" new");
     let r = aside(r);
@@ -100,7 +124,9 @@ pub fn new_row(line: u64) -> Row {
 }
 
 // Sixteen bytes of a long reply, from a place on.
-pub fn reply_row(place: usize, reply: &[u8], marks: &[u8]) -> Row {
+pub fn reply_row(place: usize, reply: &[u8], marks: &[u8]) -> Row
+    ensures { λ q. ⌜ q ≡ replyRow place (now (reply .entry)) (now (marks .entry)) ⌝ }
+{
     let r = words::below();
     let r = rows::text(r, b"+");
     let r = rows::place(r, 4, place);
@@ -109,7 +135,9 @@ pub fn reply_row(place: usize, reply: &[u8], marks: &[u8]) -> Row {
 }
 
 // So many bytes of a reply are not shown.
-pub fn more_row(hidden: usize) -> Row {
+pub fn more_row(hidden: usize) -> Row
+    ensures { λ q. ⌜ q ≡ moreRow hidden ⌝ }
+{
     let r = words::below();
     let r = rows::text(r, b".. ");
     let r = words::counted(r, hidden as u64, b"more byte");

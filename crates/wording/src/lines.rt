@@ -1,9 +1,14 @@
 // A wrong line of a script, and the counts at its end.
 use crate::words;
 use rows::Row;
+ghost use mathlib.Core.Path.{_≡_};
+ghost use Rattle.rows.specs.Rows.{put};
+ghost use Rattle.wording.specs.Lines.{cutOff, wrongText, wrongRow, allowed, allowedRow, wrongLines, totalsRow};
 
 // Two dots behind a word that is longer than what is shown of it.
-fn cut_off(r: Row, length: usize) -> Row {
+fn cut_off(r: Row, length: usize) -> Row
+    ensures { λ q. ⌜ q ≡ put r (cutOff length) ⌝ }
+{
     if length <= 24 {
         return r;
     }
@@ -11,9 +16,17 @@ fn cut_off(r: Row, length: usize) -> Row {
 }
 
 // The word that is wrong (its first bytes, and its length, 25 for a longer one), and its column. No word: the line's end.
-pub fn wrong_row(line: u64, word: &[u8; 24], length: usize, column: usize) -> Row {
+pub fn wrong_row(line: u64, word: &[u8; 24], length: usize, column: usize) -> Row
+    ensures { λ q. ⌜ q ≡ wrongRow line (now (word .entry)) length column ⌝ }
+{
     let r = words::numbered(line);
     let r = rows::text(r, b" wrong: ");
+    wrong_word(r, word, length, column)
+}
+
+fn wrong_word(r: Row, word: &[u8], length: usize, column: usize) -> Row
+    ensures { λ q. ⌜ q ≡ put r (wrongText (now (word .entry)) length column) ⌝ }
+{
     if length == 0 {
         return rows::text(r, b"the line ends too early");
     }
@@ -25,7 +38,9 @@ pub fn wrong_row(line: u64, word: &[u8; 24], length: usize, column: usize) -> Ro
 }
 
 // What is allowed at a place of a line's grammar.
-fn allowed(r: Row, place: u8) -> Row {
+fn allowed(r: Row, place: u8) -> Row
+    ensures { λ q. ⌜ q ≡ put r (allowed place) ⌝ }
+{
     if place == 0 {
         return rows::text(
             r,
@@ -68,13 +83,17 @@ fn allowed(r: Row, place: u8) -> Row {
     rows::text(r, b"nothing more, or # remark")
 }
 
-pub fn allowed_row(place: u8) -> Row {
+pub fn allowed_row(place: u8) -> Row
+    ensures { λ q. ⌜ q ≡ allowedRow place ⌝ }
+{
     let r = words::below();
     let r = rows::text(r, b"allowed: ");
     allowed(r, place)
 }
 
-fn wrong_lines(r: Row, n: u64) -> Row {
+fn wrong_lines(r: Row, n: u64) -> Row
+    ensures { λ q. ⌜ q ≡ put r (wrongLines n) ⌝ }
+{
     if n == 0 {
         return r;
     }
@@ -83,7 +102,9 @@ fn wrong_lines(r: Row, n: u64) -> Row {
 }
 
 // The last row.
-pub fn totals_row(events: u64, refused: u64, differences: u64, wrong: u64) -> Row {
+pub fn totals_row(events: u64, refused: u64, differences: u64, wrong: u64) -> Row
+    ensures { λ q. ⌜ q ≡ totalsRow events refused differences wrong ⌝ }
+{
     let r = words::counted(rows::empty(), events, b"event");
     let r = rows::text(r, b", ");
     let r = rows::number(r, refused);

@@ -1,15 +1,23 @@
 // What several rows have in common.
 use rows::Row;
+ghost use mathlib.Core.Path.{_≡_};
+ghost use Prim.Native.Nat.{_<_};
+ghost use Rattle.rows.specs.Rows.{put, row};
+ghost use Rattle.wording.specs.Words.{lead, numbered, below, counted, plural, meaning, answer, named, comma};
 
 // The script's line, right-aligned in five columns, and a blank.
-pub fn numbered(line: u64) -> Row {
+pub fn numbered(line: u64) -> Row
+    ensures { λ q. ⌜ q ≡ row (numbered line) ⌝ }
+{
     let r = rows::empty();
     let r = lead(r, line);
     let r = rows::number(r, line);
     rows::pad(r, 1)
 }
 
-pub fn lead(r: Row, n: u64) -> Row {
+fn lead(r: Row, n: u64) -> Row
+    ensures { λ q. ⌜ q ≡ put r (lead n) ⌝ }
+{
     if n < 10 {
         return rows::pad(r, 4);
     }
@@ -26,15 +34,25 @@ pub fn lead(r: Row, n: u64) -> Row {
 }
 
 // A row below a numbered one.
-pub fn below() -> Row {
+pub fn below() -> Row
+    ensures { λ q. ⌜ q ≡ row below ⌝ }
+{
     rows::pad(rows::empty(), 7)
 }
 
 // A number and its word, in the plural where it is not 1.
-pub fn counted(r: Row, n: u64, word: &[u8]) -> Row {
+pub fn counted(r: Row, n: u64, word: &[u8]) -> Row
+    ensures { λ q. ⌜ q ≡ put r (counted n (now (word .entry))) ⌝ }
+{
     let r = rows::number(r, n);
     let r = rows::pad(r, 1);
     let r = rows::text(r, word);
+    plural(r, n)
+}
+
+fn plural(r: Row, n: u64) -> Row
+    ensures { λ q. ⌜ q ≡ put r (plural n) ⌝ }
+{
     if n == 1 {
         return r;
     }
@@ -42,7 +60,9 @@ pub fn counted(r: Row, n: u64, word: &[u8]) -> Row {
 }
 
 // The words of a refusal.
-pub fn meaning(r: Row, number: u8) -> Row {
+fn meaning(r: Row, number: u8) -> Row
+    ensures { λ q. ⌜ q ≡ put r (meaning number) ⌝ }
+{
     if number == 1 {
         return rows::text(r, b"record or length not allowed");
     }
@@ -50,7 +70,7 @@ pub fn meaning(r: Row, number: u8) -> Row {
         return rows::text(r, b"frame empty");
     }
     if number == 3 {
-        return rows::text(r, b"not listed in this protocol");
+        return rows::text(r, b"opcode not in this protocol");
     }
     if number == 4 {
         return rows::text(r, b"length not as listed");
@@ -83,7 +103,9 @@ pub fn meaning(r: Row, number: u8) -> Row {
 }
 
 // "done", or "refused", the number and its words.
-pub fn answer(r: Row, number: u8) -> Row {
+pub fn answer(r: Row, number: u8) -> Row
+    ensures { λ q. ⌜ q ≡ put r (answer number) ⌝ }
+{
     if number == 0 {
         return rows::text(r, b"done");
     }
@@ -94,7 +116,10 @@ pub fn answer(r: Row, number: u8) -> Row {
 }
 
 // A name where the bit of value p is set, behind a comma where a lower bit is set too.
-pub fn named(r: Row, s: u8, p: u8, name: &[u8]) -> Row {
+pub fn named(r: Row, s: u8, p: u8, name: &[u8]) -> Row
+    requires { ⌜ 0 < p ⌝ }
+    ensures { λ q. ⌜ q ≡ put r (named s p (now (name .entry))) ⌝ }
+{
     if s / p % 2 == 0 {
         return r;
     }
@@ -103,7 +128,9 @@ pub fn named(r: Row, s: u8, p: u8, name: &[u8]) -> Row {
     rows::text(r, name)
 }
 
-fn comma(r: Row, lower: u8) -> Row {
+fn comma(r: Row, lower: u8) -> Row
+    ensures { λ q. ⌜ q ≡ put r (comma lower) ⌝ }
+{
     if lower == 0 {
         return r;
     }

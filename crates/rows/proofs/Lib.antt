@@ -1,0 +1,3 @@
+-- Laws of rows.
+pub mod Laws
+pub mod Unique

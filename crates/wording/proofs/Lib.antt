@@ -1,0 +1,2 @@
+-- Laws of the rows that the player writes.
+pub mod Laws

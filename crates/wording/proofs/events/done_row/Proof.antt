@@ -1,0 +1,37 @@
+-- The word, and beside it the answer. Assumes nothing.
+use Rattle.rows.proofs.Laws.{then}
+use Rattle.wording.proofs.Laws.{came-beside}
+use Rattle.wording.specs.Events.{doneRow}
+use borrow.Author.Needs.{needs}
+use Rattle.wording.proofs.events.done_row.Statement.{statement}
+use Rattle.wording.proofs.events.done_row.Tie as tie
+
+numbered-requires : tie.Need-numbered-requires
+numbered-requires c κs = search needs
+
+slice-aggregate-text : tie.Need-slice-aggregate-text
+slice-aggregate-text c = search needs
+
+text-requires : tie.Need-text-requires
+text-requires c κs = search needs
+
+aside-requires : tie.Need-aside-requires
+aside-requires c κs = search needs
+
+answer-requires : tie.Need-answer-requires
+answer-requires c κs = search needs
+
+returns : tie.Need-returns
+unfolding doneRow
+returns c = came-beside _ _ _ _ _ (then _ _ _ _ _ (c .before .before .before .before .numbered .ensures) (c .before .before .text .ensures)) (c .before .aside .ensures) (c .answer .ensures)
+
+pub done-row-spec : {M : Type 1} → statement M
+done-row-spec =
+    tie.close
+    (tie.spec
+    numbered-requires
+    slice-aggregate-text
+    text-requires
+    aside-requires
+    answer-requires
+    returns)

@@ -1,0 +1,6 @@
+-- What the player writes.
+pub mod Words
+pub mod Events
+pub mod Differences
+pub mod Questions
+pub mod Lines
