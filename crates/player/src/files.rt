@@ -2,7 +2,6 @@
 use crate::bench::Identity;
 use crate::bench::Lent;
 use crate::bench::Memory;
-use crate::bytes::blank;
 use crate::lines::Session;
 use crate::lines::line_ended;
 use crate::lines::session_begun;
@@ -97,32 +96,38 @@ fn parts_played(
     turn.session
 }
 
-// A script to its end. Its last line may lack the newline; an empty one says nothing.
-fn script_played(
-    fd: i32,
-    input: &mut Input,
-    array: &mut Memory,
-    security: &mut Identity,
-    frame: &mut Lent,
-    expected: &mut Lent,
-    known: &mut Lent,
-    reply: &mut Lent,
-    marks: &mut Lent,
-) {
-    blank(array, security);
+// A script to its end, on a new chip with all memory FF. Its last line may lack the newline; an empty one says nothing.
+fn script_played(fd: i32) {
+    let mut input = [0u8; 65536];
+    let mut array = [255u8; 2097152];
+    let mut security = [255u8; 2048];
+    let mut frame = [0u8; 65537];
+    let mut expected = [0u8; 65537];
+    let mut known = [0u8; 65537];
+    let mut reply = [0u8; 65537];
+    let mut marks = [0u8; 65537];
     let read = parts_played(
         session_begun(),
         fd,
-        input,
-        array,
-        security,
-        frame,
-        expected,
-        known,
-        reply,
-        marks,
+        &mut input,
+        &mut array,
+        &mut security,
+        &mut frame,
+        &mut expected,
+        &mut known,
+        &mut reply,
+        &mut marks,
     );
-    let whole = line_ended(read, array, security, frame, expected, known, reply, marks);
+    let whole = line_ended(
+        read,
+        &mut array,
+        &mut security,
+        &mut frame,
+        &mut expected,
+        &mut known,
+        &mut reply,
+        &mut marks,
+    );
     totals_told(whole);
 }
 
@@ -159,18 +164,8 @@ fn descriptor_of(name: &[u8]) -> i32 {
     os::open_read(name)
 }
 
-fn file_played(
-    name: &[u8],
-    many: bool,
-    input: &mut Input,
-    array: &mut Memory,
-    security: &mut Identity,
-    frame: &mut Lent,
-    expected: &mut Lent,
-    known: &mut Lent,
-    reply: &mut Lent,
-    marks: &mut Lent,
-) {
+// Its name stands above a script that is one of several.
+fn file_played(name: &[u8], many: bool) {
     let fd = descriptor_of(name);
     if fd < 0 {
         unopened_told(name);
@@ -180,119 +175,37 @@ fn file_played(
         say(name);
         say(b"\n");
     }
-    script_played(
-        fd,
-        input,
-        array,
-        security,
-        frame,
-        expected,
-        known,
-        reply,
-        marks,
-    );
+    script_played(fd);
     libc::close(fd);
 }
 
-fn argument_played(
-    i: usize,
-    many: bool,
-    input: &mut Input,
-    array: &mut Memory,
-    security: &mut Identity,
-    frame: &mut Lent,
-    expected: &mut Lent,
-    known: &mut Lent,
-    reply: &mut Lent,
-    marks: &mut Lent,
-) {
+fn argument_played(i: usize, many: bool) {
     let mut name = io::buffer();
     let n = os::arg(i, &mut name);
     if os::errno() != 0 {
         say(b"a name is too long\n");
         return;
     }
-    file_played(
-        &name[..n],
-        many,
-        input,
-        array,
-        security,
-        frame,
-        expected,
-        known,
-        reply,
-        marks,
-    );
+    file_played(&name[..n], many);
 }
 
-// The arguments from the first on; rows of blanks stand between the files.
-fn arguments_played(
-    n: usize,
-    input: &mut Input,
-    array: &mut Memory,
-    security: &mut Identity,
-    frame: &mut Lent,
-    expected: &mut Lent,
-    known: &mut Lent,
-    reply: &mut Lent,
-    marks: &mut Lent,
-) {
+// The arguments but the program's own name; an empty row stands between two scripts.
+fn arguments_played(n: usize) {
     let mut i: usize = 1;
     while i < n {
         if 1 < i {
             say(b"\n");
         }
-        argument_played(
-            i,
-            2 < n,
-            input,
-            array,
-            security,
-            frame,
-            expected,
-            known,
-            reply,
-            marks,
-        );
+        argument_played(i, 2 < n);
         i += 1;
     }
 }
 
-pub fn all_played(
-    input: &mut Input,
-    array: &mut Memory,
-    security: &mut Identity,
-    frame: &mut Lent,
-    expected: &mut Lent,
-    known: &mut Lent,
-    reply: &mut Lent,
-    marks: &mut Lent,
-) {
+pub fn all_played() {
     let n = os::arg_count();
     if n < 2 {
-        script_played(
-            libc::STDIN_FILENO,
-            input,
-            array,
-            security,
-            frame,
-            expected,
-            known,
-            reply,
-            marks,
-        );
+        script_played(libc::STDIN_FILENO);
         return;
     }
-    arguments_played(
-        n,
-        input,
-        array,
-        security,
-        frame,
-        expected,
-        known,
-        reply,
-        marks,
-    );
+    arguments_played(n);
 }

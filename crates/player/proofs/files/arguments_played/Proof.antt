@@ -5,10 +5,10 @@ use Rattle.player.proofs.files.arguments_played.Statement.{statement}
 use Rattle.player.proofs.files.arguments_played.Tie as tie
 
 abbrev Inv-loop : tie.InvT-loop
-Inv-loop n input₀ array₀ security₀ frame₀ expected₀ known₀ reply₀ marks₀ i₀ t11 input array security frame expected known reply marks i = Unit {0}
+Inv-loop n i₀ t3 i = Unit {0}
 
 abbrev μ-loop : tie.MeasureT-loop
-μ-loop n input₀ array₀ security₀ frame₀ expected₀ known₀ reply₀ marks₀ i₀ t11 input array security frame expected known reply marks i = n - i
+μ-loop n i₀ t3 i = n - i
 
 loop-holds : tie.Need-loop-holds Inv-loop μ-loop
 loop-holds c = search needs
