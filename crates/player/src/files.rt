@@ -2,37 +2,47 @@
 use crate::bench::Identity;
 use crate::bench::Lent;
 use crate::bench::Memory;
+use crate::bytes::within;
 use crate::lines::Session;
-use crate::lines::line_ended;
 use crate::lines::session_begun;
 use crate::lines::text_played;
 use crate::lines::totals_told;
+use crate::lines::with_more;
 use crate::say::say;
-ghost use Rattle.io.specs.Counts.{Counts};
 
 type Input = [u8; 65536];
 
-// What one read gave: the session after it, and whether there may be more.
-struct Turn {
-    session: Session,
+// Bytes of a script, and whether more may come.
+struct Came {
+    count: usize,
     more: bool,
 }
 
-// The next bytes of the input; none at its end.
-fn some_read(fd: i32, input: &mut [u8]) -> usize
-    ensures { λ r. ⌜ Counts r (now (input .exit)) ⌝ }
-{
-    let got = libc::read(fd, input);
+fn failure_told(got: isize) {
     if got < 0 {
         say(b"       cannot be read to its end\n");
     }
-    io::count(got, input)
+}
+
+// The next bytes of a script. Its end ends the last line as a newline does: an empty line says nothing.
+fn some_read(fd: i32, input: &mut Input) -> Came {
+    let got = libc::read(fd, input);
+    failure_told(got);
+    let count = io::count(got, input);
+    if count == 0 {
+        input[0] = b'\n';
+        return Came {
+            count: 1,
+            more: false,
+        };
+    }
+    Came { count, more: true }
 }
 
 fn part_played(
     s: Session,
-    fd: i32,
-    input: &mut [u8],
+    came: Came,
+    input: &[u8],
     array: &mut Memory,
     security: &mut Identity,
     frame: &mut Lent,
@@ -40,8 +50,8 @@ fn part_played(
     known: &mut Lent,
     reply: &mut Lent,
     marks: &mut Lent,
-) -> Turn {
-    let n = some_read(fd, input);
+) -> Session {
+    let n = within(came.count, input);
     let after = text_played(
         s,
         &input[..n],
@@ -53,10 +63,7 @@ fn part_played(
         reply,
         marks,
     );
-    Turn {
-        session: after,
-        more: n != 0,
-    }
+    with_more(after, came.more)
 }
 
 // A proved loop has to end, and nothing says that an input does: so it counts its turns down, from a number that no run uses up.
@@ -73,16 +80,13 @@ fn parts_played(
     marks: &mut Lent,
 ) -> Session {
     let mut turns = u64::MAX;
-    let mut turn = Turn {
-        session: s,
-        more: true,
-    };
-    while turns > 0 && turn.more {
+    let mut now = s;
+    while turns > 0 && now.more {
         turns -= 1;
-        let before = turn.session;
-        turn = part_played(
-            before,
-            fd,
+        let came = some_read(fd, input);
+        now = part_played(
+            now,
+            came,
             input,
             array,
             security,
@@ -93,10 +97,10 @@ fn parts_played(
             marks,
         );
     }
-    turn.session
+    now
 }
 
-// A script to its end, on a new chip with all memory FF. Its last line may lack the newline; an empty one says nothing.
+// A script to its end, on a new chip with all memory FF.
 fn script_played(fd: i32) {
     let mut input = [0u8; 65536];
     let mut array = [255u8; 2097152];
@@ -106,7 +110,7 @@ fn script_played(fd: i32) {
     let mut known = [0u8; 65537];
     let mut reply = [0u8; 65537];
     let mut marks = [0u8; 65537];
-    let read = parts_played(
+    totals_told(parts_played(
         session_begun(),
         fd,
         &mut input,
@@ -117,18 +121,7 @@ fn script_played(fd: i32) {
         &mut known,
         &mut reply,
         &mut marks,
-    );
-    let whole = line_ended(
-        read,
-        &mut array,
-        &mut security,
-        &mut frame,
-        &mut expected,
-        &mut known,
-        &mut reply,
-        &mut marks,
-    );
-    totals_told(whole);
+    ));
 }
 
 fn is_dash(name: &[u8]) -> bool {

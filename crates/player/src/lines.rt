@@ -24,17 +24,30 @@ use script::Verb;
 ghost use Prim.Native.Nat.{_≤_};
 ghost use lib.ListN.{length};
 
-// The bench, and the line that is half read.
+// The bench, the line that is half read, and whether the input may have more.
 pub struct Session {
     pub bench: Bench,
     pub reading: Reading,
+    pub more: bool,
+}
+
+// Before a line of which nothing is read.
+fn at_line(b: Bench) -> Session {
+    Session {
+        bench: b,
+        reading: script::start(),
+        more: true,
+    }
 }
 
 pub fn session_begun() -> Session {
-    Session {
-        bench: begun(),
-        reading: script::start(),
-    }
+    at_line(begun())
+}
+
+pub fn with_more(s: Session, more: bool) -> Session {
+    let mut next = s;
+    next.more = more;
+    next
 }
 
 // The number by which wording knows a place of the grammar.
@@ -109,8 +122,17 @@ fn line_played(
     }
 }
 
+fn line_of(s: Session, frame: &mut Lent, expected: &mut Lent, known: &mut Lent) -> Line {
+    let r = s.reading;
+    script::ended(r, frame, expected, known)
+}
+
+fn bench_of(s: Session) -> Bench {
+    at_next_line(s.bench)
+}
+
 // The line that was read ends here.
-pub fn line_ended(
+fn line_ended(
     s: Session,
     array: &mut Memory,
     security: &mut Identity,
@@ -120,14 +142,18 @@ pub fn line_ended(
     reply: &mut Lent,
     marks: &mut Lent,
 ) -> Session {
-    let r = s.reading;
-    let l = script::ended(r, frame, expected, known);
-    let b = at_next_line(s.bench);
-    let played = line_played(b, l, array, security, frame, expected, known, reply, marks);
-    Session {
-        bench: played,
-        reading: script::start(),
-    }
+    let l = line_of(s, frame, expected, known);
+    at_line(line_played(
+        bench_of(s),
+        l,
+        array,
+        security,
+        frame,
+        expected,
+        known,
+        reply,
+        marks,
+    ))
 }
 
 // Where the line that holds a place of the text ends, or the text.
@@ -145,6 +171,12 @@ fn line_end(text: &[u8], from: usize) -> usize
     i
 }
 
+fn with_reading(s: Session, reading: Reading) -> Session {
+    let mut next = s;
+    next.reading = reading;
+    next
+}
+
 fn part_read(
     s: Session,
     text: &[u8],
@@ -155,11 +187,7 @@ fn part_read(
     known: &mut Lent,
 ) -> Session {
     let r = s.reading;
-    let b = s.bench;
-    Session {
-        bench: b,
-        reading: script::read(r, text, from, to, frame, expected, known),
-    }
+    with_reading(s, script::read(r, text, from, to, frame, expected, known))
 }
 
 // A line from one place of the text to another. Where it ends before the text does, it is played.
