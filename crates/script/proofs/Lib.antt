@@ -2,3 +2,4 @@
 pub mod Picks
 pub mod Steps
 pub mod Parts
+pub mod Listing

@@ -15,7 +15,5 @@
 -- The first mistake makes the whole line wrong, and is kept: its place in the line's grammar, the word's first 24 bytes, its length (at most 25; 0 where
 -- the line ends too early) and its column.
 --
--- Words: bytes to words, and their sorts. Grammar: what may follow what, and what it says. Lines: a line as a fold over its bytes.
-pub mod Words
-pub mod Grammar
+-- Crate `grammar`, specs/Words: bytes to words, and their sorts; specs/Grammar: what may follow what, and what it says. Lines, here: a line as a fold over its bytes.
 pub mod Lines

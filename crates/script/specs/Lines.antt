@@ -9,14 +9,14 @@ use Rattle.rules.specs.Words.{pick, num}
 use Rattle.script.specs.declared.Line.{Line}
 use Rattle.script.specs.declared.Mode.{Mode}
 use Rattle.script.specs.declared.Mode.the-variants.{Open, Remark, Wrong}
-use Rattle.script.specs.declared.Next.{Next}
-use Rattle.script.specs.declared.Next.the-variants.{To, Stray, Mistake}
-use Rattle.script.specs.declared.Place.{Place}
+use Rattle.grammar.specs.declared.Next.{Next}
+use Rattle.grammar.specs.declared.Next.the-variants.{To, Stray, Mistake}
+use Rattle.grammar.specs.declared.Place.{Place}
 use Rattle.script.specs.declared.Reading.{Reading}
-use Rattle.script.specs.declared.Verb.{Verb}
-use Rattle.script.specs.declared.Word.{Word}
-use Rattle.script.specs.Words.{blank, oneMore, noWord, noWordAt, wordWith, sortOf, byteOf}
-use Rattle.script.specs.Grammar.{nothingSaid, nextOf, canEnd, saidWith, ofFrame, ofExpected, isByte}
+use Rattle.grammar.specs.declared.Verb.{Verb}
+use Rattle.grammar.specs.declared.Word.{Word}
+use Rattle.grammar.specs.Words.{blank, endsWords, oneMore, noWord, noWordAt, wordWith, sortOf, byteOf}
+use Rattle.grammar.specs.Grammar.{nothingSaid, nextOf, canEnd, saidWith, ofFrame, ofExpected, isByte}
 
 -- ---- a byte
 
@@ -54,11 +54,22 @@ abbrev pub remarkFrom : Reading → Reading
 remarkFrom r =
     record { mode = Remark; place = r .place; read = oneMore (r .read); shown = r .shown; word = noWordAt (oneMore (r .read)); said = r .said }
 
--- a while the line is open, else b
-abbrev pub whileOpen {ℓ} : {A : Type ℓ} → Mode → A → A → A
-whileOpen Open a b = a
-whileOpen Remark a b = b
-whileOpen Wrong a b = b
+abbrev pub isOpen : Mode → Bool
+isOpen Open = true
+isOpen Remark = false
+isOpen Wrong = false
+
+abbrev pub isWrong : Mode → Bool
+isWrong Open = false
+isWrong Remark = false
+isWrong Wrong = true
+
+-- a byte while the line is open: # or a blank, where no word is, or a byte of a word
+unfoldable pub takenOpen : Reading → ℕ → Reading
+takenOpen r b = pick (eqb b 0x23) (remarkFrom r) (pick (blank b) (blankMore r) (goesOn r b))
+
+abbrev pub takenByte : Reading → ℕ → Reading
+takenByte r b = pick (isOpen (r .mode)) (takenOpen r b) (passedBy r)
 
 -- ---- a word's end
 
@@ -78,7 +89,7 @@ goes r Mistake = withMode Wrong r
 
 -- a word stands before the blank, the # or the line's end
 abbrev pub hasWord : Reading → Bool
-hasWord r = whileOpen (r .mode) (not (eqb (r .word .length) 0)) false
+hasWord r = isOpen (r .mode) && not (eqb (r .word .length) 0)
 
 unfoldable pub wordEnded : Reading → Reading
 wordEnded r = pick (hasWord r) (goes r (nextOf (r .place) (r .word))) r
@@ -115,24 +126,13 @@ closed h =
 
 -- ---- the fold
 
-abbrev pub afterLetter : Reading → ℕ → Reading
-afterLetter r b = whileOpen (r .mode) (goesOn r b) (passedBy r)
+-- the word before the byte b is over, where b ends words
+unfoldable pub closedAt : ℕ → Held → Held
+closedAt b h = pick (endsWords b) (closed h) h
 
-abbrev pub afterBlank : Reading → Reading
-afterBlank r = whileOpen (r .mode) (blankMore r) (passedBy r)
-
-abbrev pub afterHash : Reading → Reading
-afterHash r = whileOpen (r .mode) (remarkFrom r) (passedBy r)
-
-abbrev pub onReading : (Reading → Reading) → Held → Held
-onReading f h = held (f (h .reading)) (h .frame) (h .expected) (h .known)
-
--- one byte: # or a blank after the word before it, or a byte of a word
+-- one byte: the word before it may be over, then it is taken itself
 unfoldable pub stepped : Held → ℕ → Held
-stepped h b =
-    pick (eqb b 0x23) (onReading afterHash (closed h))
-    (pick (blank b) (onReading afterBlank (closed h))
-    (held (afterLetter (h .reading) b) (h .frame) (h .expected) (h .known)))
+stepped h b = held (takenByte (closedAt b h .reading) b) (closedAt b h .frame) (closedAt b h .expected) (closedAt b h .known)
 
 unfoldable pub readOn : Held → List ℕ → Held
 readOn h [] = h
@@ -144,16 +144,11 @@ part from to text = take (to - from) (drop from text)
 
 -- ---- the line's end
 
--- a mistake, or a line that ends too early, is wrong
-abbrev pub verbAt : Mode → Place → Verb → Verb
-verbAt Open p v = pick (canEnd p) v Verb.Wrong
-verbAt Remark p v = pick (canEnd p) v Verb.Wrong
-verbAt Wrong p v = Verb.Wrong
-
+-- a mistake, or a line that ends too early, is wrong. Where a line ends too early, its end is the mistake's column, or the # of a remark
 unfoldable pub lineOf : Reading → Line
 lineOf r =
     record {
-      verb = verbAt (r .mode) (r .place) (r .said .verb);
+      verb = pick (isWrong (r .mode)) Verb.Wrong (pick (canEnd (r .place)) (r .said .verb) Verb.Wrong);
       sent = r .said .sent;
       wanted = r .said .wanted;
       expects = r .said .expects;
@@ -165,7 +160,7 @@ lineOf r =
       place = r .place;
       word = r .shown;
       length = r .word .length;
-      column = whileOpen (r .mode) (oneMore (r .read)) (r .word .column);
+      column = pick (isOpen (r .mode)) (oneMore (r .read)) (r .word .column);
     }
 
 -- ---- the promises

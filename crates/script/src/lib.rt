@@ -1,55 +1,16 @@
 // One line of a script, read byte by byte. The language and what each function gives are in specs/.
-mod grammar;
 mod lines;
-mod words;
 
+pub use grammar::Place;
+use grammar::Said;
+pub use grammar::Verb;
+use grammar::Word;
+use grammar::places;
+use grammar::words;
 ghost use mathlib.Core.Path.{_≡_};
 ghost use Rattle.script.specs.Lines.{begun, ReadPromise, EndPromise};
 
 // ---- what a line says
-
-pub enum Verb {
-    Blank,
-    Frame,
-    Done,
-    Cut,
-    New,
-    Status,
-    Work,
-    Locks,
-    Dump,
-    Full,
-    Short,
-    Wrong,
-}
-
-// A place in a line: what the words so far leave to come.
-pub enum Place {
-    // the line's first word
-    First,
-    // after a frame's byte
-    Sent,
-    // after `>`
-    ReplyCount,
-    // after `> N`
-    Replied,
-    // after `=`
-    Expected,
-    // after an expected byte
-    MoreExpected,
-    // after `!`
-    Refusal,
-    // after `done` or `cut N`
-    AfterEvent,
-    // after `cut`
-    CutCount,
-    // after `dump`
-    DumpPlace,
-    // after `dump A`
-    DumpCount,
-    // nothing may follow but a remark
-    End,
-}
 
 pub struct Line {
     pub verb: Verb,
@@ -80,37 +41,6 @@ pub struct Line {
 
 // ---- a line half read
 
-// A word half read; none while its length is 0.
-pub struct Word {
-    // at most 25
-    pub length: usize,
-    // where it begins, counted from 1
-    pub column: usize,
-    // blanks before it, at most 2
-    pub blanks: u8,
-    // its bytes as one number
-    pub key: u64,
-    // only decimal digits so far, and their number, at most 2^64 - 1
-    pub decimal: bool,
-    pub number: u64,
-    // only hex digits so far, and the number of the last six
-    pub hexadecimal: bool,
-    pub hex: usize,
-}
-
-// What the words so far say.
-pub struct Said {
-    pub verb: Verb,
-    pub sent: usize,
-    pub wanted: usize,
-    pub expects: bool,
-    pub expected: usize,
-    pub judged: bool,
-    pub number: u8,
-    pub count: u64,
-    pub start: usize,
-}
-
 pub enum Mode {
     Open,
     // the rest is a remark
@@ -130,34 +60,6 @@ pub struct Reading {
     pub said: Said,
 }
 
-// ---- words and what follows them
-
-pub enum Sort {
-    // two hex digits
-    Byte,
-    // ??
-    Any,
-    // >
-    Reply,
-    // =
-    Expect,
-    // !
-    Refuse,
-    Done,
-    Cut,
-    Dump,
-    // a word that is a whole line
-    Alone(Verb),
-    Other,
-}
-
-pub enum Next {
-    To(Place),
-    // a word that cannot stand here, where the line could end
-    Stray,
-    Mistake,
-}
-
 // ---- the calls
 
 // A line of which nothing is read.
@@ -170,7 +72,7 @@ pub fn start() -> Reading
         read: 0,
         shown: [0; 24],
         word: words::none(0),
-        said: grammar::nothing(),
+        said: places::nothing(),
     }
 }
 

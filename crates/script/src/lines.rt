@@ -1,22 +1,21 @@
 // A line half read, by the byte and by the word. specs/Lines.antt.
 use crate::Line;
 use crate::Mode;
-use crate::Next;
-use crate::Place;
 use crate::Reading;
-use crate::Said;
-use crate::Verb;
-use crate::Word;
-use crate::grammar;
-use crate::words;
+use grammar::Next;
+use grammar::Place;
+use grammar::Verb;
+use grammar::Word;
+use grammar::places;
+use grammar::words;
 ghost use mathlib.Core.Path.{_≡_};
 ghost use lib.Dec.{eqb};
 ghost use Rattle.rules.specs.Words.{pick, num};
-ghost use Rattle.script.specs.declared.Next.the-variants.{Stray};
-ghost use Rattle.script.specs.declared.Verb.{Verb};
-ghost use Rattle.script.specs.Words.{oneMore, noWord, sortOf};
-ghost use Rattle.script.specs.Grammar.{isByte, nextOf};
-ghost use Rattle.script.specs.Lines.{passedBy, shownWith, goesOn, afterLetter, afterBlank, afterHash, withMode, wentTo, goes, hasWord, wordEnded, stored, toFrame, toExpected, held, closed, stepped, verbAt, whileOpen, lineOf};
+ghost use Rattle.grammar.specs.declared.Next.the-variants.{Stray};
+ghost use Rattle.grammar.specs.declared.Verb.{Verb};
+ghost use Rattle.grammar.specs.Words.{oneMore, noWord, sortOf};
+ghost use Rattle.grammar.specs.Grammar.{isByte, nextOf};
+ghost use Rattle.script.specs.Lines.{passedBy, shownWith, goesOn, blankMore, remarkFrom, takenOpen, isOpen, isWrong, takenByte, closedAt, withMode, wentTo, goes, hasWord, wordEnded, stored, toFrame, toExpected, held, closed, stepped, lineOf};
 
 // ---- one byte
 
@@ -70,18 +69,6 @@ pub fn goes_on(r: Reading, b: u8) -> Reading
     }
 }
 
-// A byte of a word.
-pub fn lettered(r: Reading, b: u8) -> Reading
-    ensures { λ q. ⌜ q ≡ afterLetter r b ⌝ }
-{
-    let mode = r.mode;
-    match mode {
-        Mode::Open => goes_on(r, b),
-        Mode::Remark => passed(r),
-        Mode::Wrong => passed(r),
-    }
-}
-
 // One blank more, at most 2.
 pub fn blank_more(w: Word) -> Word
     ensures { λ q. ⌜ q ≡ noWord (pick (eqb (w .blanks) 0) 1 2) ⌝ }
@@ -93,49 +80,73 @@ pub fn blank_more(w: Word) -> Word
     }
 }
 
-// A blank, no word before it.
-pub fn spaced(r: Reading) -> Reading
-    ensures { λ q. ⌜ q ≡ afterBlank r ⌝ }
+// One blank more, where no word is.
+pub fn blanked(r: Reading) -> Reading
+    ensures { λ q. ⌜ q ≡ blankMore r ⌝ }
 {
-    let mode = r.mode;
     let place = r.place;
     let shown = r.shown;
     let word = r.word;
     let said = r.said;
-    match mode {
-        Mode::Open => Reading {
-            mode: Mode::Open,
-            place,
-            read: words::one_more(r.read),
-            shown,
-            word: blank_more(word),
-            said,
-        },
-        Mode::Remark => passed(r),
-        Mode::Wrong => passed(r),
+    Reading {
+        mode: Mode::Open,
+        place,
+        read: words::one_more(r.read),
+        shown,
+        word: blank_more(word),
+        said,
     }
 }
 
-// A #, no word before it.
-pub fn remarked(r: Reading) -> Reading
-    ensures { λ q. ⌜ q ≡ afterHash r ⌝ }
+// A remark begins, where no word is.
+pub fn remark_from(r: Reading) -> Reading
+    ensures { λ q. ⌜ q ≡ remarkFrom r ⌝ }
 {
-    let mode = r.mode;
     let place = r.place;
     let shown = r.shown;
     let said = r.said;
     let read = words::one_more(r.read);
-    match mode {
-        Mode::Open => Reading {
-            mode: Mode::Remark,
-            place,
-            read,
-            shown,
-            word: words::none_at(read),
-            said,
-        },
-        Mode::Remark => passed(r),
-        Mode::Wrong => passed(r),
+    Reading {
+        mode: Mode::Remark,
+        place,
+        read,
+        shown,
+        word: words::none_at(read),
+        said,
+    }
+}
+
+// A byte while the line is open: # or a blank, where no word is, or a byte of a word.
+pub fn taken_open(r: Reading, b: u8) -> Reading
+    ensures { λ q. ⌜ q ≡ takenOpen r b ⌝ }
+{
+    if b == 35 {
+        return remark_from(r);
+    }
+    if words::is_blank(b) {
+        return blanked(r);
+    }
+    goes_on(r, b)
+}
+
+pub fn is_open(m: Mode) -> bool
+    ensures { λ q. ⌜ q ≡ isOpen m ⌝ }
+{
+    match m {
+        Mode::Open => true,
+        Mode::Remark => false,
+        Mode::Wrong => false,
+    }
+}
+
+pub fn taken(r: Reading, b: u8) -> Reading
+    ensures { λ q. ⌜ q ≡ takenByte r b ⌝ }
+{
+    let mode = r.mode;
+    if is_open(mode) {
+        taken_open(r, b)
+    } else {
+        passed(r)
     }
 }
 
@@ -171,7 +182,7 @@ pub fn went(r: Reading, to: Place) -> Reading
         read: r.read,
         shown: [0; 24],
         word: words::none(0),
-        said: grammar::heard(place, word, said),
+        said: places::heard(place, word, said),
     }
 }
 
@@ -202,7 +213,7 @@ pub fn judged(r: Reading) -> Reading
 {
     let place = r.place;
     let word = r.word;
-    went_on(r, grammar::follows(place, word))
+    went_on(r, places::follows(place, word))
 }
 
 // There is a word to judge.
@@ -211,11 +222,7 @@ pub fn has_word(r: Reading) -> bool
 {
     let mode = r.mode;
     let word = r.word;
-    match mode {
-        Mode::Open => word.length != 0,
-        Mode::Remark => false,
-        Mode::Wrong => false,
-    }
+    is_open(mode) & (word.length != 0)
 }
 
 // A word's end.
@@ -242,7 +249,7 @@ pub fn to_frame(r: Reading) -> bool
 {
     let place = r.place;
     let word = r.word;
-    has_word(r) & grammar::framed(place, words::sort_of(word))
+    has_word(r) & places::framed(place, words::sort_of(word))
 }
 
 pub fn to_expected(r: Reading) -> bool
@@ -250,14 +257,14 @@ pub fn to_expected(r: Reading) -> bool
 {
     let place = r.place;
     let word = r.word;
-    has_word(r) & grammar::awaited(place, words::sort_of(word))
+    has_word(r) & places::awaited(place, words::sort_of(word))
 }
 
 // 1 for a byte, 0 for ??.
 pub fn known_of(w: Word) -> u8
     ensures { λ q. ⌜ q ≡ num (isByte (sortOf w)) ⌝ }
 {
-    if grammar::is_byte(words::sort_of(w)) {
+    if places::is_byte(words::sort_of(w)) {
         1
     } else {
         0
@@ -283,6 +290,22 @@ pub fn close_word(
     word_ended(r)
 }
 
+// The word before this byte is over, where the byte ends words.
+pub fn close_at(
+    r: Reading,
+    b: u8,
+    frame: &mut [u8; 65537],
+    expected: &mut [u8; 65537],
+    known: &mut [u8; 65537],
+) -> Reading
+    ensures { λ q. ⌜ held q (now (frame .exit)) (now (expected .exit)) (now (known .exit)) ≡ closedAt b (held r (now (frame .entry)) (now (expected .entry)) (now (known .entry))) ⌝ }
+{
+    if words::ends_words(b) {
+        return close_word(r, frame, expected, known);
+    }
+    r
+}
+
 pub fn step(
     r: Reading,
     b: u8,
@@ -292,41 +315,36 @@ pub fn step(
 ) -> Reading
     ensures { λ q. ⌜ held q (now (frame .exit)) (now (expected .exit)) (now (known .exit)) ≡ stepped (held r (now (frame .entry)) (now (expected .entry)) (now (known .entry))) b ⌝ }
 {
-    if b == 35 {
-        return remarked(close_word(r, frame, expected, known));
-    }
-    if words::is_blank(b) {
-        return spaced(close_word(r, frame, expected, known));
-    }
-    lettered(r, b)
+    let at = close_at(r, b, frame, expected, known);
+    taken(at, b)
 }
 
 // ---- the line
 
-pub fn verb_at(mode: Mode, place: Place, verb: Verb) -> Verb
-    ensures { λ q. ⌜ q ≡ verbAt mode place verb ⌝ }
+// A mistake, or a line that ends too early, is wrong.
+pub fn verb_at(wrong: bool, ends: bool, verb: Verb) -> Verb
+    ensures { λ q. ⌜ q ≡ pick wrong Verb.Wrong (pick ends verb Verb.Wrong) ⌝ }
 {
-    match mode {
-        Mode::Open => verb_where(grammar::can_end(place), verb),
-        Mode::Remark => verb_where(grammar::can_end(place), verb),
-        Mode::Wrong => Verb::Wrong,
+    if wrong {
+        return Verb::Wrong;
     }
-}
-
-pub fn verb_where(ends: bool, verb: Verb) -> Verb
-    ensures { λ q. ⌜ q ≡ pick ends verb Verb.Wrong ⌝ }
-{
     if ends { verb } else { Verb::Wrong }
 }
 
-pub fn column_at(mode: Mode, column: usize, read: usize) -> usize
-    ensures { λ q. ⌜ q ≡ whileOpen mode (oneMore read) column ⌝ }
+pub fn is_wrong(m: Mode) -> bool
+    ensures { λ q. ⌜ q ≡ isWrong m ⌝ }
 {
-    match mode {
-        Mode::Open => words::one_more(read),
-        Mode::Remark => column,
-        Mode::Wrong => column,
+    match m {
+        Mode::Open => false,
+        Mode::Remark => false,
+        Mode::Wrong => true,
     }
+}
+
+pub fn column_at(goes: bool, column: usize, read: usize) -> usize
+    ensures { λ q. ⌜ q ≡ pick goes (oneMore read) column ⌝ }
+{
+    if goes { words::one_more(read) } else { column }
 }
 
 pub fn line_of(r: Reading) -> Line
@@ -339,7 +357,7 @@ pub fn line_of(r: Reading) -> Line
     let said = r.said;
     let verb = said.verb;
     Line {
-        verb: verb_at(mode, place, verb),
+        verb: verb_at(is_wrong(mode), places::can_end(place), verb),
         sent: said.sent,
         wanted: said.wanted,
         expects: said.expects,
@@ -351,6 +369,6 @@ pub fn line_of(r: Reading) -> Line
         place,
         word: shown,
         length: word.length,
-        column: column_at(mode, word.column, r.read),
+        column: column_at(is_open(mode), word.column, r.read),
     }
 }

@@ -2,24 +2,16 @@
 use Rattle.script.proofs.Steps.{closed-reading, closed-stores}
 use Rattle.script.specs.Lines.{lineOf}
 use mathlib.Core.Path.{ap, _∙_}
-use native.Mathlib.Omega.{arith}
 use borrow.Author.Needs.{needs}
 use Rattle.script.proofs.ended.Statement.{statement}
 use Rattle.script.proofs.ended.Tie as tie
-use Rattle.script.proofs.ended.Reads as reads
-use Rattle.script.proofs.ended.Lts as lts
-use Rattle.script.proofs.lines.close_word.Reads as close-word-reads
-use Rattle.script.proofs.lines.line_of.Reads as line-of-reads
 
--- src/lib.rt:208:9
 close-word-requires : tie.Need-close-word-requires
 close-word-requires c κs = search needs
 
--- src/lib.rt:209:5
 line-of-requires : tie.Need-line-of-requires
 line-of-requires c κs = search needs
 
--- src/lib.rt:200:1
 returns : tie.Need-returns
 returns c = record {
   line = c .line-of .ensures ∙ ap lineOf (closed-reading (c .before .before .before .before .before .args .r) (c .before .before .before .before .before .args .frame .now) (c .before .before .before .before .before .args .expected .now) (c .before .before .before .before .before .args .known .now) _ _ _ _ (c .before .close-word .ensures));

@@ -8,10 +8,6 @@ use borrow.Author.Needs.{needs}
 use native.Mathlib.Omega.{arith}
 use Rattle.script.proofs.read.Statement.{statement}
 use Rattle.script.proofs.read.Tie as tie
-use Rattle.script.proofs.read.Reads as reads
-use Rattle.script.proofs.read.Lts as lts
-use Rattle.script.proofs.lines.step.Reads as step-reads
-use Rattle.script.proofs.words.smaller.Reads as smaller-reads
 
 abbrev Inv-loop : tie.InvT-loop
 Inv-loop text from to frame₀ expected₀ known₀ end now₀ i₀ frame expected known now i = record { ends : end ≡ min to (length text); is : readOn (held now frame expected known) (part i to text) ≡ readOn (held now₀ frame₀ expected₀ known₀) (part from to text) }
@@ -19,31 +15,24 @@ Inv-loop text from to frame₀ expected₀ known₀ end now₀ i₀ frame expect
 abbrev μ-loop : tie.MeasureT-loop
 μ-loop text from to frame₀ expected₀ known₀ end now₀ i₀ frame expected known now i = end - i
 
--- src/lib.rt:189:9
 smaller-requires : tie.Need-smaller-requires Inv-loop μ-loop
 smaller-requires c κs = search needs
 
--- src/lib.rt:192:5
 loop-holds : tie.Need-loop-holds Inv-loop μ-loop
 loop-holds c = record { ends = c .smaller .ensures; is = refl }
 
--- src/lib.rt:193:32
 shared-slice-read-step : tie.Need-shared-slice-read-step Inv-loop μ-loop
 shared-slice-read-step c = search needs
 
--- src/lib.rt:193:9
 step-requires : tie.Need-step-requires Inv-loop μ-loop
 step-requires c κs = search needs
 
--- src/lib.rt:194:9
 add-i : tie.Need-add-i Inv-loop μ-loop
 add-i c = search needs
 
--- src/lib.rt:192:5
 loop-less : tie.Need-loop-less Inv-loop μ-loop
 loop-less c = omega arith
 
--- src/lib.rt:192:5
 loop-again : tie.Need-loop-again Inv-loop μ-loop
 loop-again c = let l = c .before .before .before .before .before .before .loop in
     let a = c .before .before .before .before .before .before .before .before .before .args in
@@ -52,7 +41,6 @@ loop-again c = let l = c .before .before .before .before .before .before .loop i
       is = read-next (held (l .now) (l .frame) (l .expected) (l .known)) _ (l .i) (a .to) (a .text .now) (omega arith) (omega arith) (c .step .ensures) ∙ l .inv .is;
     }
 
--- src/lib.rt:178:1
 returns : tie.Need-returns Inv-loop μ-loop
 returns c = let l = c .before .loop in
     let a = c .before .before .before .before .args in

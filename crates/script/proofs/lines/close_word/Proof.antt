@@ -1,51 +1,33 @@
 -- Each store is the definition's, and so is the reading. Assumes nothing.
 use Rattle.script.specs.Lines.{closed}
-use native.Mathlib.Omega.{arith}
 use borrow.Author.Needs.{needs}
 use Rattle.script.proofs.lines.close_word.Statement.{statement}
 use Rattle.script.proofs.lines.close_word.Tie as tie
-use Rattle.script.proofs.lines.close_word.Reads as reads
-use Rattle.script.proofs.lines.close_word.Lts as lts
-use Rattle.script.proofs.lines.known_of.Reads as known-of-reads
-use Rattle.script.proofs.lines.store.Reads as store-reads
-use Rattle.script.proofs.lines.to_expected.Reads as to-expected-reads
-use Rattle.script.proofs.lines.to_frame.Reads as to-frame-reads
-use Rattle.script.proofs.lines.word_ended.Reads as word-ended-reads
-use Rattle.script.proofs.words.byte_of.Reads as byte-of-reads
 
--- src/lines.rt:265:9
 byte-of-requires : tie.Need-byte-of-requires
 byte-of-requires c κs = search needs
 
--- src/lines.rt:266:9
 to-expected-requires : tie.Need-to-expected-requires
 to-expected-requires c κs = search needs
 
--- src/lines.rt:267:36
 to-frame-requires : tie.Need-to-frame-requires
 to-frame-requires c κs = search needs
 
--- src/lines.rt:267:5
 store-requires : tie.Need-store-requires
 store-requires c κs = search needs
 
--- src/lines.rt:268:5
 store-requires-2 : tie.Need-store-requires-2
 store-requires-2 c κs = search needs
 
--- src/lines.rt:269:33
 known-of-requires : tie.Need-known-of-requires
 known-of-requires c κs = search needs
 
--- src/lines.rt:269:5
 store-requires-3 : tie.Need-store-requires-3
 store-requires-3 c κs = search needs
 
--- src/lines.rt:270:5
 word-ended-requires : tie.Need-word-ended-requires
 word-ended-requires c κs = search needs
 
--- src/lines.rt:255:1
 returns : tie.Need-returns
 unfolding closed
 returns c = rw (c .word-ended .ensures, c .before .before .before .before .before .before .store .ensures, c .before .before .before .before .store2 .ensures, c .before .store3 .ensures, c .before .before .before .before .before .before .before .to-frame .ensures, c .before .before .known-of .ensures, c .before .before .before .before .before .before .before .before .before .to-expected .ensures, c .before .before .before .before .before .before .before .before .before .before .byte-of .ensures)

@@ -1,29 +1,20 @@
 -- By the word's sort. Assumes nothing.
-use Rattle.script.specs.Grammar.{isByte}
+use Rattle.grammar.specs.Grammar.{isByte}
 use Rattle.rules.specs.Words.{num}
 use mathlib.Core.Path.{sym, ap, _∙_}
-use native.Mathlib.Omega.{arith}
 use borrow.Author.Needs.{needs}
 use Rattle.script.proofs.lines.known_of.Statement.{statement}
 use Rattle.script.proofs.lines.known_of.Tie as tie
-use Rattle.script.proofs.lines.known_of.Reads as reads
-use Rattle.script.proofs.lines.known_of.Lts as lts
-use Rattle.script.proofs.grammar.is_byte.Reads as is-byte-reads
-use Rattle.script.proofs.words.sort_of.Reads as sort-of-reads
 
--- src/lines.rt:255:25
 sort-of-requires : tie.Need-sort-of-requires
 sort-of-requires c κs = search needs
 
--- src/lines.rt:255:8
 is-byte-requires : tie.Need-is-byte-requires
 is-byte-requires c κs = search needs
 
--- src/lines.rt:252:1
 returns : tie.Need-returns
 returns c = ap num (sym (c .if1 .taken) ∙ c .before .is-byte .ensures ∙ ap isByte (c .before .before .sort-of .ensures))
 
--- src/lines.rt:252:1
 returns-2 : tie.Need-returns-2
 returns-2 c = ap num (sym (c .if1 .left) ∙ c .before .is-byte .ensures ∙ ap isByte (c .before .before .sort-of .ensures))
 

@@ -1,26 +1,35 @@
 -- Field by field. Assumes nothing.
 use Rattle.script.specs.Lines.{lineOf}
-use native.Mathlib.Omega.{arith}
 use borrow.Author.Needs.{needs}
 use Rattle.script.proofs.lines.line_of.Statement.{statement}
 use Rattle.script.proofs.lines.line_of.Tie as tie
-use Rattle.script.proofs.lines.line_of.Reads as reads
-use Rattle.script.proofs.lines.line_of.Lts as lts
-use Rattle.script.proofs.lines.column_at.Reads as column-at-reads
-use Rattle.script.proofs.lines.verb_at.Reads as verb-at-reads
 
--- src/lines.rt:329:15
+is-wrong-requires : tie.Need-is-wrong-requires
+is-wrong-requires c κs = search needs
+
+can-end-requires : tie.Need-can-end-requires
+can-end-requires c κs = search needs
+
 verb-at-requires : tie.Need-verb-at-requires
 verb-at-requires c κs = search needs
 
--- src/lines.rt:341:17
+is-open-requires : tie.Need-is-open-requires
+is-open-requires c κs = search needs
+
 column-at-requires : tie.Need-column-at-requires
 column-at-requires c κs = search needs
 
--- src/lines.rt:319:1
 returns : tie.Need-returns
 unfolding lineOf
-returns c = rw (c .before .verb-at .ensures, c .column-at .ensures)
+returns c = rw (c .column-at .ensures, c .before .is-open .ensures, c .before .before .verb-at .ensures, c .before .before .before .can-end .ensures, c .before .before .before .before .is-wrong .ensures)
 
 pub line-of-spec : {M : Type 1} → statement M
-line-of-spec = tie.close (tie.spec verb-at-requires column-at-requires returns)
+line-of-spec =
+    tie.close
+    (tie.spec
+    is-wrong-requires
+    can-end-requires
+    verb-at-requires
+    is-open-requires
+    column-at-requires
+    returns)

@@ -1,26 +1,18 @@
 -- The blanks before the word pick the mode. Assumes nothing.
 use borrow.Author.Tests.{lt-ltb, le-ltb}
-use native.Mathlib.Omega.{arith}
 use borrow.Author.Needs.{needs}
 use Rattle.script.proofs.lines.strayed.Statement.{statement}
 use Rattle.script.proofs.lines.strayed.Tie as tie
-use Rattle.script.proofs.lines.strayed.Reads as reads
-use Rattle.script.proofs.lines.strayed.Lts as lts
-use Rattle.script.proofs.lines.with_mode.Reads as with-mode-reads
 
--- src/lines.rt:180:9
 with-mode-requires : tie.Need-with-mode-requires
 with-mode-requires c κs = search needs
 
--- src/lines.rt:182:9
 with-mode-requires-2 : tie.Need-with-mode-requires-2
 with-mode-requires-2 c κs = search needs
 
--- src/lines.rt:175:1
 returns : tie.Need-returns
 returns c = rw (lt-ltb _ _ (c .before .if1 .taken)) (c .with-mode .ensures)
 
--- src/lines.rt:175:1
 returns-2 : tie.Need-returns-2
 returns-2 c = rw (le-ltb _ _ (c .before .if1 .left)) (c .with-mode2 .ensures)
 

@@ -1,49 +1,34 @@
 -- By what may follow. Assumes nothing.
 use Rattle.script.specs.Lines.{goes}
 use mathlib.Core.Path.{sym, ap, _∙_}
-use native.Mathlib.Omega.{arith}
 use borrow.Author.Needs.{needs}
 use Rattle.script.proofs.lines.went_on.Statement.{statement}
 use Rattle.script.proofs.lines.went_on.Tie as tie
-use Rattle.script.proofs.lines.went_on.Reads as reads
-use Rattle.script.proofs.lines.went_on.Lts as lts
-use Rattle.script.proofs.lines.strayed.Reads as strayed-reads
-use Rattle.script.proofs.lines.went.Reads as went-reads
-use Rattle.script.proofs.lines.with_mode.Reads as with-mode-reads
 
--- src/lines.rt:194:18
 enum-known-next : tie.Need-enum-known-next
 enum-known-next c = search needs
 
--- src/lines.rt:194:25
 went-requires : tie.Need-went-requires
 went-requires c κs = search needs
 
--- src/lines.rt:195:24
 enum-told : tie.Need-enum-told
 enum-told c = search needs
 
--- src/lines.rt:195:24
 strayed-requires : tie.Need-strayed-requires
 strayed-requires c κs = search needs
 
--- src/lines.rt:196:39
 enum-told-2 : tie.Need-enum-told-2
 enum-told-2 c = search needs
 
--- src/lines.rt:196:26
 with-mode-requires : tie.Need-with-mode-requires
 with-mode-requires c κs = search needs
 
--- src/lines.rt:190:1
 returns : tie.Need-returns
 returns c = c .went .ensures ∙ ap (goes (c .before .before .before .before .args .r)) (sym (c .before .before .next .given .1))
 
--- src/lines.rt:190:1
 returns-2 : tie.Need-returns-2
 returns-2 c = c .strayed .ensures ∙ ap (goes (c .before .before .before .args .r)) (sym (c .before .enum-told .given .1))
 
--- src/lines.rt:190:1
 returns-3 : tie.Need-returns-3
 returns-3 c = c .with-mode .ensures ∙ ap (goes (c .before .before .before .args .r)) (sym (c .before .enum-told2 .given .1))
 

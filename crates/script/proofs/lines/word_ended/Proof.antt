@@ -2,29 +2,20 @@
 use Rattle.script.specs.Lines.{wordEnded}
 use Rattle.script.proofs.Picks.{picked, passed-over}
 use mathlib.Core.Path.{_∙_}
-use native.Mathlib.Omega.{arith}
 use borrow.Author.Needs.{needs}
 use Rattle.script.proofs.lines.word_ended.Statement.{statement}
 use Rattle.script.proofs.lines.word_ended.Tie as tie
-use Rattle.script.proofs.lines.word_ended.Reads as reads
-use Rattle.script.proofs.lines.word_ended.Lts as lts
-use Rattle.script.proofs.lines.has_word.Reads as has-word-reads
-use Rattle.script.proofs.lines.judged.Reads as judged-reads
 
--- src/lines.rt:216:8
 has-word-requires : tie.Need-has-word-requires
 has-word-requires c κs = search needs
 
--- src/lines.rt:216:22
 judged-requires : tie.Need-judged-requires
 judged-requires c κs = search needs
 
--- src/lines.rt:213:1
 returns : tie.Need-returns
 unfolding wordEnded
 returns c = c .judged .ensures ∙ picked _ _ (c .before .before .has-word .ensures) (c .before .if1 .taken)
 
--- src/lines.rt:213:1
 returns-2 : tie.Need-returns-2
 unfolding wordEnded
 returns-2 c = passed-over _ _ (c .before .has-word .ensures) (c .if1 .left)
