@@ -1,3 +1,4 @@
 -- Laws of rows.
 pub mod Laws
+pub mod Shown
 pub mod Unique

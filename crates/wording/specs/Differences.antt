@@ -3,7 +3,7 @@ use Prim.Native.Nat.{ℕ}
 use mathlib.Core.List.{List, _++_}
 use Rattle.rows.specs.declared.Row.{Row}
 use Rattle.rows.specs.Rows.{ascii, row, blanks, decimal, hex, known}
-use Rattle.wording.specs.Words.{below, counted, answer}
+use Rattle.words.specs.Words.{below, counted, answer}
 use Rattle.wording.specs.Events.{part}
 
 -- at most eight expected bytes from a place on; ?? where any byte is allowed

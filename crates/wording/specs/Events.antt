@@ -7,7 +7,7 @@ use lib.ListN.{length}
 use Rattle.rules.specs.Words.{pick}
 use Rattle.rows.specs.declared.Row.{Row}
 use Rattle.rows.specs.Rows.{ascii, row, blanks, decimal, hex, within, bytes, marked}
-use Rattle.wording.specs.Words.{numbered, below, counted, answer}
+use Rattle.words.specs.Words.{numbered, below, counted, answer}
 
 -- blanks behind n columns: to column 40, or two where the text is longer
 abbrev pub gap : ℕ → ℕ

@@ -6,7 +6,7 @@ use lib.ListN.{length}
 use Rattle.rules.specs.Words.{pick}
 use Rattle.rows.specs.declared.Row.{Row}
 use Rattle.rows.specs.Rows.{ascii, row, decimal, within, letters}
-use Rattle.wording.specs.Words.{numbered, below, counted}
+use Rattle.words.specs.Words.{numbered, below, counted}
 
 -- two dots behind a word of which not all is shown
 unfoldable pub cutOff : ℕ → List ℕ

@@ -1,5 +1,4 @@
 // What a script expected and did not get.
-use crate::words;
 use rows::Row;
 ghost use mathlib.Core.Path.{_≡_};
 ghost use Rattle.wording.specs.Differences.{expectedRow, differenceRow, lengthRow, numberRow};

@@ -1,5 +1,4 @@
 // A row an event: its text, and from column 40 on what came.
-use crate::words;
 use rows::Row;
 ghost use mathlib.Core.Path.{_≡_};
 ghost use lib.ListN.{length};

@@ -1,5 +1,4 @@
 // A wrong line of a script, and the counts at its end.
-use crate::words;
 use rows::Row;
 ghost use mathlib.Core.Path.{_≡_};
 ghost use Rattle.rows.specs.Rows.{put};

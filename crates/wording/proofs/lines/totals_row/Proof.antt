@@ -1,6 +1,6 @@
 -- The counts in a row. Assumes nothing.
 use Rattle.rows.proofs.Laws.{then}
-use Rattle.wording.proofs.Laws.{start}
+use Rattle.words.proofs.Laws.{start}
 use Rattle.wording.specs.Lines.{totalsRow}
 use borrow.Author.Needs.{needs}
 use Rattle.wording.proofs.lines.totals_row.Statement.{statement}

@@ -1,0 +1,4 @@
+-- Laws of answers.
+pub mod Laws
+pub mod Listing
+pub mod Unique

@@ -1,0 +1,2 @@
+-- Answers to a script's questions.
+pub mod Questions

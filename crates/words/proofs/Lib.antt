@@ -1,0 +1,3 @@
+-- Laws of words.
+pub mod Laws
+pub mod Unique

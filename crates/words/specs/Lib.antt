@@ -1,0 +1,2 @@
+-- Words of rows.
+pub mod Words
