@@ -1,11 +1,15 @@
-// What a script expects of an event, compared with what came.
+// What a script expects of an event, compared with what came, and the tally of a script's events.
+use rules::Answer;
+use rules::Refusal;
 ghost use mathlib.Core.Path.{_≡_};
 ghost use mathlib.Core.Bool.{not, _&&_};
 ghost use Prim.Native.Nat.{min};
 ghost use lib.Dec.{eqb};
 ghost use lib.ListN.{getD};
 ghost use Rattle.rules.specs.Words.{num};
+ghost use Rattle.rules.specs.Numbers.{refusalNumber, answerNumber};
 ghost use Rattle.expecting.specs.Expectations.{First, Judged};
+ghost use Rattle.expecting.specs.Tallies.{added, untold, afterEvent, afterWrong};
 
 // What is not met.
 pub struct Verdict {
@@ -107,4 +111,89 @@ pub fn unmet(v: Verdict) -> u64
 {
     let bytes = v.length | (v.place < v.compared);
     one(v.number) + one(bytes)
+}
+
+// ---- the number of an answer
+
+fn refusal_number(why: Refusal) -> u8
+    ensures { λ r. ⌜ r ≡ refusalNumber why ⌝ }
+{
+    match why {
+        Refusal::Malformed => 1,
+        Refusal::Empty => 2,
+        Refusal::NotListed => 3,
+        Refusal::WrongLength => 4,
+        Refusal::Busy => 5,
+        Refusal::NoEnable => 6,
+        Refusal::NoIoc => 7,
+        Refusal::Suspension => 8,
+        Refusal::NoWel => 9,
+        Refusal::Closed => 10,
+        Refusal::WriteLocked => 11,
+        Refusal::NothingRuns => 12,
+    }
+}
+
+pub fn answer_number(answer: Answer) -> u8
+    ensures { λ r. ⌜ r ≡ answerNumber answer ⌝ }
+{
+    match answer {
+        Answer::Done => 0,
+        Answer::Refused(why) => refusal_number(why),
+    }
+}
+
+// ---- the tally
+
+// What a script's last row counts.
+pub struct Tally {
+    pub events: u64,
+    pub refused: u64,
+    // expectations that were not met
+    pub differences: u64,
+    // lines that are none of the language
+    pub wrong: u64,
+}
+
+pub fn no_events() -> Tally
+    ensures { λ r. ⌜ r ≡ untold ⌝ }
+{
+    Tally {
+        events: 0,
+        refused: 0,
+        differences: 0,
+        wrong: 0,
+    }
+}
+
+fn plus(n: u64, by: u64) -> u64
+    ensures { λ r. ⌜ r ≡ added n by ⌝ }
+{
+    if by <= 18446744073709551615 - n {
+        return n + by;
+    }
+    18446744073709551615
+}
+
+// An event with this number came, and so many of its expectations are not met.
+pub fn with_event(t: Tally, number: u8, unmet: u64) -> Tally
+    ensures { λ r. ⌜ r ≡ afterEvent t number unmet ⌝ }
+{
+    Tally {
+        events: plus(t.events, 1),
+        refused: plus(t.refused, one(number != 0)),
+        differences: plus(t.differences, unmet),
+        wrong: t.wrong,
+    }
+}
+
+pub fn with_wrong_line(t: Tally) -> Tally
+    ensures { λ r. ⌜ r ≡ afterWrong t ⌝ }
+{
+    Tally {
+        events: t.events,
+        refused: t.refused,
+        differences: t.differences,
+        wrong: plus(t.wrong, 1),
+    }
 }

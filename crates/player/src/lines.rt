@@ -248,5 +248,6 @@ pub fn text_played(
 
 pub fn totals_told(s: Session) {
     let b = s.bench;
-    say_row(wording::totals_row(b.events, b.refused, b.differences, b.wrong));
+    let t = b.tally;
+    say_row(wording::totals_row(t.events, t.refused, t.differences, t.wrong));
 }
