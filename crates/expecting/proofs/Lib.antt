@@ -1,0 +1,4 @@
+-- Laws that the proofs cite.
+pub mod Firsts
+pub mod Cases
+pub mod Unique

@@ -1,0 +1,3 @@
+-- When what a script expects is met, and what is counted.
+pub mod Expectations
+pub mod Tallies

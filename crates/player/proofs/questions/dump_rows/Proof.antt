@@ -1,0 +1,74 @@
+-- The rows that are left fall; a row's place lies below the count of places. Assumes nothing.
+use borrow.Author.Needs.{needs}
+use Prim.Native.Nat.{_-_, _/_}
+use Rattle.player.proofs.questions.dump_rows.Statement.{statement}
+use Rattle.player.proofs.questions.dump_rows.Tie as tie
+
+abbrev Inv-loop : tie.InvT-loop
+Inv-loop start n array i₀ i = Unit {0}
+
+abbrev μ-loop : tie.MeasureT-loop
+μ-loop start n array i₀ i = n / 16 - i
+
+loop-holds : tie.Need-loop-holds Inv-loop μ-loop
+loop-holds c = search needs
+
+mul-wrapping-add-usize : tie.Need-mul-wrapping-add-usize Inv-loop μ-loop
+mul-wrapping-add-usize c = search needs
+
+wrapping-add-usize-requires : tie.Need-wrapping-add-usize-requires Inv-loop μ-loop
+wrapping-add-usize-requires c κs = search needs
+
+dump-row-requires : tie.Need-dump-row-requires Inv-loop μ-loop
+dump-row-requires c κs = search needs
+
+say-row-requires : tie.Need-say-row-requires Inv-loop μ-loop
+say-row-requires c κs = search needs
+
+add-i : tie.Need-add-i Inv-loop μ-loop
+add-i c = search needs
+
+loop-less : tie.Need-loop-less Inv-loop μ-loop
+loop-less c = search needs
+
+loop-again : tie.Need-loop-again Inv-loop μ-loop
+loop-again c = search needs
+
+sub-wrapping-add-usize : tie.Need-sub-wrapping-add-usize Inv-loop μ-loop
+sub-wrapping-add-usize c = search needs
+
+wrapping-add-usize-requires-2 : tie.Need-wrapping-add-usize-requires-2 Inv-loop μ-loop
+wrapping-add-usize-requires-2 c κs = search needs
+
+dump-row-requires-2 : tie.Need-dump-row-requires-2 Inv-loop μ-loop
+dump-row-requires-2 c κs = search needs
+
+say-row-requires-2 : tie.Need-say-row-requires-2 Inv-loop μ-loop
+say-row-requires-2 c κs = search needs
+
+returns : tie.Need-returns Inv-loop μ-loop
+returns c = search needs
+
+returns-2 : tie.Need-returns-2 Inv-loop μ-loop
+returns-2 c = search needs
+
+pub dump-rows-spec : {M : Type 1} → statement M
+dump-rows-spec =
+    tie.close
+    (tie.spec
+    Inv-loop
+    μ-loop
+    loop-holds
+    mul-wrapping-add-usize
+    wrapping-add-usize-requires
+    dump-row-requires
+    say-row-requires
+    add-i
+    loop-less
+    loop-again
+    sub-wrapping-add-usize
+    wrapping-add-usize-requires-2
+    dump-row-requires-2
+    say-row-requires-2
+    returns
+    returns-2)
