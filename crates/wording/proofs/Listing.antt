@@ -5,7 +5,7 @@ use mathlib.Core.List.{[], _∷_, _++_}
 use lib.ListN.{replicate}
 use Rattle.rows.specs.Rows.{ascii, row, blanks, digits, hexDigit, hex, bytes, known, marked, printed, letters}
 use Rattle.words.specs.Words.{lead, numbered, below, counted, plural, meaning, answer}
-use Rattle.wording.specs.Events.{longer, wants, sentBytes, replyBytes, replied, frameRow, doneRow, cutRow, newRow, replyRow, moreRow}
+use Rattle.wording.specs.Events.{capped, longer, wants, sentBytes, replyBytes, replied, frameRow, doneRow, cutRow, newRow, replyRow, moreRow}
 use Rattle.wording.specs.Differences.{expectedRow, differenceRow, lengthRow, numberRow}
 use Rattle.wording.specs.Lines.{cutOff, wrongText, wrongRow, allowed, allowedRow, wrongLines, totalsRow}
 
@@ -13,34 +13,40 @@ use Rattle.wording.specs.Lines.{cutOff, wrongText, wrongRow, allowed, al
 
 program-frame : frameRow 4 (0x02 ∷ 0x00 ∷ 0x01 ∷ 0xFE ∷ 0x11 ∷ 0x22 ∷ 0x33 ∷ []) 0 0 [] []
     ≡ row (ascii "    4  02 00 01 FE 11 22 33       done")
-unfolding frameRow sentBytes longer wants replied replyBytes answer numbered lead blanks digits bytes hex hexDigit
+unfolding frameRow sentBytes longer capped wants replied replyBytes answer numbered lead blanks digits bytes hex hexDigit
 program-frame = refl
 
 read-frame : frameRow 12 (0x03 ∷ 0x00 ∷ 0x00 ∷ 0x00 ∷ []) 4 0 (0x11 ∷ 0x22 ∷ 0x00 ∷ 0x00 ∷ []) (1 ∷ 1 ∷ 0 ∷ 0 ∷ [])
     ≡ row (ascii "   12  03 00 00 00 > 4            done  11 22 ?? ??")
-unfolding frameRow sentBytes longer wants replied replyBytes answer numbered lead blanks digits bytes hex hexDigit known marked
+unfolding frameRow sentBytes longer capped wants replied replyBytes answer numbered lead blanks digits bytes hex hexDigit known marked
 read-frame = refl
 
 refused-frame : frameRow 8 (0x02 ∷ 0x00 ∷ 0x00 ∷ 0x00 ∷ 0x00 ∷ []) 0 11 [] []
     ≡ row (ascii "    8  02 00 00 00 00             refused 11: write-locked block")
-unfolding frameRow sentBytes longer wants replied replyBytes answer meaning numbered lead blanks digits bytes hex hexDigit
+unfolding frameRow sentBytes longer capped wants replied replyBytes answer meaning numbered lead blanks digits bytes hex hexDigit
 refused-frame = refl
 
 -- a frame of 260 bytes is longer than the column: two blanks
 long-frame : frameRow 30 (replicate 260 0x02) 0 9 [] []
     ≡ row (ascii "   30  02 02 02 02 02 02 02 02 .. 260 bytes  refused 9: WEL needed and 0")
-unfolding frameRow sentBytes longer wants replied replyBytes answer meaning numbered lead blanks digits bytes hex hexDigit
+unfolding frameRow sentBytes longer capped wants replied replyBytes answer meaning numbered lead blanks digits bytes hex hexDigit
 long-frame = refl
 
 long-reply : frameRow 31 (0x03 ∷ 0x00 ∷ 0x00 ∷ 0x00 ∷ []) 256 0 (replicate 256 0xFF) (replicate 256 1)
     ≡ row (ascii "   31  03 00 00 00 > 256          done  256 bytes:")
-unfolding frameRow sentBytes longer wants replied replyBytes answer numbered lead blanks digits bytes hex hexDigit
+unfolding frameRow sentBytes longer capped wants replied replyBytes answer numbered lead blanks digits bytes hex hexDigit
 long-reply = refl
 
 empty-frame : frameRow 7 [] 4 2 (0xFF ∷ 0xFF ∷ 0xFF ∷ 0xFF ∷ []) (0 ∷ 0 ∷ 0 ∷ 0 ∷ [])
     ≡ row (ascii "    7  > 4                        refused 2: frame empty")
-unfolding frameRow sentBytes longer wants replied replyBytes answer meaning numbered lead blanks digits bytes hex hexDigit
+unfolding frameRow sentBytes longer capped wants replied replyBytes answer meaning numbered lead blanks digits bytes hex hexDigit
 empty-frame = refl
+
+-- more reply bytes than any reply has
+long-wish : frameRow 69 (0x03 ∷ 0x00 ∷ 0x00 ∷ 0x00 ∷ []) 65537 1 [] []
+    ≡ row (ascii "   69  03 00 00 00 > over 65536   refused 1: record not well-formed, or a length")
+unfolding frameRow sentBytes longer capped wants replied replyBytes answer meaning numbered lead blanks digits bytes hex hexDigit
+long-wish = refl
 
 completion : doneRow 14 12 ≡ row (ascii "   14  done                       refused 12: completion with nothing running")
 unfolding doneRow answer meaning numbered lead blanks digits

@@ -19,13 +19,17 @@ beside event came = event ++ blanks (gap (length event)) ++ came
 
 -- ---- a frame
 
+-- a script's count of bytes stops at 65,537, one more than a frame and a reply can have
+unfoldable pub capped : ℕ → List ℕ
+capped n = pick (ltb 65536 n) (ascii "over 65536") (decimal n)
+
 -- at most eight of its bytes, and how many there are where there are more
 unfoldable pub longer : ℕ → List ℕ
-longer n = pick (leb n 8) [] (ascii " .. " ++ decimal n ++ ascii " bytes")
+longer n = pick (leb n 8) [] (ascii " .. " ++ capped n ++ ascii " bytes")
 
 -- the reply bytes that are wanted, if any; an empty frame always says how many
 unfoldable pub wants : ℕ → ℕ → List ℕ
-wants sent wanted = pick (eqb wanted 0 && ltb 0 sent) [] (ascii " > " ++ decimal wanted)
+wants sent wanted = pick (eqb wanted 0 && ltb 0 sent) [] (ascii " > " ++ capped wanted)
 
 unfoldable pub sentBytes : List ℕ → ℕ → List ℕ
 sentBytes sent wanted = bytes sent 0 (within (length sent) 0 8) ++ longer (length sent) ++ wants (length sent) wanted

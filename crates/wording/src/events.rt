@@ -3,7 +3,7 @@ use rows::Row;
 ghost use mathlib.Core.Path.{_≡_};
 ghost use lib.ListN.{length};
 ghost use Rattle.rows.specs.Rows.{put, blanks};
-ghost use Rattle.wording.specs.Events.{gap, longer, wants, sentBytes, replyBytes, replied, frameRow, doneRow, cutRow, newRow, replyRow, moreRow};
+ghost use Rattle.wording.specs.Events.{gap, capped, longer, wants, sentBytes, replyBytes, replied, frameRow, doneRow, cutRow, newRow, replyRow, moreRow};
 
 // Blanks to column 34, or two of them behind a longer text.
 fn aside(r: Row) -> Row
@@ -16,6 +16,16 @@ fn aside(r: Row) -> Row
     rows::pad(r, 2)
 }
 
+// A script's count of bytes stops at 65,537.
+fn count(r: Row, n: usize) -> Row
+    ensures { λ q. ⌜ q ≡ put r (capped n) ⌝ }
+{
+    if 65536 < n {
+        return rows::text(r, b"over 65536");
+    }
+    rows::size(r, n)
+}
+
 // How many bytes were sent, where not all are shown.
 fn longer(r: Row, n: usize) -> Row
     ensures { λ q. ⌜ q ≡ put r (longer n) ⌝ }
@@ -24,7 +34,7 @@ fn longer(r: Row, n: usize) -> Row
         return r;
     }
     let r = rows::text(r, b" .. ");
-    let r = rows::size(r, n);
+    let r = count(r, n);
     rows::text(r, b" bytes")
 }
 
@@ -35,7 +45,7 @@ fn wants(r: Row, sent: usize, wanted: usize) -> Row
         return r;
     }
     let r = rows::text(r, b" > ");
-    rows::size(r, wanted)
+    count(r, wanted)
 }
 
 fn sent_bytes(r: Row, sent: &[u8], wanted: usize) -> Row

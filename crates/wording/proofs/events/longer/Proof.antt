@@ -16,8 +16,8 @@ slice-aggregate-text c = search needs
 text-requires : tie.Need-text-requires
 text-requires c κs = search needs
 
-size-requires : tie.Need-size-requires
-size-requires c κs = search needs
+count-requires : tie.Need-count-requires
+count-requires c κs = search needs
 
 slice-aggregate-text-2 : tie.Need-slice-aggregate-text-2
 slice-aggregate-text-2 c = search needs
@@ -27,7 +27,7 @@ text-requires-2 c κs = search needs
 
 returns-2 : tie.Need-returns-2
 unfolding longer
-returns-2 c = rw (lt-leb _ _ (c .before .before .before .before .before .if1 .left)) (then _ _ _ _ _ (then _ _ _ _ _ (c .before .before .before .text .ensures) (c .before .before .size .ensures)) (c .text2 .ensures))
+returns-2 c = rw (lt-leb _ _ (c .before .before .before .before .before .if1 .left)) (then _ _ _ _ _ (then _ _ _ _ _ (c .before .before .before .text .ensures) (c .before .before .count .ensures)) (c .text2 .ensures))
 
 pub longer-spec : {M : Type 1} → statement M
 longer-spec =
@@ -36,7 +36,7 @@ longer-spec =
     returns
     slice-aggregate-text
     text-requires
-    size-requires
+    count-requires
     slice-aggregate-text-2
     text-requires-2
     returns-2)

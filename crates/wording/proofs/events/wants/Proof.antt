@@ -15,13 +15,13 @@ slice-aggregate-text c = search needs
 text-requires : tie.Need-text-requires
 text-requires c κs = search needs
 
-size-requires : tie.Need-size-requires
-size-requires c κs = search needs
+count-requires : tie.Need-count-requires
+count-requires c κs = search needs
 
 returns-2 : tie.Need-returns-2
 unfolding wants
-returns-2 c = rw (c .before .before .before .if1 .left) (then _ _ _ _ _ (c .before .text .ensures) (c .size .ensures))
+returns-2 c = rw (c .before .before .before .if1 .left) (then _ _ _ _ _ (c .before .text .ensures) (c .count .ensures))
 
 pub wants-spec : {M : Type 1} → statement M
 wants-spec =
-    tie.close (tie.spec returns slice-aggregate-text text-requires size-requires returns-2)
+    tie.close (tie.spec returns slice-aggregate-text text-requires count-requires returns-2)
