@@ -35,11 +35,11 @@ afterNothing s = row s (To Sent) Mistake (To ReplyCount) Mistake Mistake (To Aft
 
 -- after a byte of the frame: more bytes, > or !
 abbrev pub afterSent : Sort → Next
-afterSent s = row s (To Sent) Stray (To ReplyCount) Stray (To Refusal) Stray Stray Stray Stray Stray
+afterSent s = row s (To Sent) Mistake (To ReplyCount) Mistake (To Refusal) Stray Stray Stray Stray Stray
 
 -- after > N: = or !
 abbrev pub afterReplied : Sort → Next
-afterReplied s = row s Stray Stray Stray (To Expected) (To Refusal) Stray Stray Stray Stray Stray
+afterReplied s = row s Mistake Mistake Mistake (To Expected) (To Refusal) Stray Stray Stray Stray Stray
 
 -- after =: a byte or ??
 abbrev pub afterExpect : Sort → Next
@@ -47,11 +47,15 @@ afterExpect s = row s (To MoreExpected) (To MoreExpected) Mistake Mistake Mistak
 
 -- after an expected byte: more of them, or !
 abbrev pub afterExpected : Sort → Next
-afterExpected s = row s (To MoreExpected) (To MoreExpected) Stray Stray (To Refusal) Stray Stray Stray Stray Stray
+afterExpected s = row s (To MoreExpected) (To MoreExpected) Mistake Mistake (To Refusal) Stray Stray Stray Stray Stray
 
 -- after done or cut N: !
 abbrev pub afterEvent : Sort → Next
-afterEvent s = row s Stray Stray Stray Stray (To Refusal) Stray Stray Stray Stray Stray
+afterEvent s = row s Mistake Mistake Mistake Mistake (To Refusal) Stray Stray Stray Stray Stray
+
+-- after all that a line can say. A byte or a sign is no remark, wherever it stands: what was meant to be played or compared is not lost
+abbrev pub afterAll : Sort → Next
+afterAll s = row s Mistake Mistake Mistake Mistake Mistake Stray Stray Stray Stray Stray
 
 -- a number is asked for: that place comes next where the word is one
 abbrev pub whereTrue : Bool → Place → Next
@@ -69,7 +73,7 @@ nextOf AfterEvent w = afterEvent (sortOf w)
 nextOf CutCount w = whereTrue (w .decimal) AfterEvent
 nextOf DumpPlace w = whereTrue (w .hexadecimal && leb (w .length) 6) DumpCount
 nextOf DumpCount w = whereTrue (w .decimal) End
-nextOf End w = Stray
+nextOf End w = afterAll (sortOf w)
 
 -- the line may end here
 abbrev pub canEnd : Place → Bool

@@ -4,6 +4,7 @@ use mathlib.Core.Bool.{Bool, true, _&&_, _||_}
 use mathlib.Core.List.{List, [], _∷_}
 use lib.Dec.{eqb, ltb}
 use Rattle.rules.specs.Words.{pick}
+use Rattle.grammar.specs.Texts.{ascii}
 use Rattle.grammar.specs.declared.Word.{Word}
 use Rattle.grammar.specs.declared.Verb.{Verb}
 use Rattle.grammar.specs.declared.Sort.{Sort}
@@ -50,7 +51,8 @@ noWord blanks = record { length = 0; column = 0; blanks = blanks; key = 1; decim
 abbrev pub noWordAt : ℕ → Word
 noWordAt column = record { length = 0; column = column; blanks = 0; key = 1; decimal = true; number = 0; hexadecimal = true; hex = 0 }
 
--- the word with the byte b at its end, which stands at that column
+-- the word with the byte b at its end, which stands at that column. What its fields are, told of the word's bytes as a whole: proofs/Spelled and
+-- proofs/Keys. The key is kept of the last seven bytes and the hex number of the last six digits: they are asked of words of at most six
 unfoldable pub wordWith : Word → ℕ → ℕ → Word
 wordWith w b column =
     record {
@@ -76,32 +78,19 @@ key bs = keyFrom 1 bs
 
 unfoldable pub byKey : ℕ → Sort
 byKey k =
-    -- >
-    pick (eqb k (key (0x3E ∷ []))) Sort.Reply
-    -- =
-    (pick (eqb k (key (0x3D ∷ []))) Sort.Expect
-    -- !
-    (pick (eqb k (key (0x21 ∷ []))) Sort.Refuse
-    -- ??
-    (pick (eqb k (key (0x3F ∷ 0x3F ∷ []))) Sort.Any
-    -- done
-    (pick (eqb k (key (0x64 ∷ 0x6F ∷ 0x6E ∷ 0x65 ∷ []))) Sort.Done
-    -- cut
-    (pick (eqb k (key (0x63 ∷ 0x75 ∷ 0x74 ∷ []))) Sort.Cut
-    -- dump
-    (pick (eqb k (key (0x64 ∷ 0x75 ∷ 0x6D ∷ 0x70 ∷ []))) Sort.Dump
-    -- new
-    (pick (eqb k (key (0x6E ∷ 0x65 ∷ 0x77 ∷ []))) (Sort.Alone Verb.New)
-    -- status
-    (pick (eqb k (key (0x73 ∷ 0x74 ∷ 0x61 ∷ 0x74 ∷ 0x75 ∷ 0x73 ∷ []))) (Sort.Alone Verb.Status)
-    -- work
-    (pick (eqb k (key (0x77 ∷ 0x6F ∷ 0x72 ∷ 0x6B ∷ []))) (Sort.Alone Verb.Work)
-    -- locks
-    (pick (eqb k (key (0x6C ∷ 0x6F ∷ 0x63 ∷ 0x6B ∷ 0x73 ∷ []))) (Sort.Alone Verb.Locks)
-    -- full
-    (pick (eqb k (key (0x66 ∷ 0x75 ∷ 0x6C ∷ 0x6C ∷ []))) (Sort.Alone Verb.Full)
-    -- short
-    (pick (eqb k (key (0x73 ∷ 0x68 ∷ 0x6F ∷ 0x72 ∷ 0x74 ∷ []))) (Sort.Alone Verb.Short)
+    pick (eqb k (key (ascii ">"))) Sort.Reply
+    (pick (eqb k (key (ascii "="))) Sort.Expect
+    (pick (eqb k (key (ascii "!"))) Sort.Refuse
+    (pick (eqb k (key (ascii "??"))) Sort.Any
+    (pick (eqb k (key (ascii "done"))) Sort.Done
+    (pick (eqb k (key (ascii "cut"))) Sort.Cut
+    (pick (eqb k (key (ascii "dump"))) Sort.Dump
+    (pick (eqb k (key (ascii "new"))) (Sort.Alone Verb.New)
+    (pick (eqb k (key (ascii "status"))) (Sort.Alone Verb.Status)
+    (pick (eqb k (key (ascii "work"))) (Sort.Alone Verb.Work)
+    (pick (eqb k (key (ascii "locks"))) (Sort.Alone Verb.Locks)
+    (pick (eqb k (key (ascii "full"))) (Sort.Alone Verb.Full)
+    (pick (eqb k (key (ascii "short"))) (Sort.Alone Verb.Short)
     Sort.Other))))))))))))
 
 -- two hex digits are a byte; a word of more than six bytes is no other

@@ -8,7 +8,7 @@ use crate::Word;
 use crate::words;
 ghost use mathlib.Core.Path.{_≡_};
 ghost use Prim.Native.Nat.{min};
-ghost use Rattle.grammar.specs.Grammar.{nothingSaid, afterNothing, afterSent, afterReplied, afterExpect, afterExpected, afterEvent, whereTrue, nextOf, canEnd, isByte, isExpected, verbOf, ofFrame, ofExpected, countOf, withVerb, withWanted, withExpected, withNumber, withCount, withStart, saidWith};
+ghost use Rattle.grammar.specs.Grammar.{nothingSaid, afterNothing, afterSent, afterReplied, afterExpect, afterExpected, afterEvent, afterAll, whereTrue, nextOf, canEnd, isByte, isExpected, verbOf, ofFrame, ofExpected, countOf, withVerb, withWanted, withExpected, withNumber, withCount, withStart, saidWith};
 
 pub fn nothing() -> Said
     ensures { λ r. ⌜ r ≡ nothingSaid ⌝ }
@@ -28,7 +28,7 @@ pub fn nothing() -> Said
 
 // ---- what may follow
 
-pub fn first(s: Sort) -> Next
+fn first(s: Sort) -> Next
     ensures { λ r. ⌜ r ≡ afterNothing s ⌝ }
 {
     match s {
@@ -45,14 +45,14 @@ pub fn first(s: Sort) -> Next
     }
 }
 
-pub fn sent(s: Sort) -> Next
+fn sent(s: Sort) -> Next
     ensures { λ r. ⌜ r ≡ afterSent s ⌝ }
 {
     match s {
         Sort::Byte => Next::To(Place::Sent),
-        Sort::Any => Next::Stray,
+        Sort::Any => Next::Mistake,
         Sort::Reply => Next::To(Place::ReplyCount),
-        Sort::Expect => Next::Stray,
+        Sort::Expect => Next::Mistake,
         Sort::Refuse => Next::To(Place::Refusal),
         Sort::Done => Next::Stray,
         Sort::Cut => Next::Stray,
@@ -62,13 +62,13 @@ pub fn sent(s: Sort) -> Next
     }
 }
 
-pub fn replied(s: Sort) -> Next
+fn replied(s: Sort) -> Next
     ensures { λ r. ⌜ r ≡ afterReplied s ⌝ }
 {
     match s {
-        Sort::Byte => Next::Stray,
-        Sort::Any => Next::Stray,
-        Sort::Reply => Next::Stray,
+        Sort::Byte => Next::Mistake,
+        Sort::Any => Next::Mistake,
+        Sort::Reply => Next::Mistake,
         Sort::Expect => Next::To(Place::Expected),
         Sort::Refuse => Next::To(Place::Refusal),
         Sort::Done => Next::Stray,
@@ -79,7 +79,7 @@ pub fn replied(s: Sort) -> Next
     }
 }
 
-pub fn expected(s: Sort) -> Next
+fn expected(s: Sort) -> Next
     ensures { λ r. ⌜ r ≡ afterExpect s ⌝ }
 {
     match s {
@@ -96,14 +96,14 @@ pub fn expected(s: Sort) -> Next
     }
 }
 
-pub fn more_expected(s: Sort) -> Next
+fn more_expected(s: Sort) -> Next
     ensures { λ r. ⌜ r ≡ afterExpected s ⌝ }
 {
     match s {
         Sort::Byte => Next::To(Place::MoreExpected),
         Sort::Any => Next::To(Place::MoreExpected),
-        Sort::Reply => Next::Stray,
-        Sort::Expect => Next::Stray,
+        Sort::Reply => Next::Mistake,
+        Sort::Expect => Next::Mistake,
         Sort::Refuse => Next::To(Place::Refusal),
         Sort::Done => Next::Stray,
         Sort::Cut => Next::Stray,
@@ -113,14 +113,14 @@ pub fn more_expected(s: Sort) -> Next
     }
 }
 
-pub fn after_event(s: Sort) -> Next
+fn after_event(s: Sort) -> Next
     ensures { λ r. ⌜ r ≡ afterEvent s ⌝ }
 {
     match s {
-        Sort::Byte => Next::Stray,
-        Sort::Any => Next::Stray,
-        Sort::Reply => Next::Stray,
-        Sort::Expect => Next::Stray,
+        Sort::Byte => Next::Mistake,
+        Sort::Any => Next::Mistake,
+        Sort::Reply => Next::Mistake,
+        Sort::Expect => Next::Mistake,
         Sort::Refuse => Next::To(Place::Refusal),
         Sort::Done => Next::Stray,
         Sort::Cut => Next::Stray,
@@ -130,7 +130,24 @@ pub fn after_event(s: Sort) -> Next
     }
 }
 
-pub fn where_true(test: bool, place: Place) -> Next
+fn at_end(s: Sort) -> Next
+    ensures { λ r. ⌜ r ≡ afterAll s ⌝ }
+{
+    match s {
+        Sort::Byte => Next::Mistake,
+        Sort::Any => Next::Mistake,
+        Sort::Reply => Next::Mistake,
+        Sort::Expect => Next::Mistake,
+        Sort::Refuse => Next::Mistake,
+        Sort::Done => Next::Stray,
+        Sort::Cut => Next::Stray,
+        Sort::Dump => Next::Stray,
+        Sort::Alone(_) => Next::Stray,
+        Sort::Other => Next::Stray,
+    }
+}
+
+fn where_true(test: bool, place: Place) -> Next
     ensures { λ r. ⌜ r ≡ whereTrue test place ⌝ }
 {
     if test { Next::To(place) } else { Next::Mistake }
@@ -152,7 +169,7 @@ pub fn follows(place: Place, w: Word) -> Next
         Place::CutCount => where_true(w.decimal, Place::AfterEvent),
         Place::DumpPlace => { where_true(w.hexadecimal & (w.length <= 6), Place::DumpCount) }
         Place::DumpCount => where_true(w.decimal, Place::End),
-        Place::End => Next::Stray,
+        Place::End => at_end(sort),
     }
 }
 
@@ -195,7 +212,7 @@ pub fn is_byte(s: Sort) -> bool
     }
 }
 
-pub fn is_awaited(s: Sort) -> bool
+fn is_awaited(s: Sort) -> bool
     ensures { λ r. ⌜ r ≡ isExpected s ⌝ }
 {
     match s {
@@ -212,7 +229,7 @@ pub fn is_awaited(s: Sort) -> bool
     }
 }
 
-pub fn verb_of(s: Sort) -> Verb
+fn verb_of(s: Sort) -> Verb
     ensures { λ r. ⌜ r ≡ verbOf s ⌝ }
 {
     match s {
@@ -270,7 +287,7 @@ pub fn awaited(place: Place, s: Sort) -> bool
 }
 
 // One more where the test holds, at most 65,537.
-pub fn counted(n: usize, test: bool) -> usize
+fn counted(n: usize, test: bool) -> usize
     ensures { λ r. ⌜ r ≡ countOf n test ⌝ }
 {
     if test {
@@ -281,13 +298,13 @@ pub fn counted(n: usize, test: bool) -> usize
 }
 
 // At most that many.
-pub fn at_most(n: u64, most: u64) -> u64
+fn at_most(n: u64, most: u64) -> u64
     ensures { λ r. ⌜ r ≡ min n most ⌝ }
 {
     if n < most { n } else { most }
 }
 
-pub fn with_verb(s: Said, verb: Verb, sent: usize) -> Said
+fn with_verb(s: Said, verb: Verb, sent: usize) -> Said
     ensures { λ r. ⌜ r ≡ withVerb verb sent s ⌝ }
 {
     Said {
@@ -303,14 +320,14 @@ pub fn with_verb(s: Said, verb: Verb, sent: usize) -> Said
     }
 }
 
-pub fn with_sent(s: Said, sent: usize) -> Said
+fn with_sent(s: Said, sent: usize) -> Said
     ensures { λ r. ⌜ r ≡ withVerb (s .verb) sent s ⌝ }
 {
     let verb = s.verb;
     with_verb(s, verb, sent)
 }
 
-pub fn with_wanted(s: Said, wanted: usize) -> Said
+fn with_wanted(s: Said, wanted: usize) -> Said
     ensures { λ r. ⌜ r ≡ withWanted wanted s ⌝ }
 {
     let verb = s.verb;
@@ -327,7 +344,7 @@ pub fn with_wanted(s: Said, wanted: usize) -> Said
     }
 }
 
-pub fn with_expected(s: Said, expected: usize) -> Said
+fn with_expected(s: Said, expected: usize) -> Said
     ensures { λ r. ⌜ r ≡ withExpected expected s ⌝ }
 {
     let verb = s.verb;
@@ -344,7 +361,7 @@ pub fn with_expected(s: Said, expected: usize) -> Said
     }
 }
 
-pub fn with_number(s: Said, number: u8) -> Said
+fn with_number(s: Said, number: u8) -> Said
     ensures { λ r. ⌜ r ≡ withNumber number s ⌝ }
 {
     let verb = s.verb;
@@ -361,7 +378,7 @@ pub fn with_number(s: Said, number: u8) -> Said
     }
 }
 
-pub fn with_count(s: Said, count: u64) -> Said
+fn with_count(s: Said, count: u64) -> Said
     ensures { λ r. ⌜ r ≡ withCount count s ⌝ }
 {
     let verb = s.verb;
@@ -378,7 +395,7 @@ pub fn with_count(s: Said, count: u64) -> Said
     }
 }
 
-pub fn with_start(s: Said, start: usize) -> Said
+fn with_start(s: Said, start: usize) -> Said
     ensures { λ r. ⌜ r ≡ withStart start s ⌝ }
 {
     let verb = s.verb;

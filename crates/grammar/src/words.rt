@@ -36,7 +36,7 @@ pub fn ends_words(b: u8) -> bool
 }
 
 // What a hex digit stands for; 16 for any other byte.
-pub fn digit(b: u8) -> u8
+fn digit(b: u8) -> u8
     ensures { λ r. ⌜ r ≡ digitOf b ⌝ }
 {
     if b < 0x30 {
@@ -61,7 +61,7 @@ pub fn digit(b: u8) -> u8
 }
 
 // One digit more, at most 2^64 - 1.
-pub fn tens(number: u64, d: u8) -> u64
+fn tens(number: u64, d: u8) -> u64
     ensures { λ r. ⌜ r ≡ tensOf number d ⌝ }
 {
     let digit = d as u64;
@@ -72,25 +72,25 @@ pub fn tens(number: u64, d: u8) -> u64
     }
 }
 
-pub fn length_after(n: usize) -> usize
+fn length_after(n: usize) -> usize
     ensures { λ r. ⌜ r ≡ min (n + 1) 25 ⌝ }
 {
     if n < 25 { n + 1 } else { 25 }
 }
 
-pub fn column_after(length: usize, old: usize, column: usize) -> usize
+fn column_after(length: usize, old: usize, column: usize) -> usize
     ensures { λ r. ⌜ r ≡ pick (eqb length 0) column old ⌝ }
 {
     if length == 0 { column } else { old }
 }
 
-pub fn key_after(key: u64, b: u8) -> u64
+fn key_after(key: u64, b: u8) -> u64
     ensures { λ r. ⌜ r ≡ key % 2 ^ 48 * 256 + b ⌝ }
 {
     key % 281474976710656 * 256 + b as u64
 }
 
-pub fn hex_after(hex: usize, d: u8) -> usize
+fn hex_after(hex: usize, d: u8) -> usize
     ensures { λ r. ⌜ r ≡ hex % 2 ^ 20 * 16 + d ⌝ }
 {
     hex % 1048576 * 16 + d as usize
@@ -145,8 +145,9 @@ pub fn longer(w: Word, b: u8, column: usize) -> Word
     }
 }
 
-// The sort of a word of at most six bytes that is no byte, by its bytes as one number.
-pub fn by_key(key: u64) -> Sort
+// The sort of a word of at most six bytes that is no byte, by its bytes as one number, after a 01:
+// > = ! ?? done cut dump new status work locks full short.
+fn by_key(key: u64) -> Sort
     ensures { λ r. ⌜ r ≡ byKey key ⌝ }
 {
     match key {

@@ -3,3 +3,4 @@ pub mod Picks
 pub mod Steps
 pub mod Parts
 pub mod Listing
+pub mod Unique

@@ -6,7 +6,7 @@ use native.Mathlib.Omega.{arith}
 use native.Mathlib.Numerals.{add-one}
 use native.Mathlib.Decide.{decLe}
 use lib.ListN.{length, getD, take, drop, drop-of-length-le}
-use lib.Seq.{drop-cons, take-nil}
+use lib.Seq.{drop-cons, drop-drop, take-nil, take-add}
 use Rattle.script.specs.Lines.{Held, stepped, readOn, part}
 
 pub part-next : (from to : ℕ) (l : List ℕ) → from < to → from < length l → part from to l ≡ getD l from 0 ∷ part (from + 1) to l
@@ -38,3 +38,16 @@ pub in-parts : (h : Held) (a b : List ℕ) → readOn (readOn h a) b ≡ readOn 
 unfolding readOn
 in-parts h [] b = refl
 in-parts h (x ∷ a) b = in-parts (stepped h x) a b
+
+-- a part, and the part after it, are one part
+pub parts-join : (a b c : ℕ) (l : List ℕ) → a ≤ b → b ≤ c → part a b l ++ part b c l ≡ part a c l
+parts-join a b c l p q =
+    let e : b - a + (c - b) ≡ c - a = omega arith in
+    let d : a + (b - a) ≡ b = omega arith in
+    ap (λ (x : List ℕ). take (b - a) (drop a l) ++ take (c - b) x) (ap (λ (n : ℕ). drop n l) (sym d) ∙ sym (drop-drop (b - a) a l))
+    ∙ sym (take-add (b - a) (c - b) (drop a l))
+    ∙ ap (λ (n : ℕ). take n (drop a l)) e
+
+-- so a line that comes in two calls is read as in one
+pub read-in-parts : (h : Held) (a b c : ℕ) (l : List ℕ) → a ≤ b → b ≤ c → readOn (readOn h (part a b l)) (part b c l) ≡ readOn h (part a c l)
+read-in-parts h a b c l p q = in-parts h (part a b l) (part b c l) ∙ ap (readOn h) (parts-join a b c l p q)

@@ -10,10 +10,12 @@
 --
 -- BYTE is two hex digits, EXPECTED a BYTE or ??, N a decimal number, R a decimal number from 0 to 12, A one to six hex digits; hex digits
 -- are of either case, words of lower case only.
--- A remark may also begin with no #: with a word that cannot stand where it stands, where the line could end, after two or more blanks.
+-- A remark may also begin with no #: with a word that cannot stand where it stands, where the line could end, after two or more blanks. A byte,
+-- ??, >, = and ! begin no remark: where they cannot stand they are a mistake, so that nothing that was to be sent or compared is lost.
 -- Counts stop at a limit: bytes of a frame, reply bytes and expected bytes at 65,537, what `cut` says at 2^64 - 1, what `dump` says at 2,097,152.
 -- The first mistake makes the whole line wrong, and is kept: its place in the line's grammar, the word's first 24 bytes, its length (at most 25; 0 where
 -- the line ends too early) and its column.
 --
 -- Crate `grammar`, specs/Words: bytes to words, and their sorts; specs/Grammar: what may follow what, and what it says. Lines, here: a line as a fold over its bytes.
 pub mod Lines
+pub mod Listing

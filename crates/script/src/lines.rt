@@ -20,7 +20,7 @@ ghost use Rattle.script.specs.Lines.{passedBy, shownWith, goesOn, blankM
 // ---- one byte
 
 // A byte that says nothing more: of a remark, or after a mistake.
-pub fn passed(r: Reading) -> Reading
+fn passed(r: Reading) -> Reading
     ensures { λ q. ⌜ q ≡ passedBy r ⌝ }
 {
     let mode = r.mode;
@@ -39,7 +39,7 @@ pub fn passed(r: Reading) -> Reading
 }
 
 // The byte is shown if it is among the first 24.
-pub fn shown_with(shown: [u8; 24], length: usize, b: u8) -> [u8; 24]
+fn shown_with(shown: [u8; 24], length: usize, b: u8) -> [u8; 24]
     ensures { λ q. ⌜ q ≡ shownWith shown length b ⌝ }
 {
     let mut more = shown;
@@ -50,7 +50,7 @@ pub fn shown_with(shown: [u8; 24], length: usize, b: u8) -> [u8; 24]
 }
 
 // The word goes on, or begins.
-pub fn goes_on(r: Reading, b: u8) -> Reading
+fn goes_on(r: Reading, b: u8) -> Reading
     ensures { λ q. ⌜ q ≡ goesOn r b ⌝ }
 {
     let place = r.place;
@@ -70,7 +70,7 @@ pub fn goes_on(r: Reading, b: u8) -> Reading
 }
 
 // One blank more, at most 2.
-pub fn blank_more(w: Word) -> Word
+fn blank_more(w: Word) -> Word
     ensures { λ q. ⌜ q ≡ noWord (pick (eqb (w .blanks) 0) 1 2) ⌝ }
 {
     if w.blanks == 0 {
@@ -81,7 +81,7 @@ pub fn blank_more(w: Word) -> Word
 }
 
 // One blank more, where no word is.
-pub fn blanked(r: Reading) -> Reading
+fn blanked(r: Reading) -> Reading
     ensures { λ q. ⌜ q ≡ blankMore r ⌝ }
 {
     let place = r.place;
@@ -99,7 +99,7 @@ pub fn blanked(r: Reading) -> Reading
 }
 
 // A remark begins, where no word is.
-pub fn remark_from(r: Reading) -> Reading
+fn remark_from(r: Reading) -> Reading
     ensures { λ q. ⌜ q ≡ remarkFrom r ⌝ }
 {
     let place = r.place;
@@ -117,7 +117,7 @@ pub fn remark_from(r: Reading) -> Reading
 }
 
 // A byte while the line is open: # or a blank, where no word is, or a byte of a word.
-pub fn taken_open(r: Reading, b: u8) -> Reading
+fn taken_open(r: Reading, b: u8) -> Reading
     ensures { λ q. ⌜ q ≡ takenOpen r b ⌝ }
 {
     if b == 35 {
@@ -129,7 +129,7 @@ pub fn taken_open(r: Reading, b: u8) -> Reading
     goes_on(r, b)
 }
 
-pub fn is_open(m: Mode) -> bool
+fn is_open(m: Mode) -> bool
     ensures { λ q. ⌜ q ≡ isOpen m ⌝ }
 {
     match m {
@@ -139,7 +139,7 @@ pub fn is_open(m: Mode) -> bool
     }
 }
 
-pub fn taken(r: Reading, b: u8) -> Reading
+fn taken(r: Reading, b: u8) -> Reading
     ensures { λ q. ⌜ q ≡ takenByte r b ⌝ }
 {
     let mode = r.mode;
@@ -152,7 +152,7 @@ pub fn taken(r: Reading, b: u8) -> Reading
 
 // ---- one word
 
-pub fn with_mode(r: Reading, mode: Mode) -> Reading
+fn with_mode(r: Reading, mode: Mode) -> Reading
     ensures { λ q. ⌜ q ≡ withMode mode r ⌝ }
 {
     let place = r.place;
@@ -170,7 +170,7 @@ pub fn with_mode(r: Reading, mode: Mode) -> Reading
 }
 
 // The word stands where it may; that place comes next.
-pub fn went(r: Reading, to: Place) -> Reading
+fn went(r: Reading, to: Place) -> Reading
     ensures { λ q. ⌜ q ≡ wentTo r to ⌝ }
 {
     let place = r.place;
@@ -186,8 +186,8 @@ pub fn went(r: Reading, to: Place) -> Reading
     }
 }
 
-// A word that cannot stand where it stands: a remark after two blanks.
-pub fn strayed(r: Reading) -> Reading
+// A word, no byte and no sign, that cannot stand where it stands: a remark after two blanks.
+fn strayed(r: Reading) -> Reading
     ensures { λ q. ⌜ q ≡ goes r Stray ⌝ }
 {
     let word = r.word;
@@ -198,7 +198,7 @@ pub fn strayed(r: Reading) -> Reading
     }
 }
 
-pub fn went_on(r: Reading, next: Next) -> Reading
+fn went_on(r: Reading, next: Next) -> Reading
     ensures { λ q. ⌜ q ≡ goes r next ⌝ }
 {
     match next {
@@ -208,7 +208,7 @@ pub fn went_on(r: Reading, next: Next) -> Reading
     }
 }
 
-pub fn judged(r: Reading) -> Reading
+fn judged(r: Reading) -> Reading
     ensures { λ q. ⌜ q ≡ goes r (nextOf (r .place) (r .word)) ⌝ }
 {
     let place = r.place;
@@ -217,7 +217,7 @@ pub fn judged(r: Reading) -> Reading
 }
 
 // There is a word to judge.
-pub fn has_word(r: Reading) -> bool
+fn has_word(r: Reading) -> bool
     ensures { λ q. ⌜ q ≡ hasWord r ⌝ }
 {
     let mode = r.mode;
@@ -226,7 +226,7 @@ pub fn has_word(r: Reading) -> bool
 }
 
 // A word's end.
-pub fn word_ended(r: Reading) -> Reading
+fn word_ended(r: Reading) -> Reading
     ensures { λ q. ⌜ q ≡ wordEnded r ⌝ }
 {
     if has_word(r) { judged(r) } else { r }
@@ -234,7 +234,7 @@ pub fn word_ended(r: Reading) -> Reading
 
 // ---- what is stored
 
-pub fn store(a: &mut [u8; 65537], at: usize, v: u8, test: bool)
+fn store(a: &mut [u8; 65537], at: usize, v: u8, test: bool)
     ensures { λ _. ⌜ now (a .exit) ≡ stored (now (a .entry)) at v test ⌝ }
 {
     if test {
@@ -244,7 +244,7 @@ pub fn store(a: &mut [u8; 65537], at: usize, v: u8, test: bool)
     }
 }
 
-pub fn to_frame(r: Reading) -> bool
+fn to_frame(r: Reading) -> bool
     ensures { λ q. ⌜ q ≡ toFrame r ⌝ }
 {
     let place = r.place;
@@ -252,7 +252,7 @@ pub fn to_frame(r: Reading) -> bool
     has_word(r) & places::framed(place, words::sort_of(word))
 }
 
-pub fn to_expected(r: Reading) -> bool
+fn to_expected(r: Reading) -> bool
     ensures { λ q. ⌜ q ≡ toExpected r ⌝ }
 {
     let place = r.place;
@@ -261,7 +261,7 @@ pub fn to_expected(r: Reading) -> bool
 }
 
 // 1 for a byte, 0 for ??.
-pub fn known_of(w: Word) -> u8
+fn known_of(w: Word) -> u8
     ensures { λ q. ⌜ q ≡ num (isByte (sortOf w)) ⌝ }
 {
     if places::is_byte(words::sort_of(w)) {
@@ -291,7 +291,7 @@ pub fn close_word(
 }
 
 // The word before this byte is over, where the byte ends words.
-pub fn close_at(
+fn close_at(
     r: Reading,
     b: u8,
     frame: &mut [u8; 65537],
@@ -322,7 +322,7 @@ pub fn step(
 // ---- the line
 
 // A mistake, or a line that ends too early, is wrong.
-pub fn verb_at(wrong: bool, ends: bool, verb: Verb) -> Verb
+fn verb_at(wrong: bool, ends: bool, verb: Verb) -> Verb
     ensures { λ q. ⌜ q ≡ pick wrong Verb.Wrong (pick ends verb Verb.Wrong) ⌝ }
 {
     if wrong {
@@ -331,7 +331,7 @@ pub fn verb_at(wrong: bool, ends: bool, verb: Verb) -> Verb
     if ends { verb } else { Verb::Wrong }
 }
 
-pub fn is_wrong(m: Mode) -> bool
+fn is_wrong(m: Mode) -> bool
     ensures { λ q. ⌜ q ≡ isWrong m ⌝ }
 {
     match m {
@@ -341,7 +341,7 @@ pub fn is_wrong(m: Mode) -> bool
     }
 }
 
-pub fn column_at(goes: bool, column: usize, read: usize) -> usize
+fn column_at(goes: bool, column: usize, read: usize) -> usize
     ensures { λ q. ⌜ q ≡ pick goes (oneMore read) column ⌝ }
 {
     if goes { words::one_more(read) } else { column }

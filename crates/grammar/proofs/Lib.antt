@@ -1,0 +1,4 @@
+-- Laws of words.
+pub mod Unique
+pub mod Spelled
+pub mod Keys
