@@ -12,17 +12,17 @@ use Rattle.wording.specs.Lines.{cutOff, wrongText, wrongRow, allowed, al
 -- ---- events
 
 program-frame : frameRow 4 (0x02 ∷ 0x00 ∷ 0x01 ∷ 0xFE ∷ 0x11 ∷ 0x22 ∷ 0x33 ∷ []) 0 0 [] []
-    ≡ row (ascii "    4  02 00 01 FE 11 22 33             done")
+    ≡ row (ascii "    4  02 00 01 FE 11 22 33       done")
 unfolding frameRow sentBytes longer wants replied replyBytes answer numbered lead blanks digits bytes hex hexDigit
 program-frame = refl
 
 read-frame : frameRow 12 (0x03 ∷ 0x00 ∷ 0x00 ∷ 0x00 ∷ []) 4 0 (0x11 ∷ 0x22 ∷ 0x00 ∷ 0x00 ∷ []) (1 ∷ 1 ∷ 0 ∷ 0 ∷ [])
-    ≡ row (ascii "   12  03 00 00 00 > 4                  done  11 22 ?? ??")
+    ≡ row (ascii "   12  03 00 00 00 > 4            done  11 22 ?? ??")
 unfolding frameRow sentBytes longer wants replied replyBytes answer numbered lead blanks digits bytes hex hexDigit known marked
 read-frame = refl
 
 refused-frame : frameRow 8 (0x02 ∷ 0x00 ∷ 0x00 ∷ 0x00 ∷ 0x00 ∷ []) 0 11 [] []
-    ≡ row (ascii "    8  02 00 00 00 00                   refused 11: write-locked block")
+    ≡ row (ascii "    8  02 00 00 00 00             refused 11: write-locked block")
 unfolding frameRow sentBytes longer wants replied replyBytes answer meaning numbered lead blanks digits bytes hex hexDigit
 refused-frame = refl
 
@@ -33,24 +33,24 @@ unfolding frameRow sentBytes longer wants replied replyBytes answer meaning numb
 long-frame = refl
 
 long-reply : frameRow 31 (0x03 ∷ 0x00 ∷ 0x00 ∷ 0x00 ∷ []) 256 0 (replicate 256 0xFF) (replicate 256 1)
-    ≡ row (ascii "   31  03 00 00 00 > 256                done  256 bytes:")
+    ≡ row (ascii "   31  03 00 00 00 > 256          done  256 bytes:")
 unfolding frameRow sentBytes longer wants replied replyBytes answer numbered lead blanks digits bytes hex hexDigit
 long-reply = refl
 
 empty-frame : frameRow 7 [] 4 2 (0xFF ∷ 0xFF ∷ 0xFF ∷ 0xFF ∷ []) (0 ∷ 0 ∷ 0 ∷ 0 ∷ [])
-    ≡ row (ascii "    7  > 4                              refused 2: frame empty")
+    ≡ row (ascii "    7  > 4                        refused 2: frame empty")
 unfolding frameRow sentBytes longer wants replied replyBytes answer meaning numbered lead blanks digits bytes hex hexDigit
 empty-frame = refl
 
-completion : doneRow 14 12 ≡ row (ascii "   14  done                             refused 12: nothing running")
+completion : doneRow 14 12 ≡ row (ascii "   14  done                       refused 12: completion with nothing running")
 unfolding doneRow answer meaning numbered lead blanks digits
 completion = refl
 
-cut : cutRow 15 100 0 ≡ row (ascii "   15  cut 100                          done")
+cut : cutRow 15 100 0 ≡ row (ascii "   15  cut 100                    done")
 unfolding cutRow answer numbered lead blanks digits
 cut = refl
 
-new : newRow 123456 ≡ row (ascii "123456  new                             done")
+new : newRow 123456 ≡ row (ascii "123456  new                       done")
 unfolding newRow answer numbered lead blanks digits
 new = refl
 
@@ -80,7 +80,7 @@ wrong-length : lengthRow 1 4 ≡ row (ascii "       the script expects 1 byte, t
 unfolding lengthRow below blanks counted plural digits
 wrong-length = refl
 
-wrong-number : numberRow 10 ≡ row (ascii "       the script expects refused 10: WPLD 1, SEC 1 or A5 to 0-7")
+wrong-number : numberRow 10 ≡ row (ascii "       the script expects refused 10: WPLD 1, SEC 1, or A5 to places 0-7")
 unfolding numberRow below blanks answer meaning digits
 wrong-number = refl
 

@@ -1,4 +1,4 @@
--- A row an event: its text, and from column 40 on what came.
+-- A row an event: its text, and from column 34 on what came.
 use Prim.Native.Nat.{ℕ, _-_, max, min}
 use mathlib.Core.Bool.{Bool, _&&_}
 use mathlib.Core.List.{List, [], _++_}
@@ -9,9 +9,9 @@ use Rattle.rows.specs.declared.Row.{Row}
 use Rattle.rows.specs.Rows.{ascii, row, blanks, decimal, hex, within, bytes, marked}
 use Rattle.words.specs.Words.{numbered, below, counted, answer}
 
--- blanks behind n columns: to column 40, or two where the text is longer
+-- blanks behind n columns: to column 34, or two where the text is longer
 abbrev pub gap : ℕ → ℕ
-gap n = max (40 - n) 2
+gap n = max (34 - n) 2
 
 -- what came, beside an event
 abbrev pub beside : List ℕ → List ℕ → List ℕ

@@ -1,17 +1,17 @@
-// A row an event: its text, and from column 40 on what came.
+// A row an event: its text, and from column 34 on what came.
 use rows::Row;
 ghost use mathlib.Core.Path.{_≡_};
 ghost use lib.ListN.{length};
 ghost use Rattle.rows.specs.Rows.{put, blanks};
 ghost use Rattle.wording.specs.Events.{gap, longer, wants, sentBytes, replyBytes, replied, frameRow, doneRow, cutRow, newRow, replyRow, moreRow};
 
-// Blanks to column 40, or two of them behind a longer text.
+// Blanks to column 34, or two of them behind a longer text.
 fn aside(r: Row) -> Row
     ensures { λ q. ⌜ q ≡ put r (blanks (gap (r .length))) ⌝ }
 {
     let at = r.length;
-    if at < 38 {
-        return rows::pad(r, 40 - at);
+    if at < 32 {
+        return rows::pad(r, 34 - at);
     }
     rows::pad(r, 2)
 }
@@ -122,7 +122,7 @@ pub fn new_row(line: u64) -> Row
     words::answer(r, 0)
 }
 
-// Sixteen bytes of a long reply, from a place on.
+// At most sixteen bytes of a long reply, from a place on; a place past the end shows none.
 pub fn reply_row(place: usize, reply: &[u8], marks: &[u8]) -> Row
     ensures { λ q. ⌜ q ≡ replyRow place (now (reply .entry)) (now (marks .entry)) ⌝ }
 {

@@ -1,4 +1,5 @@
-// What the script player writes, a row at a time. Each function gives the row that specs/ says: Events, Differences, Questions, Lines.
+// What the script player writes, a row at a time. Each function gives the row that specs/ says (Events, Differences, Lines); the answers to
+// questions are those of `answering`.
 mod differences;
 mod events;
 mod lines;

@@ -24,21 +24,21 @@ plural n = pick (eqb n 1) [] (ascii "s")
 unfoldable pub counted : ℕ → List ℕ → List ℕ
 counted n word = decimal n ++ blanks 1 ++ word ++ plural n
 
--- 01, Numbers the bench gives back: each in words that leave it 28 columns of a row
+-- 01, Numbers the bench gives back: each in words of its line there that end within 80 columns
 unfoldable pub meaning : ℕ → List ℕ
 meaning n =
-    pick (eqb n 1) (ascii "record or length not allowed")
+    pick (eqb n 1) (ascii "record not well-formed, or a length")
     (pick (eqb n 2) (ascii "frame empty")
-    (pick (eqb n 3) (ascii "opcode not in this protocol")
+    (pick (eqb n 3) (ascii "opcode not listed in this protocol")
     (pick (eqb n 4) (ascii "length not as listed")
-    (pick (eqb n 5) (ascii "BUSY")
+    (pick (eqb n 5) (ascii "BUSY, and opcode not 05, 66, 99, B0")
     (pick (eqb n 6) (ascii "99 with no enable")
     (pick (eqb n 7) (ascii "6B or 32 with IOC 0")
     (pick (eqb n 8) (ascii "suspension rule")
     (pick (eqb n 9) (ascii "WEL needed and 0")
-    (pick (eqb n 10) (ascii "WPLD 1, SEC 1 or A5 to 0-7")
+    (pick (eqb n 10) (ascii "WPLD 1, SEC 1, or A5 to places 0-7")
     (pick (eqb n 11) (ascii "write-locked block")
-    (pick (eqb n 12) (ascii "nothing running")
+    (pick (eqb n 12) (ascii "completion with nothing running")
     [])))))))))))
 
 -- 0 means done

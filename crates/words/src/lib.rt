@@ -64,19 +64,19 @@ fn meaning(r: Row, number: u8) -> Row
     ensures { λ q. ⌜ q ≡ put r (meaning number) ⌝ }
 {
     if number == 1 {
-        return rows::text(r, b"record or length not allowed");
+        return rows::text(r, b"record not well-formed, or a length");
     }
     if number == 2 {
         return rows::text(r, b"frame empty");
     }
     if number == 3 {
-        return rows::text(r, b"opcode not in this protocol");
+        return rows::text(r, b"opcode not listed in this protocol");
     }
     if number == 4 {
         return rows::text(r, b"length not as listed");
     }
     if number == 5 {
-        return rows::text(r, b"BUSY");
+        return rows::text(r, b"BUSY, and opcode not 05, 66, 99, B0");
     }
     if number == 6 {
         return rows::text(r, b"99 with no enable");
@@ -91,13 +91,13 @@ fn meaning(r: Row, number: u8) -> Row
         return rows::text(r, b"WEL needed and 0");
     }
     if number == 10 {
-        return rows::text(r, b"WPLD 1, SEC 1 or A5 to 0-7");
+        return rows::text(r, b"WPLD 1, SEC 1, or A5 to places 0-7");
     }
     if number == 11 {
         return rows::text(r, b"write-locked block");
     }
     if number == 12 {
-        return rows::text(r, b"nothing running");
+        return rows::text(r, b"completion with nothing running");
     }
     r
 }

@@ -1,4 +1,4 @@
--- To column 40, or two blanks: the larger gap. Assumes nothing.
+-- To column 34, or two blanks: the larger gap. Assumes nothing.
 use Prim.Native.Nat.{ℕ}
 use mathlib.Core.Path.{ap, _∙_}
 use native.Mathlib.Omega.{arith}
