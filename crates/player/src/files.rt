@@ -1,74 +1,19 @@
 // Scripts from files and from standard input: each on a new chip, with counts of its own.
+use crate::bench::Bench;
 use crate::bench::Identity;
 use crate::bench::Lent;
 use crate::bench::Memory;
-use crate::bytes::within;
-use crate::lines::Session;
-use crate::lines::session_begun;
-use crate::lines::text_played;
-use crate::lines::totals_told;
-use crate::lines::with_more;
+use crate::bench::at_next_line;
+use crate::bench::begun;
+use crate::lines::line_played;
+use crate::reading::Input;
+use crate::reading::next_line;
+use crate::reading::unread;
 use crate::say::say;
+use crate::say::say_row;
 
-type Input = [u8; 65536];
-
-// Bytes of a script, and whether more may come.
-struct Came {
-    count: usize,
-    more: bool,
-}
-
-fn failure_told(got: isize) {
-    if got < 0 {
-        say(b"       cannot be read to its end\n");
-    }
-}
-
-// The next bytes of a script. Its end ends the last line as a newline does: an empty line says nothing.
-fn some_read(fd: i32, input: &mut Input) -> Came {
-    let got = libc::read(fd, input);
-    failure_told(got);
-    let count = io::count(got, input);
-    if count == 0 {
-        input[0] = b'\n';
-        return Came {
-            count: 1,
-            more: false,
-        };
-    }
-    Came { count, more: true }
-}
-
-fn part_played(
-    s: Session,
-    came: Came,
-    input: &[u8],
-    array: &mut Memory,
-    security: &mut Identity,
-    frame: &mut Lent,
-    expected: &mut Lent,
-    known: &mut Lent,
-    reply: &mut Lent,
-    marks: &mut Lent,
-) -> Session {
-    let n = within(came.count, input);
-    let after = text_played(
-        s,
-        &input[..n],
-        array,
-        security,
-        frame,
-        expected,
-        known,
-        reply,
-        marks,
-    );
-    with_more(after, came.more)
-}
-
-// A proved loop has to end, and nothing says that an input does: so it counts its turns down, from a number that no run uses up.
-fn parts_played(
-    s: Session,
+// The lines of a script, one after another; the turns count down as in reading::line_read.
+fn lines_played(
     fd: i32,
     input: &mut Input,
     array: &mut Memory,
@@ -78,16 +23,18 @@ fn parts_played(
     known: &mut Lent,
     reply: &mut Lent,
     marks: &mut Lent,
-) -> Session {
+) -> Bench {
     let mut turns = u64::MAX;
-    let mut now = s;
-    while turns > 0 && now.more {
+    let mut now = begun();
+    let mut rest = unread();
+    while turns > 0 && rest.more {
         turns -= 1;
-        let came = some_read(fd, input);
-        now = part_played(
-            now,
-            came,
-            input,
+        let heard = next_line(rest, fd, input, frame, expected, known);
+        let line = heard.line;
+        rest = heard.rest;
+        now = line_played(
+            at_next_line(now),
+            line,
             array,
             security,
             frame,
@@ -100,6 +47,11 @@ fn parts_played(
     now
 }
 
+fn totals_told(b: Bench) {
+    let t = b.tally;
+    say_row(wording::totals_row(t.events, t.refused, t.differences, t.wrong));
+}
+
 // A script to its end, on a new chip with all memory FF.
 fn script_played(fd: i32) {
     let mut input = [0u8; 65536];
@@ -110,8 +62,7 @@ fn script_played(fd: i32) {
     let mut known = [0u8; 65537];
     let mut reply = [0u8; 65537];
     let mut marks = [0u8; 65537];
-    totals_told(parts_played(
-        session_begun(),
+    totals_told(lines_played(
         fd,
         &mut input,
         &mut array,

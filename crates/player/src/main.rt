@@ -7,6 +7,7 @@ mod events;
 mod files;
 mod lines;
 mod questions;
+mod reading;
 mod say;
 
 fn main() {
