@@ -1,41 +1,10 @@
 // The boundary to other languages: the chip's functions over lent bytes. specs/Boundary.antt says what each gives back and leaves.
 // The caller lends all memory; nothing is kept between calls.
-use rules::Answer;
-use rules::Refusal;
 ghost use mathlib.Core.Path.{_≡_};
 ghost use Prim.Native.Nat.{_≤_};
 ghost use lib.ListN.{length};
-ghost use Rattle.rules.specs.Numbers.{refusalNumber, answerNumber};
 ghost use Rattle.bench.specs.Boundary.{NewBytes, FrameBytes, CompletionBytes, CutBytes};
 ghost use Rattle.bench.specs.Meanings.{over, MeaningBytes};
-
-fn refusal_number(why: Refusal) -> u8
-    ensures { λ r. ⌜ r ≡ refusalNumber why ⌝ }
-{
-    match why {
-        Refusal::Malformed => 1,
-        Refusal::Empty => 2,
-        Refusal::NotListed => 3,
-        Refusal::WrongLength => 4,
-        Refusal::Busy => 5,
-        Refusal::NoEnable => 6,
-        Refusal::NoIoc => 7,
-        Refusal::Suspension => 8,
-        Refusal::NoWel => 9,
-        Refusal::Closed => 10,
-        Refusal::WriteLocked => 11,
-        Refusal::NothingRuns => 12,
-    }
-}
-
-fn answer_number(answer: Answer) -> u8
-    ensures { λ r. ⌜ r ≡ answerNumber answer ⌝ }
-{
-    match answer {
-        Answer::Done => 0,
-        Answer::Refused(why) => refusal_number(why),
-    }
-}
 
 // ---- the chip
 
@@ -72,7 +41,7 @@ pub extern "C" fn fulkibono_frame(
     let next = after.chip;
     record_code::encode(next, bytes);
     let answer = after.answer;
-    answer_number(answer)
+    numbers::answer_number(answer)
 }
 
 // The running operation ends.
@@ -92,7 +61,7 @@ pub extern "C" fn fulkibono_completion(
     let next = after.chip;
     record_code::encode(next, bytes);
     let answer = after.answer;
-    answer_number(answer)
+    numbers::answer_number(answer)
 }
 
 // A power cut after k bytes of the running operation.
@@ -113,7 +82,7 @@ pub extern "C" fn fulkibono_power_cut(
     let next = after.chip;
     record_code::encode(next, bytes);
     let answer = after.answer;
-    answer_number(answer)
+    numbers::answer_number(answer)
 }
 
 // ---- what a number means

@@ -3,8 +3,6 @@ use Prim.Native.Nat.{ℕ, _≤_, _<_, min}
 use mathlib.Core.Path.{_≡_, sym, ap, _∙_}
 use mathlib.Core.Bool.{Bool}
 use mathlib.Core.List.{List}
-use Rattle.rules.specs.declared.Answer.{Answer}
-use Rattle.rules.specs.Numbers.{answerNumber}
 use Rattle.expecting.specs.declared.Tally.{Tally}
 use Rattle.expecting.specs.declared.Verdict.{Verdict}
 use Rattle.expecting.specs.Expectations.{differs, First, Judged, unmet}
@@ -32,9 +30,6 @@ judge-one judged number given expects replied count reply marks expected known v
 
 pub unmet-one : (v : Verdict) (r r′ : ℕ) → r ≡ unmet v → r′ ≡ unmet v → r ≡ r′
 unmet-one v r r′ e e′ = e ∙ sym e′
-
-pub answer-number-one : (a : Answer) (r r′ : ℕ) → r ≡ answerNumber a → r′ ≡ answerNumber a → r ≡ r′
-answer-number-one a r r′ e e′ = e ∙ sym e′
 
 pub no-events-one : (r r′ : Tally) → r ≡ untold → r′ ≡ untold → r ≡ r′
 no-events-one r r′ e e′ = e ∙ sym e′

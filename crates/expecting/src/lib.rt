@@ -1,13 +1,10 @@
 // What a script expects of an event, compared with what came, and the tally of a script's events.
-use rules::Answer;
-use rules::Refusal;
 ghost use mathlib.Core.Path.{_≡_};
 ghost use mathlib.Core.Bool.{not, _&&_};
 ghost use Prim.Native.Nat.{min};
 ghost use lib.Dec.{eqb};
 ghost use lib.ListN.{getD};
 ghost use Rattle.rules.specs.Words.{num};
-ghost use Rattle.rules.specs.Numbers.{refusalNumber, answerNumber};
 ghost use Rattle.expecting.specs.Expectations.{First, Judged};
 ghost use Rattle.expecting.specs.Tallies.{added, untold, afterEvent, afterWrong};
 
@@ -111,36 +108,6 @@ pub fn unmet(v: Verdict) -> u64
 {
     let bytes = v.length | (v.place < v.compared);
     one(v.number) + one(bytes)
-}
-
-// ---- the number of an answer
-
-fn refusal_number(why: Refusal) -> u8
-    ensures { λ r. ⌜ r ≡ refusalNumber why ⌝ }
-{
-    match why {
-        Refusal::Malformed => 1,
-        Refusal::Empty => 2,
-        Refusal::NotListed => 3,
-        Refusal::WrongLength => 4,
-        Refusal::Busy => 5,
-        Refusal::NoEnable => 6,
-        Refusal::NoIoc => 7,
-        Refusal::Suspension => 8,
-        Refusal::NoWel => 9,
-        Refusal::Closed => 10,
-        Refusal::WriteLocked => 11,
-        Refusal::NothingRuns => 12,
-    }
-}
-
-pub fn answer_number(answer: Answer) -> u8
-    ensures { λ r. ⌜ r ≡ answerNumber answer ⌝ }
-{
-    match answer {
-        Answer::Done => 0,
-        Answer::Refused(why) => refusal_number(why),
-    }
 }
 
 // ---- the tally
