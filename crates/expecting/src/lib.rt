@@ -2,9 +2,6 @@
 use rules::Answer;
 use rules::Refusal;
 ghost use mathlib.Core.Path.{_≡_};
-ghost use mathlib.Core.Bool.{not, _&&_};
-ghost use Prim.Native.Nat.{min};
-ghost use lib.Dec.{eqb};
 ghost use lib.ListN.{getD};
 ghost use Rattle.rules.specs.Words.{num};
 ghost use Rattle.rules.specs.Numbers.{refusalNumber, answerNumber};
