@@ -2,7 +2,6 @@
 use mathlib.Core.Path.{_≡_, refl}
 use mathlib.Core.Bool.{true, false}
 use mathlib.Core.List.{[], _∷_}
-use Rattle.expecting.specs.declared.Verdict.{Verdict}
 use Rattle.expecting.specs.Expectations.{differs, unmet}
 
 -- 11 expected: met by 11, not by 12, and not by a byte that the chip calls unknown, whatever it reads

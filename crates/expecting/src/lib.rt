@@ -1,8 +1,5 @@
 // What a script expects of an event, compared with what came, and the tally of a script's events.
 ghost use mathlib.Core.Path.{_≡_};
-ghost use mathlib.Core.Bool.{not, _&&_};
-ghost use Prim.Native.Nat.{min};
-ghost use lib.Dec.{eqb};
 ghost use lib.ListN.{getD};
 ghost use Rattle.rules.specs.Words.{num};
 ghost use Rattle.expecting.specs.Expectations.{First, Judged};

@@ -1,7 +1,6 @@
--- Inside the slice it is the byte there; past its end a list gives the default.
+-- Inside the slice it is the byte there; past its end a list gives the default. Assumes nothing.
 use mathlib.Core.Path.{sym}
 use lib.ListN.{List·getD-eq-default}
-use native.Mathlib.Omega.{arith}
 use borrow.Author.Needs.{needs}
 use Rattle.expecting.proofs.at.Statement.{statement}
 use Rattle.expecting.proofs.at.Tie as tie

@@ -1,8 +1,7 @@
--- Each return is one case of how many are compared.
-use borrow.Author.Tests.{not-true, not-false, ltb-true, ltb-false}
+-- Each return is one case of how many are compared. Assumes nothing.
+use borrow.Author.Tests.{not-true, not-false}
 use Rattle.expecting.proofs.Firsts.{compared-none, compared-reply, compared-count}
 use borrow.Author.Needs.{needs}
-use native.Mathlib.Omega.{arith}
 use Rattle.expecting.proofs.compared.Statement.{statement}
 use Rattle.expecting.proofs.compared.Tie as tie
 

@@ -1,5 +1,4 @@
--- The four bytes are those of the definition.
-use native.Mathlib.Omega.{arith}
+-- The four bytes are those of the definition. Assumes nothing.
 use borrow.Author.Needs.{needs}
 use Rattle.expecting.specs.Expectations.{differs}
 use Rattle.expecting.proofs.differs.Statement.{statement}

@@ -1,4 +1,4 @@
--- No place below i differs; at the return the place i does, or all are passed.
+-- No place below i differs; at the return the place i does, or all are passed. Assumes nothing.
 use mathlib.Core.Path.{sym, _∙_}
 use borrow.Author.Count.{below-more}
 use borrow.Author.Needs.{needs}

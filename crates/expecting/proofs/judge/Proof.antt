@@ -1,8 +1,7 @@
--- The number and the length are compared as the definition says, and the places by first_difference.
+-- The number and the length are compared as the definition says, and the places by first_difference. Assumes nothing.
 use Prim.Native.Nat.{ℕ}
 use mathlib.Core.Path.{refl, subst}
 use Rattle.expecting.specs.Expectations.{differs, First}
-use native.Mathlib.Omega.{arith}
 use borrow.Author.Needs.{needs}
 use Rattle.expecting.proofs.judge.Statement.{statement}
 use Rattle.expecting.proofs.judge.Tie as tie

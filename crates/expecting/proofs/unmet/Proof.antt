@@ -1,4 +1,4 @@
--- Each of the two flags counts at most once.
+-- Each of the two flags counts at most once. Assumes nothing.
 use mathlib.Core.Bool.{_||_}
 use lib.Dec.{ltb}
 use Rattle.expecting.specs.Expectations.{unmet}
