@@ -32,13 +32,11 @@ written-back n r bytes array security reply marks en eb =
 
 pub new-refused : (bytes : List ℕ) → (length bytes ≡ 297 → ⊥) → seen 1 bytes [] [] [] [] ≡ newBytes bytes
 unfolding newBytes
-new-refused bytes h = ap (λ (b : Bool). pick b (seen 0 (code newChip) [] [] [] []) (refused bytes [] [] [] [])) (sym (ne-eqb (length bytes) recordSize h))
+new-refused bytes h = rw (ne-eqb (length bytes) recordSize h)
 
 pub new-done : (bytes bytes′ : List ℕ) (c : Chip) → length bytes ≡ 297 → c ≡ newChip → bytes′ ≡ code c → seen 0 bytes′ [] [] [] [] ≡ newBytes bytes
 unfolding newBytes
-new-done bytes bytes′ c h ec eb =
-    ap (λ (l : List ℕ). seen 0 l [] [] [] []) (eb ∙ ap code ec)
-    ∙ ap (λ (b : Bool). pick b (seen 0 (code newChip) [] [] [] []) (refused bytes [] [] [] [])) (sym (eq-eqb (length bytes) recordSize h))
+new-done bytes bytes′ c h ec eb = rw (eq-eqb (length bytes) recordSize h, eb, ec)
 
 -- ---- the three events
 
