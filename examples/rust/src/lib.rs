@@ -77,36 +77,25 @@ fn answer(number: u8) -> Result<(), Refusal> {
     }
 }
 
-/// The array's bytes.
+/// Lent bytes of one size: the array, or the Security ID.
 #[repr(transparent)]
-pub struct Array([u8; ARRAY]);
+pub struct Memory<const N: usize>([u8; N]);
 
-/// The Security ID's bytes.
-#[repr(transparent)]
-pub struct Security([u8; SECURITY]);
+/// The array's 2,097,152 bytes.
+pub type Array = Memory<ARRAY>;
 
-impl Array {
-    /// Bytes lent as an array; None where there are not 2,097,152.
-    pub fn of(bytes: &mut [u8]) -> Option<&mut Array> {
-        let whole: &mut [u8; ARRAY] = bytes.try_into().ok()?;
-        // Safety: Array is transparent over its bytes.
-        Some(unsafe { &mut *(whole as *mut [u8; ARRAY] as *mut Array) })
+/// The Security ID's 2,048 bytes.
+pub type Security = Memory<SECURITY>;
+
+impl<const N: usize> Memory<N> {
+    /// Bytes that the caller lends; None where there are not N.
+    pub fn of(bytes: &mut [u8]) -> Option<&mut Self> {
+        let whole: &mut [u8; N] = bytes.try_into().ok()?;
+        // Safety: Memory is transparent over its bytes.
+        Some(unsafe { &mut *(whole as *mut [u8; N] as *mut Self) })
     }
 
-    pub fn bytes(&self) -> &[u8; ARRAY] {
-        &self.0
-    }
-}
-
-impl Security {
-    /// Bytes lent as a Security ID; None where there are not 2,048.
-    pub fn of(bytes: &mut [u8]) -> Option<&mut Security> {
-        let whole: &mut [u8; SECURITY] = bytes.try_into().ok()?;
-        // Safety: Security is transparent over its bytes.
-        Some(unsafe { &mut *(whole as *mut [u8; SECURITY] as *mut Security) })
-    }
-
-    pub fn bytes(&self) -> &[u8; SECURITY] {
+    pub fn bytes(&self) -> &[u8; N] {
         &self.0
     }
 }
