@@ -1,5 +1,5 @@
 -- The outcome of each way through an event is the machine's. Assumes nothing.
-use Prim.Native.Nat.{ℕ, zero, suc, _≤_, _<_}
+use Prim.Native.Nat.{ℕ, _≤_, _<_}
 use mathlib.Core.Path.{_≡_, refl, sym, ap, _∙_}
 use mathlib.Core.Bool.{Bool, true, false, not, _&&_}
 use mathlib.Core.List.{List, []}
@@ -15,7 +15,7 @@ use Rattle.rules.specs.declared.Kind.{Kind}
 use Rattle.rules.specs.declared.Refusal.{Refusal}
 use Rattle.rules.specs.Words.{pick, lent, written}
 use Rattle.rules.specs.Blocks.{arraySize, securitySize}
-use Rattle.rules.specs.Works.{isNothing, isErase, arrayRange, securityRange, finish}
+use Rattle.rules.specs.Works.{isNothing, arrayRange, securityRange, finish}
 use Rattle.rules.specs.Frames.{formOf, opcode}
 use Rattle.rules.specs.Reading.{reply}
 use Rattle.rules.specs.Fields.{withEnable}
@@ -85,8 +85,8 @@ module _ (c : Chip) (array security sent y m : List ℕ) where
           ∙ sym (frame-refused-1 at with (frame-given at with .is-1 .1 b))
 
   -- where the lengths are right and something was sent, the command's conditions decide
-  pub command-decides : Commandable c array security sent y m → first (frameTests at with) ≡ first (commandTests c sent)
-  unfolding frameTests
+  pub command-decides : Commandable c array security sent y m → frame at with .number ≡ first (commandTests c sent)
+  unfolding frame frameTests
   command-decides h =
       ap (λ (b : Bool). pick b 1 (pick (eqb (length sent) 0) 2 (first (commandTests c sent)))) (right-lengths (h .right) (h .fits))
       ∙ ap (λ (b : Bool). pick b 2 (first (commandTests c sent))) (ne-eqb (length sent) 0 (λ e. let s = h .some in omega arith))
@@ -96,9 +96,8 @@ module _ (c : Chip) (array security sent y m : List ℕ) where
       → came (record { answer = Answer.Refused why; chip = d }) array security y′ m′ ≡ frame at with
   unfolding commandTests
   frame-refused why d y′ m′ h e ed r =
-      let p = above (refusalNumber why) (some why) (first-above 2 (commandTests c sent) refl) e in
-      outcome-ext (p .1) ed refl refl (r .bytes) (r .known)
-      ∙ sym (frame-refused-more at with (p .0) (command-decides h ∙ sym e ∙ p .1))
+      outcome-ext refl ed refl refl (r .bytes) (r .known)
+      ∙ sym (frame-refused-more at with (refusalNumber why) (above (some why) (first-above 2 (commandTests c sent) refl)) (command-decides h ∙ sym e))
     where
       some : (w : Refusal) → 0 < refusalNumber w
       some Refusal.Malformed = omega arith
@@ -114,20 +113,14 @@ module _ (c : Chip) (array security sent y m : List ℕ) where
       some Refusal.WriteLocked = omega arith
       some Refusal.NothingRuns = omega arith
 
-      three : (x : ℕ) → 2 < x → (n : ℕ) × (x ≡ suc (suc (suc n)))
-      three zero l = absurd (omega arith)
-      three (suc zero) l = absurd (omega arith)
-      three (suc (suc zero)) l = absurd (omega arith)
-      three (suc (suc (suc n))) l = (n, refl)
-
-      above : (x : ℕ) → 0 < x → (first (commandTests c sent) ≡ 0) ⊎ (2 < first (commandTests c sent)) → x ≡ first (commandTests c sent) → (n : ℕ) × (x ≡ suc (suc (suc n)))
-      above x pos alt q = ⊎-elim (λ z. absurd (omega arith)) (λ l. three x (omega arith)) alt
+      above : 0 < refusalNumber why → (first (commandTests c sent) ≡ 0) ⊎ (2 < first (commandTests c sent)) → 3 ≤ refusalNumber why
+      above pos alt = ⊎-elim (λ z. absurd (let q = e in omega arith)) (λ l. let q = e in omega arith) alt
 
   -- a done frame has the bytes that are looked at
   pub done-enough : Commandable c array security sent y m → 0 ≡ first (commandTests c sent) → lookedAt (formOf (opcode sent) .kind) ≤ length sent
   done-enough h e =
       let a = accepted at with (command-decides h ∙ sym e) in
-      looked-at (opcode sent) (length sent) (c .sqi) (a .known) (a .sized)
+      looked-at (opcode sent) (length sent) (c .sqi) (a .is-listed) (a .sized)
 
   pub frame-done : (k : Kind) (d : Chip) (y′ m′ : List ℕ) → Commandable c array security sent y m → 0 ≡ first (commandTests c sent) → k ≡ formOf (opcode sent) .kind
       → d ≡ act k sent (withEnable false c) → Replied y m y′ m′ (λ i. reply k c (lent array) (lent security) sent i)
@@ -142,29 +135,29 @@ module _ (c : Chip) (array security sent y m : List ℕ) where
 
 module _ (c : Chip) (array security : List ℕ) (k : Bool) (ek : k ≡ stateRight (state c array security)) where
   pub completion-malformed : k ≡ false → came (record { answer = Answer.Refused Refusal.Malformed; chip = c }) array security [] [] ≡ completion (state c array security)
-  completion-malformed e = sym (completion-refused (state c array security) 0 (completion-given (state c array security) .is-1 .1 (sym ek ∙ e)))
+  completion-malformed e = sym (completion-refused (state c array security) 1 (omega arith) (completion-given (state c array security) .is-1 .1 (sym ek ∙ e)))
 
   pub completion-idle : (x : Bool) → k ≡ true → x ≡ isNothing (c .running) → x ≡ true
       → came (record { answer = Answer.Refused Refusal.NothingRuns; chip = c }) array security [] [] ≡ completion (state c array security)
-  completion-idle x e ex t = sym (completion-refused (state c array security) 11 (completion-given (state c array security) .is-12 .1 (sym ek ∙ e, sym ex ∙ t)))
+  completion-idle x e ex t = sym (completion-refused (state c array security) 12 (omega arith) (completion-given (state c array security) .is-12 .1 (sym ek ∙ e, sym ex ∙ t)))
 
   pub completion-done : (x : Bool) (d : Chip) (array′ security′ : List ℕ) → k ≡ true → x ≡ isNothing (c .running) → x ≡ false
       → d ≡ rested (settled (c .running) c)
-      → lent array′ ≡ finish (isErase (c .running)) (arrayRange (c .running)) (c .buffer) arraySize (lent array)
-      → lent security′ ≡ finish (isErase (c .running)) (securityRange (c .running)) (c .buffer) arraySize (lent security)
+      → lent array′ ≡ finish (c .running) (arrayRange (c .running)) (c .buffer) arraySize (lent array)
+      → lent security′ ≡ finish (c .running) (securityRange (c .running)) (c .buffer) arraySize (lent security)
       → came (record { answer = Answer.Done; chip = d }) array′ security′ [] [] ≡ completion (state c array security)
   completion-done x d array′ security′ e ex t ed ea es =
       outcome-ext refl ed ea es refl refl
       ∙ sym (completion-done-whole (state c array security) (completion-given (state c array security) .is-0 .1 (sym ek ∙ e, sym ex ∙ t)))
 
   pub cut-malformed : (n : ℕ) → k ≡ false → came (record { answer = Answer.Refused Refusal.Malformed; chip = c }) array security [] [] ≡ powerCut (state c array security) n
-  cut-malformed n e = sym (cut-refused (state c array security) n 0 (cut-given (state c array security) .is-1 .1 (sym ek ∙ e)))
+  cut-malformed n e = sym (cut-refused (state c array security) n 1 (omega arith) (cut-given (state c array security) n .is-1 .1 (sym ek ∙ e)))
 
   pub cut-done : (n : ℕ) (d : Chip) (array′ security′ : List ℕ) → k ≡ true
       → d ≡ afterCut (pick (ltb 0 n) (settled (c .running) c) c)
-      → lent array′ ≡ finish (isErase (c .running)) (arrayRange (c .running)) (c .buffer) n (lent array)
-      → lent security′ ≡ finish (isErase (c .running)) (securityRange (c .running)) (c .buffer) n (lent security)
+      → lent array′ ≡ finish (c .running) (arrayRange (c .running)) (c .buffer) n (lent array)
+      → lent security′ ≡ finish (c .running) (securityRange (c .running)) (c .buffer) n (lent security)
       → came (record { answer = Answer.Done; chip = d }) array′ security′ [] [] ≡ powerCut (state c array security) n
   cut-done n d array′ security′ e ed ea es =
       outcome-ext refl ed ea es refl refl
-      ∙ sym (cut-done-whole (state c array security) n (cut-given (state c array security) .is-0 .1 (sym ek ∙ e)))
+      ∙ sym (cut-done-whole (state c array security) n (cut-given (state c array security) n .is-0 .1 (sym ek ∙ e)))

@@ -1,7 +1,7 @@
 -- A patch of the first k bytes of a range is what finishing them gives. Assumes nothing.
 use Prim.Native.Nat.{ℕ, _+_, _-_, _≤_, _<_, min}
 use mathlib.Core.Path.{_≡_, refl, sym, ap, _∙_, subst}
-use mathlib.Core.Bool.{Bool, true}
+use mathlib.Core.Bool.{true}
 use mathlib.Core.List.{List}
 use native.Mathlib.Omega.{arith}
 use native.Mathlib.Decide.{decLt, decLe}
@@ -12,7 +12,7 @@ use Rattle.rules.specs.declared.Work.{Work}
 use Rattle.rules.specs.Words.{range, holds, Lent, lent}
 use Rattle.rules.specs.declared.Block.{Block}
 use Rattle.rules.specs.Blocks.{arraySize, blockAt, span}
-use Rattle.rules.specs.Works.{isErase, arrayRange, securityRange, finished, finish}
+use Rattle.rules.specs.Works.{arrayRange, securityRange, finished, finish}
 use Rattle.rules.specs.WellFormed.{numbersRight}
 use Rattle.rules.proofs.Bools.{never}
 use Rattle.rules.proofs.Blocks.{holds-at, holds-intro, block-placed}
@@ -20,51 +20,51 @@ use Rattle.rules.proofs.Effects.{finish-first, finish-rest, finish-outside}
 use Rattle.rules.proofs.Promises.{lent-ext}
 use Rattle.memory.specs.Patched.{Patched}
 
-same-size : (erases : Bool) (r : Range) (b : List ℕ) (k : ℕ) (m : Lent) → finish erases r b k m .size ≡ m .size
+same-size : (w : Work) (r : Range) (b : List ℕ) (k : ℕ) (m : Lent) → finish w r b k m .size ≡ m .size
 unfolding finish
-same-size erases r b k m = refl
+same-size w r b k m = refl
 
-pub patch-finishes : (erases : Bool) (s z k n : ℕ) (b l l₀ : List ℕ) → n ≡ min k z → Patched l l₀ s n (λ i. finished erases b i (getD l₀ (s + i) 0))
-    → lent l ≡ finish erases (range s z) b k (lent l₀)
-patch-finishes erases s z k n b l l₀ e p =
-    lent-ext (p .size ∙ sym (same-size erases (range s z) b k (lent l₀))) (λ a. from a (decLe s a))
+pub patch-finishes : (w : Work) (s z k n : ℕ) (b l l₀ : List ℕ) → n ≡ min k z → Patched l l₀ s n (λ i. finished w b i (getD l₀ (s + i) 0))
+    → lent l ≡ finish w (range s z) b k (lent l₀)
+patch-finishes w s z k n b l l₀ e p =
+    lent-ext (p .size ∙ sym (same-size w (range s z) b k (lent l₀))) (λ a. from a (decLe s a))
   where
     new : ℕ → ℕ
-    new a = finish erases (range s z) b k (lent l₀) .byte a
+    new a = finish w (range s z) b k (lent l₀) .byte a
 
     inside : (a : ℕ) → s ≤ a → Dec (a < s + z) → Dec (a - s < k) → getD l a 0 ≡ new a
     inside a low (yes high) (yes early) =
         let q : s + (a - s) ≡ a = omega arith in
         ap (λ (x : ℕ). getD l x 0) (sym q) ∙ p .inside (a - s) (omega arith)
-        ∙ ap (λ (x : ℕ). finished erases b (a - s) (getD l₀ x 0)) q
-        ∙ sym (finish-first erases (range s z) b k (lent l₀) a (holds-intro (range s z) a low high) early)
-    inside a low (yes high) (no late) = p .after a (omega arith) ∙ sym (finish-rest erases (range s z) b k (lent l₀) a (omega arith))
+        ∙ ap (λ (x : ℕ). finished w b (a - s) (getD l₀ x 0)) q
+        ∙ sym (finish-first w (range s z) b k (lent l₀) a (holds-intro (range s z) a low high) early)
+    inside a low (yes high) (no late) = p .after a (omega arith) ∙ sym (finish-rest w (range s z) b k (lent l₀) a (omega arith))
     inside a low (no high) d =
         p .after a (omega arith)
-        ∙ sym (finish-outside erases (range s z) b k (lent l₀) a (never (holds (range s z) a) (λ h. high (holds-at (range s z) a h .1))))
+        ∙ sym (finish-outside w (range s z) b k (lent l₀) a (never (holds (range s z) a) (λ h. high (holds-at (range s z) a h .1))))
 
     from : (a : ℕ) → Dec (s ≤ a) → getD l a 0 ≡ new a
     from a (yes low) = inside a low (decLt a (s + z)) (decLt (a - s) k)
     from a (no below) =
         p .before a (omega arith)
-        ∙ sym (finish-outside erases (range s z) b k (lent l₀) a (never (holds (range s z) a) (λ h. below (holds-at (range s z) a h .0))))
+        ∙ sym (finish-outside w (range s z) b k (lent l₀) a (never (holds (range s z) a) (λ h. below (holds-at (range s z) a h .0))))
 
 -- no range, no change
-pub nowhere-finishes : (erases : Bool) (b l : List ℕ) (k : ℕ) → lent l ≡ finish erases (range 0 0) b k (lent l)
-nowhere-finishes erases b l k =
-    lent-ext (sym (same-size erases (range 0 0) b k (lent l)))
-    (λ a. sym (finish-outside erases (range 0 0) b k (lent l) a (never (holds (range 0 0) a) (λ h. let g = holds-at (range 0 0) a h in omega arith))))
+pub nowhere-finishes : (w : Work) (b l : List ℕ) (k : ℕ) → lent l ≡ finish w (range 0 0) b k (lent l)
+nowhere-finishes w b l k =
+    lent-ext (sym (same-size w (range 0 0) b k (lent l)))
+    (λ a. sym (finish-outside w (range 0 0) b k (lent l) a (never (holds (range 0 0) a) (λ h. let g = holds-at (range 0 0) a h in omega arith))))
 
 -- by the kind of the work
-pub in-array : (w v : Work) (b : List ℕ) (k : ℕ) (m x : Lent) → w ≡ v → x ≡ finish (isErase v) (arrayRange v) b k m → x ≡ finish (isErase w) (arrayRange w) b k m
-in-array w v b k m x e h = h ∙ ap (λ (w : Work). finish (isErase w) (arrayRange w) b k m) (sym e)
+pub in-array : (w v : Work) (b : List ℕ) (k : ℕ) (m x : Lent) → w ≡ v → x ≡ finish v (arrayRange v) b k m → x ≡ finish w (arrayRange w) b k m
+in-array w v b k m x e h = h ∙ ap (λ (w : Work). finish w (arrayRange w) b k m) (sym e)
 
-pub in-security : (w v : Work) (b : List ℕ) (k : ℕ) (m x : Lent) → w ≡ v → x ≡ finish (isErase v) (securityRange v) b k m → x ≡ finish (isErase w) (securityRange w) b k m
-in-security w v b k m x e h = h ∙ ap (λ (w : Work). finish (isErase w) (securityRange w) b k m) (sym e)
+pub in-security : (w v : Work) (b : List ℕ) (k : ℕ) (m x : Lent) → w ≡ v → x ≡ finish v (securityRange v) b k m → x ≡ finish w (securityRange w) b k m
+in-security w v b k m x e h = h ∙ ap (λ (w : Work). finish w (securityRange w) b k m) (sym e)
 
 -- the block's range, as it was found
-pub block-finishes : (n k m : ℕ) (r : Block) (b l l₀ : List ℕ) → r ≡ blockAt n → m ≡ min k (r .size) → Patched l l₀ (r .start) m (λ i. 255) → lent l ≡ finish true (span (blockAt n)) b k (lent l₀)
-block-finishes n k m r b l l₀ e f p = patch-finishes true (r .start) (r .size) k m b l l₀ f p ∙ ap (λ (x : Block). finish true (span x) b k (lent l₀)) e
+pub block-finishes : (n k m : ℕ) (r : Block) (b l l₀ : List ℕ) → r ≡ blockAt n → m ≡ min k (r .size) → Patched l l₀ (r .start) m (λ i. 255) → lent l ≡ finish (Work.EraseBlock n) (span (blockAt n)) b k (lent l₀)
+block-finishes n k m r b l l₀ e f p = patch-finishes (Work.EraseBlock n) (r .start) (r .size) k m b l l₀ f p ∙ ap (λ (x : Block). finish (Work.EraseBlock n) (span x) b k (lent l₀)) e
 
 pub block-fits : (n : ℕ) (r : Block) → n < 40 → r ≡ blockAt n → r .start + r .size ≤ arraySize
 block-fits n r h e = rw e (block-placed n h .inside)

@@ -5,12 +5,12 @@ ghost use mathlib.Core.Bool.{true};
 ghost use lib.ListN.{length};
 ghost use Rattle.rules.specs.Words.{lent};
 ghost use Rattle.rules.specs.Blocks.{arraySize, securitySize};
-ghost use Rattle.rules.specs.Works.{isErase, arrayRange, securityRange, finish};
+ghost use Rattle.rules.specs.Works.{arrayRange, securityRange, finish};
 ghost use Rattle.rules.specs.WellFormed.{numbersRight};
 
 pub fn finish_array(w: Work, buffer: &[u8; 256], k: usize, array: &mut [u8])
     requires { ⌜ (numbersRight w ≡ true) × (length (now array) ≡ arraySize) ⌝ }
-    ensures { λ _. ⌜ lent (now (array .exit)) ≡ finish (isErase w) (arrayRange w) (now (buffer .entry)) k (lent (now (array .entry))) ⌝ }
+    ensures { λ _. ⌜ lent (now (array .exit)) ≡ finish w (arrayRange w) (now (buffer .entry)) k (lent (now (array .entry))) ⌝ }
 {
     match w {
         Work::Nothing => {}
@@ -40,7 +40,7 @@ pub fn finish_array(w: Work, buffer: &[u8; 256], k: usize, array: &mut [u8])
 
 pub fn finish_security(w: Work, buffer: &[u8; 256], k: usize, security: &mut [u8])
     requires { ⌜ (numbersRight w ≡ true) × (length (now security) ≡ securitySize) ⌝ }
-    ensures { λ _. ⌜ lent (now (security .exit)) ≡ finish (isErase w) (securityRange w) (now (buffer .entry)) k (lent (now (security .entry))) ⌝ }
+    ensures { λ _. ⌜ lent (now (security .exit)) ≡ finish w (securityRange w) (now (buffer .entry)) k (lent (now (security .entry))) ⌝ }
 {
     match w {
         Work::Nothing => {}

@@ -14,7 +14,7 @@ use Rattle.rules.specs.declared.Block.{Block}
 use Rattle.rules.specs.declared.Range.{Range}
 use Rattle.rules.specs.Words.{bit, pick, every, range, holds, overlap}
 use Rattle.rules.specs.Blocks.{pair, single, wide, blocks, arraySize, span, seek, blockOf, blockAt, writeLocked, unlocked, writeLocks, readLocks}
-use Rattle.rules.proofs.Bools.{and-split, and-both, every-intro, every-at, upto, upto-at, same-test, never, not-intro}
+use Rattle.rules.proofs.Bools.{and-split, and-both, every-intro, every-at, upto, upto-at, same-test, same-flag, never, not-intro}
 use Rattle.rules.proofs.Bits.{apart-at, apart-intro}
 
 -- ---- places and ranges
@@ -179,12 +179,6 @@ shifted g =
 abbrev same-row : Block → Block → Bool
 same-row b c = eqb (b .start) (c .start) && (eqb (b .size) (c .size) && (eqb (b .write) (c .write) && Bool·beq (b .paired) (c .paired)))
 
-beq-true : (a b : Bool) → Bool·beq a b ≡ true → a ≡ b
-beq-true true true e = refl
-beq-true true false e = absurd (false≢true e)
-beq-true false true e = absurd (false≢true e)
-beq-true false false e = refl
-
 row-ext : (b c : Block) → same-row b c ≡ true → b ≡ c
 row-ext b c e =
     let h₁ = and-split (eqb (b .start) (c .start)) _ e in
@@ -193,7 +187,7 @@ row-ext b c e =
     let p = eqb-true (b .start) (c .start) (h₁ .0) in
     let q = eqb-true (b .size) (c .size) (h₂ .0) in
     let r = eqb-true (b .write) (c .write) (h₃ .0) in
-    let t = beq-true (b .paired) (c .paired) (h₃ .1) in
+    let t = same-flag (b .paired) (c .paired) (h₃ .1) in
     λ i. record { start = p i; size = q i; write = r i; paired = t i }
 
 pub block-by-shifts : (a : ℕ) → a < arraySize → blockAt (blockOf a) ≡ shifted (a / 0x2000)
@@ -202,6 +196,23 @@ block-by-shifts a h =
     ap blockAt (blockOf-group a)
     ∙ row-ext (blockAt (blockOf (group a))) (shifted (a / 0x2000))
     (grouped (λ g. same-row (blockAt (blockOf (g * 0x2000))) (shifted g)) refl a h)
+
+-- past the array no block holds a place: the number there is that of no row
+seek-none : (bs : List Block) (a : ℕ) → every (λ b. leb (b .start + b .size) arraySize) bs ≡ true → arraySize ≤ a → seek bs a ≡ length bs
+unfolding seek
+seek-none [] a e h = refl
+seek-none (b ∷ bs) a e h =
+    let k = and-split (leb (b .start + b .size) arraySize) (every (λ b. leb (b .start + b .size) arraySize) bs) e in
+    let z = leb-true (b .start + b .size) arraySize (k .0) in
+    ap (λ (x : Bool). pick x 0 (suc (seek bs a))) (never (holds (span b) a) (λ i. let g = holds-at (span b) a i in omega arith)) ∙ ap suc (seek-none bs a (k .1) h)
+
+all-inside : every (λ b. leb (b .start + b .size) arraySize) blocks ≡ true
+unfolding blocks wide
+all-inside = refl
+
+pub block-none : (a : ℕ) → arraySize ≤ a → blockOf a ≡ 40
+unfolding blockOf
+block-none a h = seek-none blocks a all-inside h ∙ forty
 
 -- each of the 48 bits is one lock: the write locks of the table are the mask, and so are the read locks
 abbrev pub bits-of : (Block → ℕ) → List Block → ℕ

@@ -1,12 +1,14 @@
 -- Laws of tests. Assumes nothing.
 use Prim.Native.Nat.{ℕ, zero, suc, _<_}
 use mathlib.Core.Path.{_≡_, refl, sym, ap, _∙_}
-use mathlib.Core.Bool.{Bool, true, false, not, _&&_, _||_, true≢false, false≢true}
+use mathlib.Core.Bool.{Bool, true, false, not, _&&_, _||_, Bool·beq, true≢false, false≢true}
 use mathlib.Core.List.{List, [], _∷_}
 use native.Mathlib.Omega.{arith}
 use native.Mathlib.Decide.{ℕ-discrete}
+use lib.Dec.{eqb}
 use lib.ListN.{length, getD}
-use Rattle.rules.specs.Words.{every}
+use borrow.Author.Tests.{eqb-true}
+use Rattle.rules.specs.Words.{oneOf, every}
 
 pub and-split : (a b : Bool) → (a && b) ≡ true → (a ≡ true) × (b ≡ true)
 and-split true b e = (refl, e)
@@ -42,6 +44,12 @@ same-test true b f g = sym (f refl)
 same-test false true f g = absurd (false≢true (g refl))
 same-test false false f g = refl
 
+pub same-flag : (a b : Bool) → Bool·beq a b ≡ true → a ≡ b
+same-flag true true e = refl
+same-flag true false e = absurd (false≢true e)
+same-flag false true e = absurd (false≢true e)
+same-flag false false e = refl
+
 -- a test that cannot hold
 pub never : (a : Bool) → (a ≡ true → ⊥) → a ≡ false
 never true h = absurd (h refl)
@@ -57,6 +65,18 @@ pub every-at {ℓ} : {A : Type ℓ} (t : A → Bool) (d : A) (l : List A) → ev
 every-at t d [] e n h = absurd (omega arith)
 every-at t d (x ∷ xs) e zero h = and-split (t x) (every t xs) e .0
 every-at t d (x ∷ xs) e (suc n) h = every-at t d xs (and-split (t x) (every t xs) e .1) n (omega arith)
+
+-- the test holds at each number of the list
+pub every-of : (t : ℕ → Bool) (ns : List ℕ) → every t ns ≡ true → (n : ℕ) → oneOf n ns ≡ true → t n ≡ true
+every-of t [] e n h = absurd (false≢true h)
+every-of t (m ∷ ns) e n h = go (eqb n m) refl h (every-of t ns (p .1) n)
+  where
+    p : (t m ≡ true) × (every t ns ≡ true)
+    p = and-split (t m) (every t ns) e
+
+    go : (b : Bool) → eqb n m ≡ b → (b || oneOf n ns) ≡ true → (oneOf n ns ≡ true → t n ≡ true) → t n ≡ true
+    go true q k ih = ap t (eqb-true n m q) ∙ p .0
+    go false q k ih = ih k
 
 -- ---- a test at each number below a bound
 

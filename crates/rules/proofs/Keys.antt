@@ -1,12 +1,13 @@
 -- Demand 3. With the lock-down and no power cut the read locks stand and the write locks only grow, so a key byte is never shown, and
 -- work, which runs only in ranges with no write lock, never changes it. That the chips are idle at the start is not needed. Assumes nothing.
-use Prim.Native.Nat.{ℕ, zero, suc, _+_, _-_, _%_, _<_}
+use Prim.Native.Nat.{ℕ, _+_, _-_, _%_, _<_}
 use mathlib.Core.Path.{_≡_, refl, sym, ap, _∙_, subst, fun-ext}
-use mathlib.Core.Bool.{Bool, true, false, not, _&&_, _||_, true≢false}
+use mathlib.Core.Bool.{Bool, true, false, _&&_, _||_, true≢false}
 use mathlib.Core.List.{List, [], _∷_}
 use native.Mathlib.Omega.{arith}
-use lib.Dec.{ltb}
+use lib.Dec.{eqb, ltb}
 use lib.Bits.{bitAnd, bitOr}
+use borrow.Author.Tests.{eqb-true}
 use Rattle.rules.specs.declared.Cell.{Cell}
 use Rattle.rules.specs.declared.Chip.{Chip}
 use Rattle.rules.specs.declared.Kind.{Kind}
@@ -14,11 +15,11 @@ use Rattle.rules.specs.declared.Range.{Range}
 use Rattle.rules.specs.declared.Source.{Source}
 use Rattle.rules.specs.declared.Work.{Work}
 use Rattle.rules.specs.declared.Work.the-variants.{Nothing, EraseSector, EraseBlock, EraseArray, ProgramPage, ProgramSecurity, LockSecurity, WriteConfiguration, AddPermanent}
-use Rattle.rules.specs.Words.{bit, pick, holds, written}
+use Rattle.rules.specs.Words.{bit, pick, oneOf, holds, written}
 use Rattle.rules.specs.Blocks.{arraySize, blockOf, blockAt, readLocked, writeLocked, writeLocks}
-use Rattle.rules.specs.Works.{isErase, arrayRange, finished, finish}
+use Rattle.rules.specs.Works.{arrayRange, finished, finish}
 use Rattle.rules.specs.Frames.{frames, formOf, opcode, address}
-use Rattle.rules.specs.Reading.{known, unknown, placeCell, shown, reply}
+use Rattle.rules.specs.Reading.{known, unknown, silent, placeCell, shown, reply}
 use Rattle.rules.specs.Fields.{withEnable}
 use Rattle.rules.specs.Commands.{act, settled, rested}
 use Rattle.rules.specs.WellFormed.{wellFormed}
@@ -146,7 +147,7 @@ rows-stand = (
 stands : (c : Chip) (sent : List ℕ) → Accepted c (opcode sent) sent → c .wpld ≡ true
     → (act (formOf (opcode sent) .kind) sent (withEnable false c) .wpld ≡ true) × (act (formOf (opcode sent) .kind) sent (withEnable false c) .protection ≡ c .protection)
 unfolding Stands
-stands c sent a d = by-rows Stands rows-stand (c .sqi) (opcode sent) (a .known) c sent a d
+stands c sent a d = by-rows Stands rows-stand (c .sqi) (opcode sent) (a .is-listed) c sent a d
 
 module _ (p₀ : ℕ) where
   same-locks : (c d : Chip) → Locked p₀ c → d .wpld ≡ true → d .protection ≡ c .protection → Locked p₀ d
@@ -158,10 +159,13 @@ module _ (p₀ : ℕ) where
 
   frame-locked : (n : ℕ) (c : Chip) (sent : List ℕ) → Locked p₀ c → (n ≡ 0 → Accepted c (opcode sent) sent) → Locked p₀ (frameChip n c sent)
   unfolding frameChip
-  frame-locked zero c sent l a = let h = stands c sent (a refl) (l .down) in same-locks c _ l (h .0) (h .1)
-  frame-locked (suc zero) c sent l a = l
-  frame-locked (suc (suc zero)) c sent l a = l
-  frame-locked (suc (suc (suc n))) c sent l a = same-locks c _ l (l .down) refl
+  frame-locked n c sent l a = go (eqb n 0) refl (oneOf n (1 ∷ 2 ∷ []))
+    where
+      go : (x : Bool) → eqb n 0 ≡ x → (y : Bool)
+          → Locked p₀ (pick x (act (formOf (opcode sent) .kind) sent (withEnable false c)) (pick y c (withEnable false c)))
+      go true e y = let h = stands c sent (a (eqb-true n 0 e)) (l .down) in same-locks c _ l (h .0) (h .1)
+      go false e true = l
+      go false e false = same-locks c _ l (l .down) refl
 
   -- E8 adds locks and takes none
   more-read : (p v a : ℕ) → readLocked p a ≡ true → readLocked (bitOr p v) a ≡ true
@@ -194,8 +198,11 @@ module _ (p₀ : ℕ) where
 
   completed-locked : (n : ℕ) (c : Chip) → Locked p₀ c → Locked p₀ (completedChip n c)
   unfolding completedChip
-  completed-locked zero c l = settled-locked (c .running) c l
-  completed-locked (suc n) c l = l
+  completed-locked n c l = go (eqb n 0)
+    where
+      go : (b : Bool) → Locked p₀ (pick b (rested (settled (c .running) c)) c)
+      go true = settled-locked (c .running) c l
+      go false = l
 
   -- ---- what is seen of a frame
 
@@ -240,50 +247,62 @@ module _ (p₀ : ℕ) where
     reply-same Kind.Suspend sent i = refl
     reply-same Kind.Resume sent i = refl
 
+    frameCell-same : (n : ℕ) (sent : List ℕ) (i : ℕ) → frameCell n s sent i ≡ frameCell n (with-bytes s g) sent i
+    unfolding frameCell with-bytes
+    frameCell-same n sent i = ap (λ (x : Cell). pick (eqb n 0) x silent) (reply-same (formOf (opcode sent) .kind) sent i)
+
     frameReply-same : (n : ℕ) (f : Frame) → frameReply n s f ≡ frameReply n (with-bytes s g) f
-    unfolding frameReply frameCell with-bytes
-    frameReply-same zero f =
-        ap (λ (h : ℕ → ℕ). written (f .reply .size) h) (fun-ext (λ i. ap (λ (x : Cell). x .byte) (reply-same (formOf (opcode (f .sent)) .kind) (f .sent) i)))
-    frameReply-same (suc zero) f = refl
-    frameReply-same (suc (suc n)) f = refl
+    unfolding frameReply
+    frameReply-same n f = ap (λ (h : ℕ → ℕ). pick (eqb n 1) (f .reply) (written (f .reply .size) h)) (fun-ext (λ i. ap (λ (x : Cell). x .byte) (frameCell-same n (f .sent) i)))
 
     frameMarks-same : (n : ℕ) (f : Frame) → frameMarks n s f ≡ frameMarks n (with-bytes s g) f
-    unfolding frameMarks frameCell with-bytes
-    frameMarks-same zero f =
-        ap (λ (h : ℕ → ℕ). written (f .marks .size) h) (fun-ext (λ i. ap (λ (x : Cell). x .mark) (reply-same (formOf (opcode (f .sent)) .kind) (f .sent) i)))
-    frameMarks-same (suc zero) f = refl
-    frameMarks-same (suc (suc n)) f = refl
+    unfolding frameMarks
+    frameMarks-same n f = ap (λ (h : ℕ → ℕ). pick (eqb n 1) (f .marks) (written (f .marks .size) h)) (fun-ext (λ i. ap (λ (x : Cell). x .mark) (frameCell-same n (f .sent) i)))
 
   -- ---- what a completion does to the array
 
   worked-alike : (n : ℕ) (s : State) (g : ℕ → ℕ) (a : ℕ) → s .array .byte a ≡ g a → workedArray n arraySize s .byte a ≡ workedArray n arraySize (with-bytes s g) .byte a
   unfolding workedArray finish with-bytes
-  worked-alike zero s g a e =
-      ap (λ (x : ℕ). pick (holds (arrayRange (s .chip .running)) a && ltb (a - arrayRange (s .chip .running) .start) arraySize)
-      (finished (isErase (s .chip .running)) (s .chip .buffer) (a - arrayRange (s .chip .running) .start) x) x) e
-  worked-alike (suc n) s g a e = e
+  worked-alike n s g a e = go (eqb n 0)
+    where
+      w : Work
+      w = s .chip .running
+
+      go : (x : Bool)
+          → pick x (finish w (arrayRange w) (s .chip .buffer) arraySize (s .array)) (s .array) .byte a
+          ≡ pick x (finish w (arrayRange w) (s .chip .buffer) arraySize (record { size = s .array .size; byte = g })) (record { size = s .array .size; byte = g }) .byte a
+      go true = ap (λ (x : ℕ). pick (holds (arrayRange w) a && ltb (a - arrayRange w .start) arraySize) (finished w (s .chip .buffer) (a - arrayRange w .start) x) x) e
+      go false = e
 
   worked-size : (n : ℕ) (s : State) → workedArray n arraySize s .size ≡ s .array .size
   unfolding workedArray finish
-  worked-size zero s = refl
-  worked-size (suc n) s = refl
+  worked-size n s = go (eqb n 0)
+    where
+      go : (x : Bool) → pick x (finish (s .chip .running) (arrayRange (s .chip .running)) (s .chip .buffer) arraySize (s .array)) (s .array) .size ≡ s .array .size
+      go true = refl
+      go false = refl
 
   worked-security : (n : ℕ) (s : State) (g : ℕ → ℕ) → workedSecurity n arraySize s ≡ workedSecurity n arraySize (with-bytes s g)
   unfolding workedSecurity with-bytes
-  worked-security zero s g = refl
-  worked-security (suc n) s g = refl
+  worked-security n s g = refl
 
   -- a key byte lies in no range that runs
   worked-key : (n : ℕ) (s : State) (a : ℕ) → Locked p₀ (s .chip) → (n ≡ 0 → stateRight s ≡ true) → a < arraySize → keyPlace p₀ a ≡ true → workedArray n arraySize s .byte a ≡ s .array .byte a
   unfolding workedArray
-  worked-key zero s a l r below k =
-      finish-outside (isErase (s .chip .running)) (arrayRange (s .chip .running)) (s .chip .buffer) arraySize (s .array) a
-      (never (holds (arrayRange (s .chip .running)) a)
-      (λ h. true≢false (sym (l .held a k .1) ∙ unlocked-place (s .chip .protection) (arrayRange (s .chip .running)) a (well-of (s .chip) (formed (r refl)) .works .running-open) below h)))
+  worked-key n s a l r below k = go (eqb n 0) refl
     where
+      w : Work
+      w = s .chip .running
+
       formed : stateRight s ≡ true → wellFormed (s .chip) ≡ true
       formed e = and-split (wellFormed (s .chip)) _ (and-split _ _ e .0) .0
-  worked-key (suc n) s a l r below k = refl
+
+      go : (x : Bool) → eqb n 0 ≡ x → pick x (finish w (arrayRange w) (s .chip .buffer) arraySize (s .array)) (s .array) .byte a ≡ s .array .byte a
+      go true e =
+          finish-outside w (arrayRange w) (s .chip .buffer) arraySize (s .array) a
+          (never (holds (arrayRange w) a)
+          (λ h. true≢false (sym (l .held a k .1) ∙ unlocked-place (s .chip .protection) (arrayRange w) a (well-of (s .chip) (formed (r (eqb-true n 0 e))) .works .running-open) below h)))
+      go false e = refl
 
   -- ---- two states on the way
 
@@ -306,13 +325,13 @@ module _ (p₀ : ℕ) where
       λ i. record { chip = c i; array = record { size = z i; byte = t .array .byte }; security = y i }
 
   -- what an event leaves, and what tells two outcomes apart
-  record After (s₀ t₀ : State) (o q : Outcome) : Type 0 where
+  record Follows (s₀ t₀ : State) (o q : Outcome) : Type 0 where
     number : o .number ≡ q .number
     reply : o .reply ≡ q .reply
     marks : o .marks ≡ q .marks
     twins : Twins s₀ t₀ (record { chip = o .chip; array = o .array; security = o .security }) (record { chip = q .chip; array = q .array; security = q .security })
 
-  frame-after : (s₀ t₀ s t : State) (f : Frame) → Twins s₀ t₀ s t → After s₀ t₀ (frame s f) (frame (with-bytes s (t .array .byte)) f)
+  frame-after : (s₀ t₀ s t : State) (f : Frame) → Twins s₀ t₀ s t → Follows s₀ t₀ (frame s f) (frame (with-bytes s (t .array .byte)) f)
   unfolding frame with-bytes frameTests
   frame-after s₀ t₀ s t f w =
       record {
@@ -330,7 +349,7 @@ module _ (p₀ : ℕ) where
         };
       }
 
-  completion-after : (s₀ t₀ s t : State) → Twins s₀ t₀ s t → After s₀ t₀ (completion s) (completion (with-bytes s (t .array .byte)))
+  completion-after : (s₀ t₀ s t : State) → Twins s₀ t₀ s t → Follows s₀ t₀ (completion s) (completion (with-bytes s (t .array .byte)))
   unfolding completion with-bytes completionTests
   completion-after s₀ t₀ s t w =
       let n = first (completionTests s) in
@@ -351,13 +370,13 @@ module _ (p₀ : ℕ) where
         };
       }
 
-  step-after : (s₀ t₀ s t : State) (e : Event) → Uncut (e ∷ []) → Twins s₀ t₀ s t → After s₀ t₀ (step s e) (step t e)
+  step-after : (s₀ t₀ s t : State) (e : Event) → Uncut (e ∷ []) → Twins s₀ t₀ s t → Follows s₀ t₀ (step s e) (step t e)
   unfolding step
-  step-after s₀ t₀ s t (sends f) n w = subst (λ (t : State). After s₀ t₀ (frame s f) (frame t f)) (other-bytes s₀ t₀ s t w) (frame-after s₀ t₀ s t f w)
-  step-after s₀ t₀ s t completes n w = subst (λ (t : State). After s₀ t₀ (completion s) (completion t)) (other-bytes s₀ t₀ s t w) (completion-after s₀ t₀ s t w)
+  step-after s₀ t₀ s t (sends f) n w = subst (λ (t : State). Follows s₀ t₀ (frame s f) (frame t f)) (other-bytes s₀ t₀ s t w) (frame-after s₀ t₀ s t f w)
+  step-after s₀ t₀ s t completes n w = subst (λ (t : State). Follows s₀ t₀ (completion s) (completion t)) (other-bytes s₀ t₀ s t w) (completion-after s₀ t₀ s t w)
   step-after s₀ t₀ s t (cuts k) n w = absurd n
 
-  kept : (s₀ t₀ : State) (o q : Outcome) → s₀ .chip .protection ≡ p₀ → After s₀ t₀ o q → Kept keyPlace s₀ t₀ o q
+  kept : (s₀ t₀ : State) (o q : Outcome) → s₀ .chip .protection ≡ p₀ → Follows s₀ t₀ o q → Kept keyPlace s₀ t₀ o q
   kept s₀ t₀ o q e w =
       let back : (a : ℕ) → keyPlace p₀ a ≡ keyPlace (s₀ .chip .protection) a = λ a. ap (λ (p : ℕ). keyPlace p a) (sym e) in
       record {

@@ -2,6 +2,8 @@
 pub mod Bools
 pub mod Bits
 pub mod Blocks
+pub mod Fields
+pub mod Registers
 pub mod Numbers
 pub mod Rows
 pub mod Locks
@@ -12,5 +14,9 @@ pub mod Promises
 pub mod Ranges
 pub mod Runs
 pub mod Keys
-pub mod Starred
+pub mod Quick
+pub mod Cases
+pub mod Sentences
+pub mod Opcodes
+pub mod Records
 pub mod KeyCases

@@ -1,193 +1,254 @@
--- A number is given exactly when its condition holds and no condition before it does; in the base it is the least whose condition holds.
--- Assumes nothing.
-use Prim.Native.Nat.{ℕ, zero, suc, _≤_, _<_}
-use mathlib.Core.Path.{_≡_, refl, ap}
+-- A number is given exactly when its condition holds and no condition before it in the list does; in the base it is also the lowest whose
+-- condition holds. Assumes nothing.
+use Prim.Native.Nat.{ℕ, _≤_, _<_}
+use mathlib.Core.Path.{_≡_, refl, sym, ap, _∙_}
 use mathlib.Core.Bool.{Bool, true, false, not, _&&_, true≢false, false≢true}
 use mathlib.Core.List.{List, [], _∷_}
-use mathlib.Core.Logic.{_↔_, _⊎_, inl, inr, ⊎-elim}
+use mathlib.Core.Logic.{_↔_, _⊎_, inl, inr}
 use native.Mathlib.Omega.{arith}
-use lib.Dec.{ltb, leb}
-use lib.ListN.{length, getD}
-use borrow.Author.Tests.{ltb-true, leb-true, not-true, not-false}
+use lib.Dec.{eqb, ltb, leb}
+use lib.ListN.{length}
+use borrow.Author.Tests.{eqb-true, eqb-false, eq-eqb, ltb-true, leb-true, le-leb, not-true, not-false}
 use Rattle.rules.specs.declared.Chip.{Chip}
-use Rattle.rules.specs.Words.{pick, every}
+use Rattle.rules.specs.Words.{pick, oneOf, every}
+use Rattle.rules.specs.Blocks.{arraySize, securitySize}
+use Rattle.rules.specs.WellFormed.{wellFormed}
 use Rattle.rules.specs.Frames.{formOf, listed, lengthRight, opcode}
-use Rattle.rules.specs.Numbers.{State, Frame, stateRight, frameRight, whileBusy, noEnable, noIoc, suspension, noWel, closed, lockedTarget, Test, test, first, commandTests, frameTests, completionTests, cutTests}
-use Rattle.rules.specs.Given.{Clear, FrameGiven, CompletionGiven, CutGiven}
-use Rattle.rules.proofs.Bools.{and-split, not-intro}
+use Rattle.rules.specs.Numbers.{State, Frame, stateRight, frameRight, whileBusy, noEnable, noIoc, suspension, noWel, closed, lockedTarget, Test, first, commandTests, frameTests, completionTests, cutTests}
+use Rattle.rules.specs.Machine.{frame, completion, powerCut}
+use Rattle.rules.specs.Given.{RightState, RightFrame, RightSizes, before, conditionOf, None, FrameGiven, CompletionGiven, CutGiven}
+use Rattle.rules.proofs.Bools.{and-split, and-both, not-intro, or-right}
 
--- ---- the first of a list of tests whose numbers rise
+-- ---- the first of any list of tests that has no number twice
 
-abbrev pub rising : ℕ → List Test → Bool
-rising n [] = true
-rising n (t ∷ ts) = ltb n (t .number) && rising (t .number) ts
+-- none of them is 0, and no two are the same
+abbrev pub distinct : List Test → Bool
+distinct [] = true
+distinct (t ∷ ts) = not (eqb (t .number) 0) && every (λ u. not (eqb (t .number) (u .number))) ts && distinct ts
 
-rising-at : (n : ℕ) (ts : List Test) (d : Test) → rising n ts ≡ true → (k : ℕ) → k < length ts → n < getD ts k d .number
-rising-at n [] d e k h = absurd (omega arith)
-rising-at n (t ∷ ts) d e zero h = ltb-true n (t .number) (and-split (ltb n (t .number)) (rising (t .number) ts) e .0)
-rising-at n (t ∷ ts) d e (suc k) h =
-    let s = and-split (ltb n (t .number)) (rising (t .number) ts) e in
-    let a = ltb-true n (t .number) (s .0) in
-    let b = rising-at (t .number) ts d (s .1) k (omega arith) in
-    omega arith
+record Distinct (t : Test) (ts : List Test) : Type 0 where
+  some : t .number ≡ 0 → ⊥
+  others : every (λ u. not (eqb (t .number) (u .number))) ts ≡ true
+  rest : distinct ts ≡ true
 
-pub first-above : (n : ℕ) (ts : List Test) → rising n ts ≡ true → (first ts ≡ 0) ⊎ (n < first ts)
-first-above n [] e = inl refl
-first-above n (t ∷ ts) e = go (t .applies) (first-above (t .number) ts (s .1))
+distinct-parts : (t : Test) (ts : List Test) → distinct (t ∷ ts) ≡ true → Distinct t ts
+distinct-parts t ts e =
+    let h₂ = and-split (not (eqb (t .number) 0) && every (λ u. not (eqb (t .number) (u .number))) ts) (distinct ts) e in
+    let h₁ = and-split (not (eqb (t .number) 0)) (every (λ u. not (eqb (t .number) (u .number))) ts) (h₂ .0) in
+    record { some = λ z. true≢false (sym (eq-eqb (t .number) 0 z) ∙ not-true _ (h₁ .0)); others = h₁ .1; rest = h₂ .1 }
+
+-- a number that no test has is never given
+absent : (n : ℕ) (ts : List Test) → every (λ u. not (eqb n (u .number))) ts ≡ true → conditionOf n ts ≡ false
+absent n [] e = refl
+absent n (t ∷ ts) e =
+    let h = and-split (not (eqb n (t .number))) (every (λ u. not (eqb n (u .number))) ts) e in
+    ap (λ (b : Bool). pick b (t .applies) (conditionOf n ts)) (not-true (eqb n (t .number)) (h .0)) ∙ absent n ts (h .1)
+
+-- n is given exactly when its condition holds and none before it does
+pub first-exactly : (ts : List Test) → distinct ts ≡ true → (n : ℕ) → (n ≡ 0 → ⊥)
+    → (first ts ≡ n) ↔ (None (before n ts) × (conditionOf n ts ≡ true))
+first-exactly [] e n z = (λ q. absurd (z (sym q)), λ p. absurd (false≢true (p .1)))
+first-exactly (t ∷ ts) e n z = go (first-exactly ts (d .rest) n z) (eqb n (t .number)) refl
   where
-    s : (ltb n (t .number) ≡ true) × (rising (t .number) ts ≡ true)
-    s = and-split (ltb n (t .number)) (rising (t .number) ts) e
+    d : Distinct t ts
+    d = distinct-parts t ts e
 
-    go : (b : Bool) → (first ts ≡ 0) ⊎ (t .number < first ts) → (pick b (t .number) (first ts) ≡ 0) ⊎ (n < pick b (t .number) (first ts))
-    go true ih = inr (ltb-true n (t .number) (s .0))
-    go false ih = ⊎-elim (λ z. inl z) (λ l. inr (let a = ltb-true n (t .number) (s .0) in omega arith)) ih
-
-module _ (d : Test) where
-  -- the number of the test at k is given exactly when its condition holds and none before it does
-  pub first-at : (n : ℕ) (ts : List Test) → rising n ts ≡ true → (k : ℕ) → k < length ts
-      → (first ts ≡ getD ts k d .number) ↔ (Clear k ts × (getD ts k d .applies ≡ true))
-  first-at n [] e k h = absurd (omega arith)
-  first-at n (t ∷ ts) e zero h = (λ q. (tt, into (t .applies) q), λ p. from (t .applies) (p .1))
-    where
-      s : (ltb n (t .number) ≡ true) × (rising (t .number) ts ≡ true)
-      s = and-split (ltb n (t .number)) (rising (t .number) ts) e
-
-      into : (b : Bool) → pick b (t .number) (first ts) ≡ t .number → b ≡ true
-      into true q = refl
-      into false q =
-          absurd (⊎-elim (λ z. let a = ltb-true n (t .number) (s .0) in omega arith) (λ l. omega arith) (first-above (t .number) ts (s .1)))
-
-      from : (b : Bool) → b ≡ true → pick b (t .number) (first ts) ≡ t .number
-      from true q = refl
-      from false q = absurd (false≢true q)
-  first-at n (t ∷ ts) e (suc k) h = go (first-at (t .number) ts (s .1) k (omega arith))
-    where
-      s : (ltb n (t .number) ≡ true) × (rising (t .number) ts ≡ true)
-      s = and-split (ltb n (t .number)) (rising (t .number) ts) e
-
-      later : t .number < getD ts k d .number
-      later = rising-at (t .number) ts d (s .1) k (omega arith)
-
-      go : ((first ts ≡ getD ts k d .number) ↔ (Clear k ts × (getD ts k d .applies ≡ true)))
-          → (pick (t .applies) (t .number) (first ts) ≡ getD ts k d .number) ↔ (((t .applies ≡ false) × Clear k ts) × (getD ts k d .applies ≡ true))
-      go ih = (λ q. into (t .applies) q, λ p. from (t .applies) (p .0 .0) (p .0 .1, p .1))
-        where
-          into : (b : Bool) → pick b (t .number) (first ts) ≡ getD ts k d .number → ((b ≡ false) × Clear k ts) × (getD ts k d .applies ≡ true)
-          into true q = let e : t .number ≡ getD ts k d .number = q in absurd (omega (arith, later))
-          into false q = let r = ih .0 q in ((refl, r .0), r .1)
-
-          from : (b : Bool) → b ≡ false → Clear k ts × (getD ts k d .applies ≡ true) → pick b (t .number) (first ts) ≡ getD ts k d .number
-          from true q r = absurd (true≢false q)
-          from false q r = ih .1 r
-
--- 0 is given exactly when no condition holds
-pub first-none : (n : ℕ) (ts : List Test) → rising n ts ≡ true → (first ts ≡ 0) ↔ Clear (length ts) ts
-first-none n [] e = (λ q. tt, λ p. refl)
-first-none n (t ∷ ts) e = go (first-none (t .number) ts (s .1))
-  where
-    s : (ltb n (t .number) ≡ true) × (rising (t .number) ts ≡ true)
-    s = and-split (ltb n (t .number)) (rising (t .number) ts) e
-
-    go : ((first ts ≡ 0) ↔ Clear (length ts) ts) → (pick (t .applies) (t .number) (first ts) ≡ 0) ↔ ((t .applies ≡ false) × Clear (length ts) ts)
-    go ih = (λ q. into (t .applies) q, λ p. from (t .applies) (p .0) (p .1))
+    go : (first ts ≡ n) ↔ (None (before n ts) × (conditionOf n ts ≡ true)) → (b : Bool) → eqb n (t .number) ≡ b
+        → (pick (t .applies) (t .number) (first ts) ≡ n) ↔ (None (pick b [] (t ∷ before n ts)) × (pick b (t .applies) (conditionOf n ts) ≡ true))
+    go ih true k = (λ q. (tt, into (t .applies) q), λ p. from (t .applies) (p .1))
       where
-        into : (b : Bool) → pick b (t .number) (first ts) ≡ 0 → (b ≡ false) × Clear (length ts) ts
-        into true q = let a = ltb-true n (t .number) (s .0) in absurd (omega arith)
-        into false q = (refl, ih .0 q)
+        same : n ≡ t .number
+        same = eqb-true n (t .number) k
 
-        from : (b : Bool) → b ≡ false → Clear (length ts) ts → pick b (t .number) (first ts) ≡ 0
+        later : conditionOf n ts ≡ false
+        later = absent n ts (ap (λ (m : ℕ). every (λ u. not (eqb m (u .number))) ts) same ∙ d .others)
+
+        into : (b : Bool) → pick b (t .number) (first ts) ≡ n → b ≡ true
+        into true q = refl
+        into false q = absurd (true≢false (sym (ih .0 q .1) ∙ later))
+
+        from : (b : Bool) → b ≡ true → pick b (t .number) (first ts) ≡ n
+        from true q = sym same
+        from false q = absurd (false≢true q)
+    go ih false k = (λ q. into (t .applies) q, λ p. from (t .applies) (p .0 .0) (p .0 .1, p .1))
+      where
+        into : (b : Bool) → pick b (t .number) (first ts) ≡ n → ((b ≡ false) × None (before n ts)) × (conditionOf n ts ≡ true)
+        into true q = absurd (eqb-false n (t .number) k (sym q))
+        into false q = let r = ih .0 q in ((refl, r .0), r .1)
+
+        from : (b : Bool) → b ≡ false → None (before n ts) × (conditionOf n ts ≡ true) → pick b (t .number) (first ts) ≡ n
         from true q r = absurd (true≢false q)
         from false q r = ih .1 r
 
--- "the lowest is given": no condition that holds has a lower number than the one given, which is not 0
-pub first-least : (n : ℕ) (ts : List Test) (d : Test) → rising n ts ≡ true → (k : ℕ) → k < length ts → getD ts k d .applies ≡ true
-    → (n < first ts) × (first ts ≤ getD ts k d .number)
-first-least n [] d e k h a = absurd (omega arith)
-first-least n (t ∷ ts) d e zero h a =
-    let l = ltb-true n (t .number) (and-split (ltb n (t .number)) (rising (t .number) ts) e .0) in
-    rw a (l, omega arith)
-first-least n (t ∷ ts) d e (suc k) h a = go (t .applies) (first-least (t .number) ts d (s .1) k (omega arith) a)
+-- 0 is given exactly when no condition holds
+pub first-none : (ts : List Test) → distinct ts ≡ true → (first ts ≡ 0) ↔ None ts
+first-none [] e = (λ q. tt, λ p. refl)
+first-none (t ∷ ts) e = go (first-none ts (d .rest))
   where
-    s : (ltb n (t .number) ≡ true) × (rising (t .number) ts ≡ true)
-    s = and-split (ltb n (t .number)) (rising (t .number) ts) e
+    d : Distinct t ts
+    d = distinct-parts t ts e
 
-    go : (b : Bool) → (t .number < first ts) × (first ts ≤ getD ts k d .number)
-        → (n < pick b (t .number) (first ts)) × (pick b (t .number) (first ts) ≤ getD ts k d .number)
-    go true r = let l = ltb-true n (t .number) (s .0) in (l, omega arith)
-    go false r = let l = ltb-true n (t .number) (s .0) in (omega arith, r .1)
+    go : (first ts ≡ 0) ↔ None ts → (pick (t .applies) (t .number) (first ts) ≡ 0) ↔ ((t .applies ≡ false) × None ts)
+    go ih = (λ q. into (t .applies) q, λ p. from (t .applies) (p .0) (p .1))
+      where
+        into : (b : Bool) → pick b (t .number) (first ts) ≡ 0 → (b ≡ false) × None ts
+        into true q = absurd (d .some q)
+        into false q = (refl, ih .0 q)
 
--- what is given is at most m where no number is more
-first-below : (m : ℕ) (ts : List Test) → every (λ t. leb (t .number) m) ts ≡ true → first ts ≤ m
-first-below m [] e = omega arith
-first-below m (t ∷ ts) e =
-    let s = and-split (leb (t .number) m) (every (λ t. leb (t .number) m) ts) e in
-    go (t .applies) (leb-true (t .number) m (s .0)) (first-below m ts (s .1))
+        from : (b : Bool) → b ≡ false → None ts → pick b (t .number) (first ts) ≡ 0
+        from true q r = absurd (true≢false q)
+        from false q r = ih .1 r
+
+-- what is given is 0 or one of the list's numbers
+pub first-among : (ns : List ℕ) (ts : List Test) → every (λ t. oneOf (t .number) ns) ts ≡ true → oneOf (first ts) (0 ∷ ns) ≡ true
+first-among ns [] e = refl
+first-among ns (t ∷ ts) e =
+    let h = and-split (oneOf (t .number) ns) (every (λ t. oneOf (t .number) ns) ts) e in
+    go (t .applies) (h .0) (first-among ns ts (h .1))
   where
-    go : (b : Bool) → t .number ≤ m → first ts ≤ m → pick b (t .number) (first ts) ≤ m
-    go true p q = p
+    go : (b : Bool) → oneOf (t .number) ns ≡ true → oneOf (first ts) (0 ∷ ns) ≡ true → oneOf (pick b (t .number) (first ts)) (0 ∷ ns) ≡ true
+    go true p q = or-right (eqb (t .number) 0) (oneOf (t .number) ns) p
     go false p q = q
+
+-- what is given is 0 or above m where every number is
+pub first-above : (m : ℕ) (ts : List Test) → every (λ t. ltb m (t .number)) ts ≡ true → (first ts ≡ 0) ⊎ (m < first ts)
+first-above m [] e = inl refl
+first-above m (t ∷ ts) e =
+    let h = and-split (ltb m (t .number)) (every (λ t. ltb m (t .number)) ts) e in
+    go (t .applies) (ltb-true m (t .number) (h .0)) (first-above m ts (h .1))
+  where
+    go : (b : Bool) → m < t .number → (first ts ≡ 0) ⊎ (m < first ts) → (pick b (t .number) (first ts) ≡ 0) ⊎ (m < pick b (t .number) (first ts))
+    go true p q = inr p
+    go false p q = q
+
+-- ---- the record and the lengths
+
+state-given : (s : State) → (stateRight s ≡ true) ↔ RightState s
+state-given s = (
+  λ e.
+      let h = and-split (wellFormed (s .chip) && eqb (s .array .size) arraySize) (eqb (s .security .size) securitySize) e in
+      let k = and-split (wellFormed (s .chip)) (eqb (s .array .size) arraySize) (h .0) in
+      record { formed = k .0; array = eqb-true (s .array .size) arraySize (k .1); security = eqb-true (s .security .size) securitySize (h .1) },
+  λ r. and-both (and-both (r .formed) (eq-eqb (s .array .size) arraySize (r .array))) (eq-eqb (s .security .size) securitySize (r .security)),
+)
+
+frame-right-given : (f : Frame) → (frameRight f ≡ true) ↔ RightFrame f
+frame-right-given f = (
+  λ e.
+      let h = and-split (leb (length (f .sent)) 65536 && leb (f .reply .size) 65536) (eqb (f .reply .size) (f .marks .size)) e in
+      let k = and-split (leb (length (f .sent)) 65536) (leb (f .reply .size) 65536) (h .0) in
+      record { sent = leb-true (length (f .sent)) 65536 (k .0); reply = leb-true (f .reply .size) 65536 (k .1); equal = eqb-true (f .reply .size) (f .marks .size) (h .1) },
+  λ r. and-both (and-both (le-leb (length (f .sent)) 65536 (r .sent)) (le-leb (f .reply .size) 65536 (r .reply))) (eq-eqb (f .reply .size) (f .marks .size) (r .equal)),
+)
+
+pub sizes-given : (s : State) (f : Frame) → RightSizes s f
+sizes-given s f =
+    let state = state-given s in
+    let frame = frame-right-given f in
+    record {
+      of-state = state;
+      of-frame = (
+        λ e. let h = and-split (stateRight s) (frameRight f) (not-false (stateRight s && frameRight f) e) in (state .0 (h .0), frame .0 (h .1)),
+        λ r. ap not (and-both (state .1 (r .0)) (frame .1 (r .1))),
+      );
+    }
 
 -- ---- of a frame
 
--- the order of the base is the order of the numbers
-pub frame-rising : (s : State) (f : Frame) → rising 0 (frameTests s f) ≡ true
-unfolding frameTests commandTests
-frame-rising s f = refl
-
 pub frame-given : (s : State) (f : Frame) → FrameGiven s f
-unfolding frameTests commandTests
+unfolding frame frameTests commandTests
 frame-given s f =
-    let at = first-at (test 0 false) 0 (frameTests s f) (frame-rising s f) in
-    let one = at 0 (omega arith) in
+    let at = first-exactly (frameTests s f) refl in
+    let one = at 1 (λ z. omega arith) in
     record {
-      is-0 = first-none 0 (frameTests s f) (frame-rising s f);
+      is-0 = first-none (frameTests s f) refl;
       is-1 = (λ q. one .0 q .1, λ a. one .1 (tt, a));
-      is-2 = at 1 (omega arith);
-      is-3 = at 2 (omega arith);
-      is-4 = at 3 (omega arith);
-      is-5 = at 4 (omega arith);
-      is-6 = at 5 (omega arith);
-      is-7 = at 6 (omega arith);
-      is-8 = at 7 (omega arith);
-      is-9 = at 8 (omega arith);
-      is-10 = at 9 (omega arith);
-      is-11 = at 10 (omega arith);
-      no-other = first-below 11 (frameTests s f) refl;
+      is-2 = at 2 (λ z. omega arith);
+      is-3 = at 3 (λ z. omega arith);
+      is-4 = at 4 (λ z. omega arith);
+      is-5 = at 5 (λ z. omega arith);
+      is-6 = at 6 (λ z. omega arith);
+      is-7 = at 7 (λ z. omega arith);
+      is-8 = at 8 (λ z. omega arith);
+      is-9 = at 9 (λ z. omega arith);
+      is-10 = at 10 (λ z. omega arith);
+      is-11 = at 11 (λ z. omega arith);
+      no-other = first-among (1 ∷ 2 ∷ 3 ∷ 4 ∷ 5 ∷ 6 ∷ 7 ∷ 8 ∷ 9 ∷ 10 ∷ 11 ∷ []) (frameTests s f) refl;
     }
 
 -- ---- of a completion and of a power cut
 
 pub completion-given : (s : State) → CompletionGiven s
-unfolding completionTests
+unfolding completion completionTests
 completion-given s =
+    let at = first-exactly (completionTests s) refl in
+    let none = first-none (completionTests s) refl in
+    let one = at 1 (λ z. omega arith) in
+    let twelve = at 12 (λ z. omega arith) in
     record {
       is-0 = (λ q. let c = none .0 q in (not-false (stateRight s) (c .0), c .1 .0), λ p. none .1 (ap not (p .0), (p .1, tt)));
-      is-1 = (λ q. not-true (stateRight s) (at 0 (omega arith) .0 q .1), λ p. at 0 (omega arith) .1 (tt, not-intro (stateRight s) p));
-      is-12 = (λ q. let c = at 1 (omega arith) .0 q in (not-false (stateRight s) (c .0 .0), c .1), λ p. at 1 (omega arith) .1 ((ap not (p .0), tt), p .1));
+      is-1 = (λ q. not-true (stateRight s) (one .0 q .1), λ p. one .1 (tt, not-intro (stateRight s) p));
+      is-12 = (λ q. let c = twelve .0 q in (not-false (stateRight s) (c .0 .0), c .1), λ p. twelve .1 ((ap not (p .0), tt), p .1));
+      no-other = first-among (1 ∷ 12 ∷ []) (completionTests s) refl;
     }
+
+pub cut-given : (s : State) (k : ℕ) → CutGiven s k
+unfolding powerCut cutTests
+cut-given s k =
+    let none = first-none (cutTests s) refl in
+    let one = first-exactly (cutTests s) refl 1 (λ z. omega arith) in
+    record {
+      is-0 = (λ q. not-false (stateRight s) (none .0 q .0), λ p. none .1 (ap not p, tt));
+      is-1 = (λ q. not-true (stateRight s) (one .0 q .1), λ p. one .1 (tt, not-intro (stateRight s) p));
+      no-other = first-among (1 ∷ []) (cutTests s) refl;
+    }
+
+-- ---- "If several apply to an event, the lowest is given": in the base the numbers rise along the list
+
+abbrev rising : ℕ → List Test → Bool
+rising m [] = true
+rising m (t ∷ ts) = ltb m (t .number) && rising (t .number) ts
+
+above : (m : ℕ) (ts : List Test) → rising m ts ≡ true → (n : ℕ) → conditionOf n ts ≡ true → m < n
+above m [] e n c = absurd (false≢true c)
+above m (t ∷ ts) e n c = go (eqb n (t .number)) refl c (above (t .number) ts (h .1) n)
   where
-    at : (k : ℕ) → k < 2 → (first (completionTests s) ≡ getD (completionTests s) k (test 0 false) .number) ↔ (Clear k (completionTests s) × (getD (completionTests s) k (test 0 false) .applies ≡ true))
-    at = first-at (test 0 false) 0 (completionTests s) refl
+    h : (ltb m (t .number) ≡ true) × (rising (t .number) ts ≡ true)
+    h = and-split (ltb m (t .number)) (rising (t .number) ts) e
 
-    none : (first (completionTests s) ≡ 0) ↔ Clear 2 (completionTests s)
-    none = first-none 0 (completionTests s) refl
+    low : m < t .number
+    low = ltb-true m (t .number) (h .0)
 
-pub cut-given : (s : State) → CutGiven s
-unfolding cutTests
-cut-given s = record { is-0 = go₀ (stateRight s); is-1 = go₁ (stateRight s) }
+    go : (b : Bool) → eqb n (t .number) ≡ b → pick b (t .applies) (conditionOf n ts) ≡ true → (conditionOf n ts ≡ true → t .number < n) → m < n
+    go true k c ih = let l = low in let q = eqb-true n (t .number) k in omega arith
+    go false k c ih = let l = low in let q = ih c in omega arith
+
+first-lowest : (m : ℕ) (ts : List Test) → rising m ts ≡ true → (n : ℕ) → conditionOf n ts ≡ true → first ts ≤ n
+first-lowest m [] e n c = absurd (false≢true c)
+first-lowest m (t ∷ ts) e n c = go (eqb n (t .number)) refl (t .applies) refl c (first-lowest (t .number) ts (h .1) n)
   where
-    go₀ : (b : Bool) → (pick {A = ℕ} (not b) 1 0 ≡ 0) ↔ (b ≡ true)
-    go₀ true = (λ q. refl, λ p. refl)
-    go₀ false = (λ q. absurd (omega arith), λ p. absurd (false≢true p))
+    h : (ltb m (t .number) ≡ true) × (rising (t .number) ts ≡ true)
+    h = and-split (ltb m (t .number)) (rising (t .number) ts) e
 
-    go₁ : (b : Bool) → (pick {A = ℕ} (not b) 1 0 ≡ 1) ↔ (b ≡ false)
-    go₁ true = (λ q. absurd (omega arith), λ p. absurd (true≢false p))
-    go₁ false = (λ q. refl, λ p. refl)
+    go : (b : Bool) → eqb n (t .number) ≡ b → (a : Bool) → t .applies ≡ a → pick b (t .applies) (conditionOf n ts) ≡ true
+        → (conditionOf n ts ≡ true → first ts ≤ n) → pick a (t .number) (first ts) ≤ n
+    go true k true r c ih = let q = eqb-true n (t .number) k in omega arith
+    go true k false r c ih = absurd (true≢false (sym c ∙ r))
+    go false k true r c ih = let q = above (t .number) ts (h .1) n c in omega arith
+    go false k false r c ih = ih c
+
+pub frame-lowest : (s : State) (f : Frame) (n : ℕ) → conditionOf n (frameTests s f) ≡ true → frame s f .number ≤ n
+unfolding frame frameTests commandTests
+frame-lowest s f n c = first-lowest 0 (frameTests s f) refl n c
+
+pub completion-lowest : (s : State) (n : ℕ) → conditionOf n (completionTests s) ≡ true → completion s .number ≤ n
+unfolding completion completionTests
+completion-lowest s n c = first-lowest 0 (completionTests s) refl n c
 
 -- ---- what is known of a done frame
 
 pub record Accepted (c : Chip) (o : ℕ) (sent : List ℕ) : Type 0 where
-  pub known : listed (c .sqi) (formOf o) ≡ true
+  pub is-listed : listed (c .sqi) (formOf o) ≡ true
   pub sized : lengthRight (c .sqi) (formOf o) (length sent) ≡ true
   pub calm : whileBusy c o ≡ false
   pub enabled : noEnable c o ≡ false
@@ -197,12 +258,12 @@ pub record Accepted (c : Chip) (o : ℕ) (sent : List ℕ) : Type 0 where
   pub opened : closed c o sent ≡ false
   pub bare : lockedTarget c o sent ≡ false
 
-pub accepted : (s : State) (f : Frame) → first (frameTests s f) ≡ 0 → Accepted (s .chip) (opcode (f .sent)) (f .sent)
+pub accepted : (s : State) (f : Frame) → frame s f .number ≡ 0 → Accepted (s .chip) (opcode (f .sent)) (f .sent)
 unfolding frameTests commandTests
 accepted s f e =
     let c = frame-given s f .is-0 .0 e in
     record {
-      known = not-false _ (c .1 .1 .0);
+      is-listed = not-false _ (c .1 .1 .0);
       sized = not-false _ (c .1 .1 .1 .0);
       calm = c .1 .1 .1 .1 .0;
       enabled = c .1 .1 .1 .1 .1 .0;
@@ -214,6 +275,6 @@ accepted s f e =
     }
 
 -- the record and the lengths were right
-pub accepted-right : (s : State) (f : Frame) → first (frameTests s f) ≡ 0 → (stateRight s ≡ true) × (frameRight f ≡ true)
+pub accepted-right : (s : State) (f : Frame) → frame s f .number ≡ 0 → (stateRight s ≡ true) × (frameRight f ≡ true)
 unfolding frameTests commandTests
 accepted-right s f e = and-split (stateRight s) (frameRight f) (not-false (stateRight s && frameRight f) (frame-given s f .is-0 .0 e .0))

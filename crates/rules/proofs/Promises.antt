@@ -1,5 +1,5 @@
 -- A promise leaves no second outcome: whatever meets it at the same input is the same result and the same lent memory. Assumes nothing.
-use Prim.Native.Nat.{ℕ, _≤_, _<_}
+use Prim.Native.Nat.{ℕ, _<_}
 use mathlib.Core.Path.{_≡_, refl, sym, ap, _∙_, fun-ext}
 use mathlib.Core.Bool.{Bool, true, false}
 use mathlib.Core.List.{List, []}
@@ -8,12 +8,12 @@ use lib.Dec.{eqb, ltb}
 use lib.ListN.{length, getD, List·getD-eq-default}
 use lib.Seq.{ext-getD}
 use borrow.Author.Tests.{eqb-true, ltb-true, ltb-false}
-use Rattle.rules.proofs.Bools.{upto, upto-at}
+use Rattle.rules.proofs.Bools.{every-of}
 use Rattle.rules.specs.declared.After.{After}
 use Rattle.rules.specs.declared.Answer.{Answer}
 use Rattle.rules.specs.declared.Chip.{Chip}
 use Rattle.rules.specs.declared.Refusal.{Refusal}
-use Rattle.rules.specs.Words.{pick, Lent, lent, written}
+use Rattle.rules.specs.Words.{pick, oneOf, every, Lent, lent, written}
 use Rattle.rules.specs.Numbers.{answerNumber}
 use Rattle.rules.specs.Machine.{Outcome}
 use Rattle.rules.specs.Promises.{came, FramePromise, CompletionPromise, CutPromise}
@@ -38,7 +38,7 @@ lent-written l n f s h = lent-ext s (λ i. go i (ltb i n) refl)
 
 -- ---- the answer is known by its number
 
-refusalOf : ℕ → Refusal
+unfoldable pub refusalOf : ℕ → Refusal
 refusalOf n =
     pick (ltb n 2) Refusal.Malformed
     (pick (ltb n 3) Refusal.Empty
@@ -52,7 +52,7 @@ refusalOf n =
     (pick (ltb n 11) Refusal.Closed
     (pick (ltb n 12) Refusal.WriteLocked Refusal.NothingRuns))))))))))
 
-pub answerOf : ℕ → Answer
+unfoldable pub answerOf : ℕ → Answer
 answerOf n = pick (ltb n 1) Answer.Done (Answer.Refused (refusalOf n))
 
 answer-back : (a : Answer) → answerOf (answerNumber a) ≡ a
@@ -116,10 +116,6 @@ cut-one c array security k r₁ r₂ a₁ a₂ s₁ s₂ p q = came-one r₁ r�
 pub one : {A : Type 0} {x y v : A} → x ≡ v → y ≡ v → x ≡ y
 one p q = p ∙ sym q
 
--- each number up to 12 is an answer's
-numbers-back : upto 13 (λ n. eqb (answerNumber (answerOf n)) n) ≡ true
-unfolding answerOf refusalOf
-numbers-back = refl
-
-pub answer-number : (n : ℕ) → n ≤ 12 → answerNumber (answerOf n) ≡ n
-answer-number n h = eqb-true (answerNumber (answerOf n)) n (upto-at 13 (λ n. eqb (answerNumber (answerOf n)) n) numbers-back n (omega arith))
+-- a number of a list all of whose numbers are an answer's
+pub answer-number : (ns : List ℕ) → every (λ n. eqb (answerNumber (answerOf n)) n) ns ≡ true → (n : ℕ) → oneOf n ns ≡ true → answerNumber (answerOf n) ≡ n
+answer-number ns e n h = eqb-true (answerNumber (answerOf n)) n (every-of (λ n. eqb (answerNumber (answerOf n)) n) ns e n h)

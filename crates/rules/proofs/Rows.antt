@@ -1,14 +1,15 @@
--- What holds of each row of the table of frames holds of each listed opcode. Assumes nothing.
-use Prim.Native.Nat.{ℕ}
+-- What holds of each row of the table of frames holds of each listed opcode; past its end a frame counts as 0. Assumes nothing.
+use Prim.Native.Nat.{ℕ, _≤_}
 use mathlib.Core.Path.{_≡_, refl, sym, subst}
 use mathlib.Core.Bool.{Bool, true, false, false≢true}
 use mathlib.Core.List.{List, [], _∷_}
 use lib.Dec.{eqb}
+use lib.ListN.{length, List·getD-eq-default}
 use borrow.Author.Tests.{eqb-true}
 use Rattle.rules.specs.declared.Form.{Form}
 use Rattle.rules.specs.declared.Kind.{Kind}
 use Rattle.rules.specs.Words.{pick}
-use Rattle.rules.specs.Frames.{Row, frames, find, formOf, listed}
+use Rattle.rules.specs.Frames.{Row, frames, find, formOf, listed, sentByte}
 
 abbrev pub EachForm : (ℕ → Form → Type 0) → List Row → Type 0
 EachForm P [] = Unit {0}
@@ -35,3 +36,6 @@ EachRow P rs = EachForm (λ o f. P o (f .kind)) rs
 
 pub by-rows : (P : ℕ → Kind → Type 0) → EachRow P frames → (q : Bool) (o : ℕ) → listed q (formOf o) ≡ true → P o (formOf o .kind)
 by-rows P h q o e = by-forms (λ o f. P o (f .kind)) h q o e
+
+pub sent-past : (sent : List ℕ) (i : ℕ) → length sent ≤ i → sentByte sent i ≡ 0
+sent-past sent i h = List·getD-eq-default sent 0 h

@@ -1,38 +1,40 @@
 -- Demand 2 over runs: a chain of outcomes that meet the guarantees is the machine's run; it exists, and there is one only. Assumes nothing.
 use Prim.Native.Nat.{ℕ, zero, suc, _+_, _≤_, _<_}
 use mathlib.Core.Path.{_≡_, refl, sym, ap, ap₂, _∙_, subst}
-use mathlib.Core.Bool.{Bool, true, false, not, _&&_}
+use mathlib.Core.Bool.{Bool, true, false, _&&_}
 use mathlib.Core.List.{List, [], _∷_}
 use native.Mathlib.Omega.{arith}
 use lib.Dec.{eqb, ltb}
 use lib.ListN.{length, getD, List·getD-eq-default}
 use borrow.Author.Tests.{eqb-true, ltb-true, le-ltb}
 use Rattle.rules.specs.declared.Range.{Range}
-use Rattle.rules.specs.Words.{pick, holds, Lent, lent, written}
+use Rattle.rules.specs.declared.Work.{Work}
+use Rattle.rules.specs.Words.{pick, oneOf, every, holds, Lent, lent, written}
 use Rattle.rules.specs.Blocks.{arraySize, securitySize}
-use Rattle.rules.specs.Works.{isNothing, isErase, arrayRange, securityRange, finish}
+use Rattle.rules.specs.Works.{arrayRange, securityRange, finish}
 use Rattle.rules.specs.WellFormed.{numbersRight, wellFormed}
-use Rattle.rules.specs.Numbers.{State, stateRight, first, frameTests, completionTests, cutTests}
+use Rattle.rules.specs.Numbers.{answerNumber, State, stateRight, first, frameTests, completionTests, cutTests}
 use Rattle.rules.specs.Machine.{Outcome, frameReply, frameMarks, frame, workedArray, workedSecurity, completion, powerCut, step, run}
+use Rattle.rules.specs.Given.{frameNumbers, completionNumbers, cutNumbers}
 use Rattle.rules.specs.Promises.{carried, came}
-use Rattle.rules.specs.Demands.{Bench, stateOf, Call, frames, Given, Meets, benchAfter, Chain, eventOf, outcomeOf, eventsOf, outcomesOf, AllWellFormed, Demand2}
+use Rattle.rules.specs.Demands.{Bench, stateOf, Call, frameCall, completionCall, cutCall, Returned, Meets, benchAfter, Chain, eventOf, outcomeOf, eventsOf, outcomesOf, AllWellFormed, Demand2}
 use Rattle.rules.proofs.Bools.{and-split, never}
 use Rattle.rules.proofs.Blocks.{holds-at}
 use Rattle.rules.proofs.Ranges.{array-inside, security-inside}
 use Rattle.rules.proofs.Effects.{finish-outside}
 use Rattle.rules.proofs.Numbers.{frame-given, completion-given, cut-given}
-use Rattle.rules.proofs.Promises.{lent-ext, answerOf, answer-number, frame-one, completion-one, cut-one}
+use Rattle.rules.proofs.Promises.{lent-ext, refusalOf, answerOf, answer-number, frame-one, completion-one, cut-one}
 use Rattle.rules.proofs.WellFormed.{well-of, step-well-formed}
 
 -- ---- each outcome is the machine's
 
-meets-machine : (b : Bench) (e : Call) (g : Given) → Meets b e g → outcomeOf g ≡ step (stateOf b) (eventOf e)
+meets-machine : (b : Bench) (e : Call) (g : Returned) → Meets b e g → outcomeOf g ≡ step (stateOf b) (eventOf e)
 unfolding step
-meets-machine b (frames sent y m) g h = h .outcome
-meets-machine b Call.completion g h = ap₂ (λ (y m : List ℕ). came (g .after) (g .array) (g .security) y m) (h .1) (h .2) ∙ h .0 .outcome
-meets-machine b (Call.powerCut k) g h = ap₂ (λ (y m : List ℕ). came (g .after) (g .array) (g .security) y m) (h .1) (h .2) ∙ h .0 .outcome
+meets-machine b (frameCall sent y m) g h = h .outcome
+meets-machine b completionCall g h = ap₂ (λ (y m : List ℕ). came (g .after) (g .array) (g .security) y m) (h .1) (h .2) ∙ h .0 .outcome
+meets-machine b (cutCall k) g h = ap₂ (λ (y m : List ℕ). came (g .after) (g .array) (g .security) y m) (h .1) (h .2) ∙ h .0 .outcome
 
-chain-machine : (b : Bench) (es : List Call) (gs : List Given) → Chain b es gs → outcomesOf gs ≡ run (stateOf b) (eventsOf es)
+chain-machine : (b : Bench) (es : List Call) (gs : List Returned) → Chain b es gs → outcomesOf gs ≡ run (stateOf b) (eventsOf es)
 unfolding run
 chain-machine b [] [] h = refl
 chain-machine b [] (g ∷ gs) h = absurd h
@@ -41,7 +43,7 @@ chain-machine b (e ∷ es) (g ∷ gs) h =
     ap (λ (os : List Outcome). outcomeOf g ∷ os) (chain-machine (benchAfter g) es gs (h .1))
     ∙ ap (λ (o : Outcome). o ∷ run (record { chip = o .chip; array = o .array; security = o .security }) (eventsOf es)) (meets-machine b e g (h .0))
 
-chain-formed : (b : Bench) (es : List Call) (gs : List Given) → Chain b es gs → wellFormed (b .chip) ≡ true → AllWellFormed gs
+chain-formed : (b : Bench) (es : List Call) (gs : List Returned) → Chain b es gs → wellFormed (b .chip) ≡ true → AllWellFormed gs
 chain-formed b [] [] h w = tt
 chain-formed b [] (g ∷ gs) h w = absurd h
 chain-formed b (e ∷ es) [] h w = absurd h
@@ -50,26 +52,26 @@ chain-formed b (e ∷ es) (g ∷ gs) h w =
     ap wellFormed (ap (λ (o : Outcome). o .chip) (meets-machine b e g (h .0))) ∙ step-well-formed (stateOf b) (eventOf e) w in
     (f, chain-formed (benchAfter g) es gs (h .1) f)
 
-pub demand-2 : (b : Bench) (es : List Call) (gs : List Given) → Chain b es gs → Demand2 b es gs
+pub demand-2 : (b : Bench) (es : List Call) (gs : List Returned) → Chain b es gs → Demand2 b es gs
 demand-2 b es gs h = record { machine = chain-machine b es gs h; formed = chain-formed b es gs h }
 
 -- ---- there is one chain only
 
-given-ext : {g k : Given} → g .after ≡ k .after → g .array ≡ k .array → g .security ≡ k .security → g .reply ≡ k .reply → g .marks ≡ k .marks → g ≡ k
-given-ext r a s y m = λ i. record { after = r i; array = a i; security = s i; reply = y i; marks = m i }
+returned-ext : {g k : Returned} → g .after ≡ k .after → g .array ≡ k .array → g .security ≡ k .security → g .reply ≡ k .reply → g .marks ≡ k .marks → g ≡ k
+returned-ext r a s y m = λ i. record { after = r i; array = a i; security = s i; reply = y i; marks = m i }
 
-meets-one : (b : Bench) (e : Call) (g k : Given) → Meets b e g → Meets b e k → g ≡ k
-meets-one b (frames sent y m) g k p q =
+meets-one : (b : Bench) (e : Call) (g k : Returned) → Meets b e g → Meets b e k → g ≡ k
+meets-one b (frameCall sent y m) g k p q =
     let s = frame-one (b .chip) (b .array) (b .security) sent y m (g .after) (k .after) (g .array) (k .array) (g .security) (k .security) (g .reply) (k .reply) (g .marks) (k .marks) p q in
-    given-ext (s .result) (s .array-same) (s .security-same) (s .reply-same) (s .marks-same)
-meets-one b Call.completion g k p q =
+    returned-ext (s .result) (s .array-same) (s .security-same) (s .reply-same) (s .marks-same)
+meets-one b completionCall g k p q =
     let s = completion-one (b .chip) (b .array) (b .security) (g .after) (k .after) (g .array) (k .array) (g .security) (k .security) (p .0) (q .0) in
-    given-ext (s .result) (s .array-same) (s .security-same) (p .1 ∙ sym (q .1)) (p .2 ∙ sym (q .2))
-meets-one b (Call.powerCut n) g k p q =
+    returned-ext (s .result) (s .array-same) (s .security-same) (p .1 ∙ sym (q .1)) (p .2 ∙ sym (q .2))
+meets-one b (cutCall n) g k p q =
     let s = cut-one (b .chip) (b .array) (b .security) n (g .after) (k .after) (g .array) (k .array) (g .security) (k .security) (p .0) (q .0) in
-    given-ext (s .result) (s .array-same) (s .security-same) (p .1 ∙ sym (q .1)) (p .2 ∙ sym (q .2))
+    returned-ext (s .result) (s .array-same) (s .security-same) (p .1 ∙ sym (q .1)) (p .2 ∙ sym (q .2))
 
-pub chain-one : (b : Bench) (es : List Call) (gs ks : List Given) → Chain b es gs → Chain b es ks → gs ≡ ks
+pub chain-one : (b : Bench) (es : List Call) (gs ks : List Returned) → Chain b es gs → Chain b es ks → gs ≡ ks
 chain-one b [] [] [] p q = refl
 chain-one b [] [] (k ∷ ks) p q = absurd q
 chain-one b [] (g ∷ gs) ks p q = absurd p
@@ -77,7 +79,7 @@ chain-one b (e ∷ es) [] ks p q = absurd p
 chain-one b (e ∷ es) (g ∷ gs) [] p q = absurd q
 chain-one b (e ∷ es) (g ∷ gs) (k ∷ ks) p q =
     let h = meets-one b e g k (p .0) (q .0) in
-    ap₂ (λ (x : Given) (xs : List Given). x ∷ xs) h (chain-one (benchAfter g) es gs ks (p .1) (subst (λ (x : Given). Chain (benchAfter x) es ks) (sym h) (q .1)))
+    ap₂ (λ (x : Returned) (xs : List Returned). x ∷ xs) h (chain-one (benchAfter g) es gs ks (p .1) (subst (λ (x : Returned). Chain (benchAfter x) es ks) (sym h) (q .1)))
 
 -- ---- and it exists: the machine's memories are lists
 
@@ -104,9 +106,9 @@ listOf m = bytes 0 (m .size) (m .byte)
 Tame : Lent → Type 0
 Tame m = (i : ℕ) → m .size ≤ i → m .byte i ≡ 0
 
-listed : (m : Lent) → Tame m → lent (listOf m) ≡ m
+list-back : (m : Lent) → Tame m → lent (listOf m) ≡ m
 unfolding listOf Tame
-listed m t = lent-ext (length-bytes 0 (m .size) (m .byte)) (λ i. go i (ltb i (m .size)) refl)
+list-back m t = lent-ext (length-bytes 0 (m .size) (m .byte)) (λ i. go i (ltb i (m .size)) refl)
   where
     go : (i : ℕ) (b : Bool) → ltb i (m .size) ≡ b → getD (listOf m) i 0 ≡ m .byte i
     go i true e = let z : 0 + i ≡ i = omega arith in getD-bytes 0 (m .size) (m .byte) i (ltb-true i (m .size) e) ∙ ap (m .byte) z
@@ -123,9 +125,9 @@ tame-written : (n : ℕ) (f : ℕ → ℕ) → Tame (written n f)
 unfolding Tame
 tame-written n f i h = rw (le-ltb i n h)
 
-tame-finish : (erases : Bool) (r : Range) (b : List ℕ) (k : ℕ) (m : Lent) → Tame m → r .start + r .size ≤ m .size → Tame (finish erases r b k m)
+tame-finish : (w : Work) (r : Range) (b : List ℕ) (k : ℕ) (m : Lent) → Tame m → r .start + r .size ≤ m .size → Tame (finish w r b k m)
 unfolding Tame finish
-tame-finish erases r b k m t fits i h = finish-outside erases r b k m i (never (holds r i) (λ e. let g = holds-at r i e in omega arith)) ∙ t i h
+tame-finish w r b k m t fits i h = finish-outside w r b k m i (never (holds r i) (λ e. let g = holds-at r i e in omega arith)) ∙ t i h
 
 right-parts : (b : Bench) → stateRight (stateOf b) ≡ true → (numbersRight (b .chip .running) ≡ true) × (length (b .array) ≡ arraySize) × (length (b .security) ≡ securitySize)
 right-parts b e =
@@ -136,98 +138,89 @@ right-parts b e =
 module _ (b : Bench) (k : ℕ) where
   tame-array : (n : ℕ) → (n ≡ 0 → stateRight (stateOf b) ≡ true) → Tame (workedArray n k (stateOf b))
   unfolding workedArray
-  tame-array zero h =
-      let p = right-parts b (h refl) in
-      let i = array-inside (b .chip .running) (p .0) in
-      let z = p .1 in
-      tame-finish (isErase (b .chip .running)) (arrayRange (b .chip .running)) (b .chip .buffer) k (lent (b .array)) (tame-lent (b .array)) (omega arith)
-  tame-array (suc n) h = tame-lent (b .array)
+  tame-array n h = go (eqb n 0) refl
+    where
+      go : (x : Bool) → eqb n 0 ≡ x → Tame (pick x (finish (b .chip .running) (arrayRange (b .chip .running)) (b .chip .buffer) k (lent (b .array))) (lent (b .array)))
+      go true e =
+          let p = right-parts b (h (eqb-true n 0 e)) in
+          let i = array-inside (b .chip .running) (p .0) in
+          let z = p .1 in
+          tame-finish (b .chip .running) (arrayRange (b .chip .running)) (b .chip .buffer) k (lent (b .array)) (tame-lent (b .array)) (omega arith)
+      go false e = tame-lent (b .array)
 
   tame-security : (n : ℕ) → (n ≡ 0 → stateRight (stateOf b) ≡ true) → Tame (workedSecurity n k (stateOf b))
   unfolding workedSecurity
-  tame-security zero h =
-      let p = right-parts b (h refl) in
-      let i = security-inside (b .chip .running) (p .0) in
-      let z = p .2 in
-      tame-finish (isErase (b .chip .running)) (securityRange (b .chip .running)) (b .chip .buffer) k (lent (b .security)) (tame-lent (b .security)) (omega arith)
-  tame-security (suc n) h = tame-lent (b .security)
+  tame-security n h = go (eqb n 0) refl
+    where
+      go : (x : Bool) → eqb n 0 ≡ x → Tame (pick x (finish (b .chip .running) (securityRange (b .chip .running)) (b .chip .buffer) k (lent (b .security))) (lent (b .security)))
+      go true e =
+          let p = right-parts b (h (eqb-true n 0 e)) in
+          let i = security-inside (b .chip .running) (p .0) in
+          let z = p .2 in
+          tame-finish (b .chip .running) (securityRange (b .chip .running)) (b .chip .buffer) k (lent (b .security)) (tame-lent (b .security)) (omega arith)
+      go false e = tame-lent (b .security)
+
+-- a memory written, or left as it was lent
+tame-either : (x : Bool) (l : List ℕ) (f : ℕ → ℕ) → Tame (pick x (lent l) (written (length l) f))
+tame-either true l f = tame-lent l
+tame-either false l f = tame-written (length l) f
 
 tame-reply : (n : ℕ) (s : State) (sent y m : List ℕ) → Tame (frameReply n s (carried sent y m))
 unfolding frameReply
-tame-reply zero s sent y m = tame-written (length y) _
-tame-reply (suc zero) s sent y m = tame-lent y
-tame-reply (suc (suc n)) s sent y m = tame-written (length y) _
+tame-reply n s sent y m = tame-either (eqb n 1) y _
 
 tame-marks : (n : ℕ) (s : State) (sent y m : List ℕ) → Tame (frameMarks n s (carried sent y m))
 unfolding frameMarks
-tame-marks zero s sent y m = tame-written (length m) _
-tame-marks (suc zero) s sent y m = tame-lent m
-tame-marks (suc (suc n)) s sent y m = tame-written (length m) _
+tame-marks n s sent y m = tame-either (eqb n 1) m _
 
 -- what a call gives, made of the machine's outcome
-givenOf : Outcome → Given
-givenOf o =
+returnedOf : Outcome → Returned
+returnedOf o =
     record { after = record { answer = answerOf (o .number); chip = o .chip }; array = listOf (o .array); security = listOf (o .security); reply = listOf (o .reply); marks = listOf (o .marks) }
 
-given-back : (o : Outcome) → o .number ≤ 12 → Tame (o .array) → Tame (o .security) → Tame (o .reply) → Tame (o .marks) → outcomeOf (givenOf o) ≡ o
-unfolding givenOf
-given-back o n a s y m =
-    let p = answer-number (o .number) n in
-    let q = listed (o .array) a in
-    let r = listed (o .security) s in
-    let t = listed (o .reply) y in
-    let u = listed (o .marks) m in
+returned-back : (o : Outcome) (ns : List ℕ) → every (λ n. eqb (answerNumber (answerOf n)) n) ns ≡ true → oneOf (o .number) ns ≡ true → Tame (o .array) → Tame (o .security) → Tame (o .reply) → Tame (o .marks) → outcomeOf (returnedOf o) ≡ o
+unfolding returnedOf
+returned-back o ns e n a s y m =
+    let p = answer-number ns e (o .number) n in
+    let q = list-back (o .array) a in
+    let r = list-back (o .security) s in
+    let t = list-back (o .reply) y in
+    let u = list-back (o .marks) m in
     λ i. record { number = p i; chip = o .chip; array = q i; security = r i; reply = t i; marks = u i }
 
-completion-low : (s : State) → first (completionTests s) ≤ 12
-unfolding completionTests
-completion-low s = go (stateRight s) (isNothing (s .chip .running))
-  where
-    go : (a b : Bool) → pick (not a) 1 (pick b 12 0) ≤ 12
-    go true true = omega arith
-    go true false = omega arith
-    go false b = omega arith
-
-cut-low : (s : State) → first (cutTests s) ≤ 12
-unfolding cutTests
-cut-low s = go (stateRight s)
-  where
-    go : (a : Bool) → pick (not a) 1 0 ≤ 12
-    go true = omega arith
-    go false = omega arith
-
-pub meets-some : (b : Bench) (e : Call) → (g : Given) × Meets b e g
-unfolding frame completion powerCut givenOf listOf bytes
-meets-some b (frames sent y m) =
+pub meets-some : (b : Bench) (e : Call) → (g : Returned) × Meets b e g
+unfolding frame completion powerCut returnedOf listOf bytes answerOf refusalOf
+meets-some b (frameCall sent y m) =
     let s = stateOf b in
     let f = carried sent y m in
-    let n : first (frameTests s f) ≤ 11 = frame-given s f .no-other in
     let o = frame s f in
-    (givenOf o, record { outcome = given-back o (omega arith) (tame-lent (b .array)) (tame-lent (b .security)) (tame-reply (first (frameTests s f)) s sent y m) (tame-marks (first (frameTests s f)) s sent y m) })
-meets-some b Call.completion =
+    (returnedOf o, record { outcome = returned-back o frameNumbers refl (frame-given s f .no-other) (tame-lent (b .array)) (tame-lent (b .security)) (tame-reply (first (frameTests s f)) s sent y m) (tame-marks (first (frameTests s f)) s sent y m) })
+meets-some b completionCall =
     let s = stateOf b in
     let o = completion s in
-    let right : first (completionTests s) ≡ 0 → stateRight s ≡ true = λ z. completion-given s .is-0 .0 z .0 in (
-      givenOf o,
+    let g = completion-given s in
+    let right : first (completionTests s) ≡ 0 → stateRight s ≡ true = λ z. g .is-0 .0 z .0 in (
+      returnedOf o,
       (
-        record { outcome = given-back o (completion-low s) (tame-array b arraySize (first (completionTests s)) right) (tame-security b arraySize (first (completionTests s)) right) (tame-lent []) (tame-lent []) },
+        record { outcome = returned-back o completionNumbers refl (g .no-other) (tame-array b arraySize (first (completionTests s)) right) (tame-security b arraySize (first (completionTests s)) right) (tame-lent []) (tame-lent []) },
         refl,
         refl,
       ),
     )
-meets-some b (Call.powerCut k) =
+meets-some b (cutCall k) =
     let s = stateOf b in
     let o = powerCut s k in
-    let right : first (cutTests s) ≡ 0 → stateRight s ≡ true = λ z. cut-given s .is-0 .0 z in (
-      givenOf o,
+    let g = cut-given s k in
+    let right : first (cutTests s) ≡ 0 → stateRight s ≡ true = g .is-0 .0 in (
+      returnedOf o,
       (
-        record { outcome = given-back o (cut-low s) (tame-array b k (first (cutTests s)) right) (tame-security b k (first (cutTests s)) right) (tame-lent []) (tame-lent []) },
+        record { outcome = returned-back o cutNumbers refl (g .no-other) (tame-array b k (first (cutTests s)) right) (tame-security b k (first (cutTests s)) right) (tame-lent []) (tame-lent []) },
         refl,
         refl,
       ),
     )
 
-pub chain-some : (b : Bench) (es : List Call) → (gs : List Given) × Chain b es gs
+pub chain-some : (b : Bench) (es : List Call) → (gs : List Returned) × Chain b es gs
 chain-some b [] = ([], tt)
 chain-some b (e ∷ es) =
     let g = meets-some b e in

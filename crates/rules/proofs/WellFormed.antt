@@ -14,10 +14,9 @@ use Rattle.rules.specs.declared.Kind.{Kind}
 use Rattle.rules.specs.declared.Range.{Range}
 use Rattle.rules.specs.declared.Work.{Work}
 use Rattle.rules.specs.declared.Work.the-variants.{Nothing, EraseSector, EraseBlock, EraseArray, ProgramPage, ProgramSecurity, LockSecurity, WriteConfiguration, AddPermanent}
-use Rattle.rules.specs.Words.{pick, range, holds, overlap}
+use Rattle.rules.specs.Words.{pick, oneOf, range, holds, overlap}
 use Rattle.rules.specs.Blocks.{arraySize, blockOf, blockAt, writeLocked, unlocked, writeLocks, powerUpLocks}
 use Rattle.rules.specs.Works.{isNothing, isErase, isProgram, canSuspend, arrayRange}
-use Rattle.rules.specs.Registers.{busy}
 use Rattle.rules.specs.Frames.{frames, formOf, opcode, address, securityAddress, six}
 use Rattle.rules.specs.Programs.{blank, fill, securityBuffer, reaches, reachesFirst}
 use Rattle.rules.specs.Fields.{withEnable}
@@ -375,11 +374,11 @@ run-again p sec b r s h i =
     longer true y e = refl
     longer false y e = e
 
-After : ℕ → Kind → Type 0
-After o k = (c : Chip) (sent : List ℕ) → Well c → Accepted c o sent → Well (act k sent (withEnable false c))
+StaysWell : ℕ → Kind → Type 0
+StaysWell o k = (c : Chip) (sent : List ℕ) → Well c → Accepted c o sent → Well (act k sent (withEnable false c))
 
-rows-well : EachRow After frames
-unfolding After frames
+rows-well : EachRow StaysWell frames
+unfolding StaysWell frames
 rows-well = (
   λ c sent h a. record { registers = h .registers; works = h .works },
   (
@@ -485,15 +484,21 @@ rows-well = (
     first-of false b c d e q = refl
 
 done-well : (c : Chip) (sent : List ℕ) → Well c → Accepted c (opcode sent) sent → Well (act (formOf (opcode sent) .kind) sent (withEnable false c))
-unfolding After
-done-well c sent h a = by-rows After rows-well (c .sqi) (opcode sent) (a .known) c sent h a
+unfolding StaysWell
+done-well c sent h a = by-rows StaysWell rows-well (c .sqi) (opcode sent) (a .is-listed) c sent h a
 
 frame-well : (n : ℕ) (c : Chip) (sent : List ℕ) → Well c → (n ≡ 0 → Accepted c (opcode sent) sent) → Well (frameChip n c sent)
 unfolding frameChip
-frame-well zero c sent h a = done-well c sent h (a refl)
-frame-well (suc zero) c sent h a = h
-frame-well (suc (suc zero)) c sent h a = h
-frame-well (suc (suc (suc n))) c sent h a = record { registers = h .registers; works = h .works }
+frame-well n c sent h a = go (eqb n 0) refl (oneOf n (1 ∷ 2 ∷ []))
+  where
+    used : Well (withEnable false c)
+    used = record { registers = h .registers; works = h .works }
+
+    go : (x : Bool) → eqb n 0 ≡ x → (y : Bool)
+        → Well (pick x (act (formOf (opcode sent) .kind) sent (withEnable false c)) (pick y c (withEnable false c)))
+    go true e y = done-well c sent h (a (eqb-true n 0 e))
+    go false e true = h
+    go false e false = used
 
 -- ---- completion and power cut
 
@@ -554,20 +559,23 @@ module _ (c : Chip) (h : Well c) where
 
   completed-well : (n : ℕ) → Well (completedChip n c)
   unfolding completedChip
-  completed-well zero = ends (c .running) refl
-  completed-well (suc n) = h
+  completed-well n = go (eqb n 0)
+    where
+      go : (b : Bool) → Well (pick b (rested (settled (c .running) c)) c)
+      go true = ends (c .running) refl
+      go false = h
 
   powered-well : (d : Chip) → Registers (d .protection) (d .permanent) → Well (afterCut d)
   powered-well d r = record { registers = registers-powered (d .protection) (d .permanent) r; works = at-rest powerUpLocks (d .sec) blank blank-clean }
 
   cut-well : (n k : ℕ) → Well (cutChip n k c)
   unfolding cutChip
-  cut-well zero k = go (ltb 0 k)
+  cut-well n k = go (eqb n 0) (ltb 0 k)
     where
-      go : (b : Bool) → Well (afterCut (pick b (settled (c .running) c) c))
-      go true = powered-well (settled (c .running) c) (ends (c .running) refl .registers)
-      go false = powered-well c (h .registers)
-  cut-well (suc n) k = h
+      go : (x y : Bool) → Well (pick x (afterCut (pick y (settled (c .running) c) c)) c)
+      go true true = powered-well (settled (c .running) c) (ends (c .running) refl .registers)
+      go true false = powered-well c (h .registers)
+      go false y = h
 
 -- ---- the law
 

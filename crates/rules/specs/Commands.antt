@@ -3,7 +3,6 @@ use Prim.Native.Nat.{ℕ, _/_}
 use mathlib.Core.Bool.{Bool, true, false}
 use mathlib.Core.List.{List}
 use lib.Dec.{ltb}
-use lib.ListN.{getD}
 use lib.Bits.{bitAnd, bitOr}
 use Rattle.rules.specs.declared.Chip.{Chip}
 use Rattle.rules.specs.declared.Work.{Work}
@@ -12,7 +11,7 @@ use Rattle.rules.specs.declared.Kind.{Kind}
 use Rattle.rules.specs.Words.{bit, pick}
 use Rattle.rules.specs.Blocks.{blockOf, writeLocks, readLocks, allLocks, powerUpLocks}
 use Rattle.rules.specs.Works.{isProgram}
-use Rattle.rules.specs.Frames.{address, securityAddress, six}
+use Rattle.rules.specs.Frames.{sentByte, address, securityAddress, six}
 use Rattle.rules.specs.Fields.{withBuffer, withProtection, withPermanent, withRunning, withSuspended, withSqi, withWel, withIoc, withWpen, withWpld, withSec, withEnable}
 use Rattle.rules.specs.Programs.{blank, pageBuffer, securityBuffer}
 
@@ -57,7 +56,7 @@ workOf Long.Array sent = Work.EraseArray
 workOf Long.Page sent = Work.ProgramPage (address sent / 256)
 workOf Long.SecurityPage sent = Work.ProgramSecurity (securityAddress sent / 256)
 workOf Long.SecurityLock sent = Work.LockSecurity
-workOf Long.Configuration sent = Work.WriteConfiguration (bit 1 (getD sent 2 0)) (bit 7 (getD sent 2 0))
+workOf Long.Configuration sent = Work.WriteConfiguration (bit 1 (sentByte sent 2)) (bit 7 (sentByte sent 2))
 workOf Long.Permanent sent = Work.AddPermanent (six sent)
 
 -- the buffer that it starts with

@@ -25,12 +25,12 @@ stateOf b = state (b .chip) (b .array) (b .security)
 
 -- a call of a public function, with all that it carries: the bytes sent and the lent reply and marks as they are; a count
 pub data Call : Type 0 where
-  frames : List ℕ → List ℕ → List ℕ → Call
-  completion : Call
-  powerCut : ℕ → Call
+  frameCall : List ℕ → List ℕ → List ℕ → Call
+  completionCall : Call
+  cutCall : ℕ → Call
 
 -- what a call gives back, and what all lent memory holds then
-pub record Given : Type 0 where
+pub record Returned : Type 0 where
   pub after : After
   pub array : List ℕ
   pub security : List ℕ
@@ -38,18 +38,18 @@ pub record Given : Type 0 where
   pub marks : List ℕ
 
 -- the guarantee of the public function, at the state that it finds
-abbrev pub Meets : Bench → Call → Given → Type 0
-Meets b (frames sent reply marks) g =
+abbrev pub Meets : Bench → Call → Returned → Type 0
+Meets b (frameCall sent reply marks) g =
     FramePromise (b .chip) (b .array) (b .security) sent reply marks (g .after) (g .array) (g .security) (g .reply) (g .marks)
-Meets b completion g = CompletionPromise (b .chip) (b .array) (b .security) (g .after) (g .array) (g .security) × (g .reply ≡ []) × (g .marks ≡ [])
-Meets b (powerCut k) g = CutPromise (b .chip) (b .array) (b .security) k (g .after) (g .array) (g .security) × (g .reply ≡ []) × (g .marks ≡ [])
+Meets b completionCall g = CompletionPromise (b .chip) (b .array) (b .security) (g .after) (g .array) (g .security) × (g .reply ≡ []) × (g .marks ≡ [])
+Meets b (cutCall k) g = CutPromise (b .chip) (b .array) (b .security) k (g .after) (g .array) (g .security) × (g .reply ≡ []) × (g .marks ≡ [])
 
 -- the state that it leaves to the next call
-abbrev pub benchAfter : Given → Bench
+abbrev pub benchAfter : Returned → Bench
 benchAfter g = record { chip = g .after .chip; array = g .array; security = g .security }
 
 -- each call's guarantee holds at the state that the call before it left
-abbrev pub Chain : Bench → List Call → List Given → Type 0
+abbrev pub Chain : Bench → List Call → List Returned → Type 0
 Chain b [] [] = Unit {0}
 Chain b [] (g ∷ gs) = ⊥
 Chain b (e ∷ es) [] = ⊥
@@ -57,27 +57,27 @@ Chain b (e ∷ es) (g ∷ gs) = Meets b e g × Chain (benchAfter g) es gs
 
 -- the machine's event and outcome
 abbrev pub eventOf : Call → Event
-eventOf (frames sent reply marks) = sends (carried sent reply marks)
-eventOf completion = completes
-eventOf (powerCut k) = cuts k
+eventOf (frameCall sent reply marks) = sends (carried sent reply marks)
+eventOf completionCall = completes
+eventOf (cutCall k) = cuts k
 
-abbrev pub outcomeOf : Given → Outcome
+abbrev pub outcomeOf : Returned → Outcome
 outcomeOf g = came (g .after) (g .array) (g .security) (g .reply) (g .marks)
 
 abbrev pub eventsOf : List Call → List Event
 eventsOf [] = []
 eventsOf (e ∷ es) = eventOf e ∷ eventsOf es
 
-abbrev pub outcomesOf : List Given → List Outcome
+abbrev pub outcomesOf : List Returned → List Outcome
 outcomesOf [] = []
 outcomesOf (g ∷ gs) = outcomeOf g ∷ outcomesOf gs
 
-abbrev pub AllWellFormed : List Given → Type 0
+abbrev pub AllWellFormed : List Returned → Type 0
 AllWellFormed [] = Unit {0}
 AllWellFormed (g ∷ gs) = (wellFormed (g .after .chip) ≡ true) × AllWellFormed gs
 
 -- every outcome is the machine's, event by event, and every record on the way is well-formed
-pub record Demand2 (b : Bench) (es : List Call) (gs : List Given) : Type 0 where
+pub record Demand2 (b : Bench) (es : List Call) (gs : List Returned) : Type 0 where
   pub machine : outcomesOf gs ≡ run (stateOf b) (eventsOf es)
   pub formed : wellFormed (b .chip) ≡ true → AllWellFormed gs
 
@@ -136,6 +136,6 @@ Demand3 = KeepsKeys keyPlace true Uncut
 -- the same of code: two chains of outcomes that meet the public guarantees, with the same calls
 abbrev pub Demand3OfCode : Type 0
 Demand3OfCode =
-    (b d : Bench) (es : List Call) (gs hs : List Given) → TwoChips keyPlace true (stateOf b) (stateOf d) → Uncut (eventsOf es)
+    (b d : Bench) (es : List Call) (gs hs : List Returned) → TwoChips keyPlace true (stateOf b) (stateOf d) → Uncut (eventsOf es)
     → Chain b es gs → Chain d es hs
     → AllKept keyPlace (stateOf b) (stateOf d) (outcomesOf gs) (outcomesOf hs)

@@ -69,18 +69,21 @@ listed q f = not (eqb (leastLength q f) 0)
 abbrev pub lengthRight : Bool → Form → ℕ → Bool
 lengthRight q f n = eqb n (leastLength q f) || (f .more && ltb (leastLength q f) n)
 
--- the first byte
+-- byte i of a frame, the opcode's being byte 0; 0 past its end
+abbrev pub sentByte : List ℕ → ℕ → ℕ
+sentByte sent i = getD sent i 0
+
 abbrev pub opcode : List ℕ → ℕ
-opcode sent = getD sent 0 0
+opcode sent = sentByte sent 0
 
 abbrev pub address : List ℕ → ℕ
-address sent = (getD sent 1 0 * 0x10000 + getD sent 2 0 * 0x100 + getD sent 3 0) % arraySize
+address sent = (sentByte sent 1 * 0x10000 + sentByte sent 2 * 0x100 + sentByte sent 3) % arraySize
 
 abbrev pub securityAddress : List ℕ → ℕ
-securityAddress sent = (getD sent 1 0 * 0x100 + getD sent 2 0) % securitySize
+securityAddress sent = (sentByte sent 1 * 0x100 + sentByte sent 2) % securitySize
 
 -- a register's six bytes, highest first
 abbrev pub six : List ℕ → ℕ
 six sent =
-    getD sent 1 0 * 2 ^ 40 + getD sent 2 0 * 2 ^ 32 + getD sent 3 0 * 2 ^ 24 + getD sent 4 0 * 2 ^ 16 + getD sent 5 0 * 2 ^ 8
-    + getD sent 6 0
+    sentByte sent 1 * 2 ^ 40 + sentByte sent 2 * 2 ^ 32 + sentByte sent 3 * 2 ^ 24 + sentByte sent 4 * 2 ^ 16 + sentByte sent 5 * 2 ^ 8
+    + sentByte sent 6

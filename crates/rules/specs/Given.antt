@@ -1,38 +1,82 @@
--- Which number an event gets: 0 to 12, each with the condition that gives it. Proved in proofs/Numbers.
-use Prim.Native.Nat.{ℕ, zero, suc, _≤_}
+-- Which number an event gets, each exactly when its condition holds and none before it in the list does. Proved in proofs/Numbers.
+use Prim.Native.Nat.{ℕ, _≤_}
 use mathlib.Core.Path.{_≡_}
-use mathlib.Core.Bool.{true, false}
+use mathlib.Core.Bool.{Bool, true, false}
 use mathlib.Core.List.{List, [], _∷_}
 use mathlib.Core.Logic.{_↔_}
+use lib.Dec.{eqb}
+use lib.ListN.{length}
+use Rattle.rules.specs.Words.{pick, oneOf}
 use Rattle.rules.specs.Frames.{opcode}
-use Rattle.rules.specs.Numbers.{State, Frame, stateRight, malformed, emptyFrame, notListed, wrongLength, whileBusy, noEnable, noIoc, suspension, noWel, closed, lockedTarget, nothingRuns, Test, first, frameTests, completionTests, cutTests}
+use Rattle.rules.specs.WellFormed.{wellFormed}
+use Rattle.rules.specs.Numbers.{State, Frame, stateRight, malformed, emptyFrame, notListed, wrongLength, whileBusy, noEnable, noIoc, suspension, noWel, closed, lockedTarget, nothingRuns, Test, frameTests}
+use Rattle.rules.specs.Machine.{frame, completion, powerCut}
 
--- none of the first k conditions holds
-abbrev pub Clear : ℕ → List Test → Type 0
-Clear zero ts = Unit {0}
-Clear (suc k) [] = Unit {0}
-Clear (suc k) (t ∷ ts) = (t .applies ≡ false) × Clear k ts
+-- ---- 1: "record not well-formed, or a length outside Sizes (every event)"
+
+pub record RightState (s : State) : Type 0 where
+  pub formed : wellFormed (s .chip) ≡ true
+  pub array : s .array .size ≡ 2_097_152
+  pub security : s .security .size ≡ 2_048
+
+pub record RightFrame (f : Frame) : Type 0 where
+  pub sent : length (f .sent) ≤ 65_536
+  pub reply : f .reply .size ≤ 65_536
+  pub equal : f .reply .size ≡ f .marks .size
+
+pub record RightSizes (s : State) (f : Frame) : Type 0 where
+  pub of-state : (stateRight s ≡ true) ↔ RightState s
+  pub of-frame : (malformed s f ≡ false) ↔ (RightState s × RightFrame f)
+
+-- ---- each number
+
+-- the tests before the one that gives n
+abbrev pub before : ℕ → List Test → List Test
+before n [] = []
+before n (t ∷ ts) = pick (eqb n (t .number)) [] (t ∷ before n ts)
+
+-- the condition under which n is given, if no test before it holds
+abbrev pub conditionOf : ℕ → List Test → Bool
+conditionOf n [] = false
+conditionOf n (t ∷ ts) = pick (eqb n (t .number)) (t .applies) (conditionOf n ts)
+
+-- no condition of these holds
+abbrev pub None : List Test → Type 0
+None [] = Unit {0}
+None (t ∷ ts) = (t .applies ≡ false) × None ts
+
+-- the numbers that an event can get
+abbrev pub frameNumbers : List ℕ
+frameNumbers = 0 ∷ 1 ∷ 2 ∷ 3 ∷ 4 ∷ 5 ∷ 6 ∷ 7 ∷ 8 ∷ 9 ∷ 10 ∷ 11 ∷ []
+
+abbrev pub completionNumbers : List ℕ
+completionNumbers = 0 ∷ 1 ∷ 12 ∷ []
+
+abbrev pub cutNumbers : List ℕ
+cutNumbers = 0 ∷ 1 ∷ []
 
 pub record FrameGiven (s : State) (f : Frame) : Type 0 where
-  pub is-0 : (first (frameTests s f) ≡ 0) ↔ Clear 11 (frameTests s f)
-  pub is-1 : (first (frameTests s f) ≡ 1) ↔ (malformed s f ≡ true)
-  pub is-2 : (first (frameTests s f) ≡ 2) ↔ (Clear 1 (frameTests s f) × (emptyFrame (f .sent) ≡ true))
-  pub is-3 : (first (frameTests s f) ≡ 3) ↔ (Clear 2 (frameTests s f) × (notListed (s .chip) (opcode (f .sent)) ≡ true))
-  pub is-4 : (first (frameTests s f) ≡ 4) ↔ (Clear 3 (frameTests s f) × (wrongLength (s .chip) (opcode (f .sent)) (f .sent) ≡ true))
-  pub is-5 : (first (frameTests s f) ≡ 5) ↔ (Clear 4 (frameTests s f) × (whileBusy (s .chip) (opcode (f .sent)) ≡ true))
-  pub is-6 : (first (frameTests s f) ≡ 6) ↔ (Clear 5 (frameTests s f) × (noEnable (s .chip) (opcode (f .sent)) ≡ true))
-  pub is-7 : (first (frameTests s f) ≡ 7) ↔ (Clear 6 (frameTests s f) × (noIoc (s .chip) (opcode (f .sent)) ≡ true))
-  pub is-8 : (first (frameTests s f) ≡ 8) ↔ (Clear 7 (frameTests s f) × (suspension (s .chip) (opcode (f .sent)) (f .sent) ≡ true))
-  pub is-9 : (first (frameTests s f) ≡ 9) ↔ (Clear 8 (frameTests s f) × (noWel (s .chip) (opcode (f .sent)) ≡ true))
-  pub is-10 : (first (frameTests s f) ≡ 10) ↔ (Clear 9 (frameTests s f) × (closed (s .chip) (opcode (f .sent)) (f .sent) ≡ true))
-  pub is-11 : (first (frameTests s f) ≡ 11) ↔ (Clear 10 (frameTests s f) × (lockedTarget (s .chip) (opcode (f .sent)) (f .sent) ≡ true))
-  pub no-other : first (frameTests s f) ≤ 11
+  pub is-0 : (frame s f .number ≡ 0) ↔ None (frameTests s f)
+  pub is-1 : (frame s f .number ≡ 1) ↔ (malformed s f ≡ true)
+  pub is-2 : (frame s f .number ≡ 2) ↔ (None (before 2 (frameTests s f)) × (emptyFrame (f .sent) ≡ true))
+  pub is-3 : (frame s f .number ≡ 3) ↔ (None (before 3 (frameTests s f)) × (notListed (s .chip) (opcode (f .sent)) ≡ true))
+  pub is-4 : (frame s f .number ≡ 4) ↔ (None (before 4 (frameTests s f)) × (wrongLength (s .chip) (opcode (f .sent)) (f .sent) ≡ true))
+  pub is-5 : (frame s f .number ≡ 5) ↔ (None (before 5 (frameTests s f)) × (whileBusy (s .chip) (opcode (f .sent)) ≡ true))
+  pub is-6 : (frame s f .number ≡ 6) ↔ (None (before 6 (frameTests s f)) × (noEnable (s .chip) (opcode (f .sent)) ≡ true))
+  pub is-7 : (frame s f .number ≡ 7) ↔ (None (before 7 (frameTests s f)) × (noIoc (s .chip) (opcode (f .sent)) ≡ true))
+  pub is-8 : (frame s f .number ≡ 8) ↔ (None (before 8 (frameTests s f)) × (suspension (s .chip) (opcode (f .sent)) (f .sent) ≡ true))
+  pub is-9 : (frame s f .number ≡ 9) ↔ (None (before 9 (frameTests s f)) × (noWel (s .chip) (opcode (f .sent)) ≡ true))
+  pub is-10 : (frame s f .number ≡ 10) ↔ (None (before 10 (frameTests s f)) × (closed (s .chip) (opcode (f .sent)) (f .sent) ≡ true))
+  pub is-11 : (frame s f .number ≡ 11) ↔ (None (before 11 (frameTests s f)) × (lockedTarget (s .chip) (opcode (f .sent)) (f .sent) ≡ true))
+  pub no-other : oneOf (frame s f .number) frameNumbers ≡ true
 
 pub record CompletionGiven (s : State) : Type 0 where
-  pub is-0 : (first (completionTests s) ≡ 0) ↔ ((stateRight s ≡ true) × (nothingRuns (s .chip) ≡ false))
-  pub is-1 : (first (completionTests s) ≡ 1) ↔ (stateRight s ≡ false)
-  pub is-12 : (first (completionTests s) ≡ 12) ↔ ((stateRight s ≡ true) × (nothingRuns (s .chip) ≡ true))
+  pub is-0 : (completion s .number ≡ 0) ↔ ((stateRight s ≡ true) × (nothingRuns (s .chip) ≡ false))
+  pub is-1 : (completion s .number ≡ 1) ↔ (stateRight s ≡ false)
+  pub is-12 : (completion s .number ≡ 12) ↔ ((stateRight s ≡ true) × (nothingRuns (s .chip) ≡ true))
+  pub no-other : oneOf (completion s .number) completionNumbers ≡ true
 
-pub record CutGiven (s : State) : Type 0 where
-  pub is-0 : (first (cutTests s) ≡ 0) ↔ (stateRight s ≡ true)
-  pub is-1 : (first (cutTests s) ≡ 1) ↔ (stateRight s ≡ false)
+pub record CutGiven (s : State) (k : ℕ) : Type 0 where
+  pub is-0 : (powerCut s k .number ≡ 0) ↔ (stateRight s ≡ true)
+  pub is-1 : (powerCut s k .number ≡ 1) ↔ (stateRight s ≡ false)
+  pub no-other : oneOf (powerCut s k .number) cutNumbers ≡ true

@@ -1,17 +1,17 @@
 -- Demand 3 at a pair of chips, and what becomes of it with less: one event list for each. Proved in proofs/KeyCases.
-use Prim.Native.Nat.{ℕ}
+use Prim.Native.Nat.{ℕ, _+_, _^_}
 use mathlib.Core.Path.{_≡_}
 use mathlib.Core.Bool.{Bool, true, false}
-use mathlib.Core.List.{List, [], _∷_}
+use mathlib.Core.List.{List}
 use lib.Dec.{ltb}
 use Rattle.rules.specs.Words.{pick, written}
-use Rattle.rules.specs.Blocks.{arraySize, securitySize, readLocked, writeLocked}
+use Rattle.rules.specs.Blocks.{arraySize, readLocked, writeLocked}
 use Rattle.rules.specs.Fields.{withWpld, withProtection}
 use Rattle.rules.specs.Commands.{newChip}
 use Rattle.rules.specs.Numbers.{State}
-use Rattle.rules.specs.Machine.{Outcome, Event, completes, cuts}
+use Rattle.rules.specs.Machine.{Outcome, Event}
 use Rattle.rules.specs.Demands.{keyPlace, Uncut, KeepsKeys}
-use Rattle.rules.specs.Starred.{send}
+use Rattle.rules.specs.Cases.{events, newState}
 
 -- a chip whose block 000000 to 001FFF is full of one key byte, the rest FF
 abbrev pub keyed : ℕ → Bool → ℕ → State
@@ -19,22 +19,22 @@ keyed locks down key =
     record {
       chip = withProtection locks (withWpld down newChip);
       array = written arraySize (λ a. pick (ltb a 0x2000) key 0xFF);
-      security = written securitySize (λ i. 0xFF);
+      security = newState .security;
     }
 
 -- the block's read lock is bit 33, its write lock bit 32
 abbrev pub bothLocks : ℕ
-bothLocks = 0x3_0000_0000
+bothLocks = 2 ^ 33 + 2 ^ 32
 
 abbrev pub readLockOnly : ℕ
-readLockOnly = 0x2_0000_0000
+readLockOnly = 2 ^ 33
 
 abbrev pub writeLockOnly : ℕ
-writeLockOnly = 0x1_0000_0000
+writeLockOnly = 2 ^ 32
 
 -- from the block's last place into the block beside it
-abbrev pub readAcross : Event
-readAcross = send (0x03 ∷ 0x00 ∷ 0x1F ∷ 0xFF ∷ [])
+abbrev pub readAcross : List Event
+readAcross = events "03 00 1F FF"
 
 -- what it gives under both locks: 00 at the key place, the stored FF beside it
 pub record KeyRead (o : Outcome) : Type 0 where
@@ -45,16 +45,16 @@ pub record KeyRead (o : Outcome) : Type 0 where
   pub beside-mark : o .marks .byte 1 ≡ 1
 
 -- a power cut takes the read locks
-abbrev pub afterCut : List Event
-afterCut = cuts 0 ∷ readAcross ∷ []
+abbrev pub readAfterCut : List Event
+readAfterCut = events "cut 0, 03 00 1F FF"
 
 -- with no lock-down 42 takes them
-abbrev pub afterWrite : List Event
-afterWrite = send (0x06 ∷ []) ∷ send (0x42 ∷ 0x00 ∷ 0x00 ∷ 0x00 ∷ 0x00 ∷ 0x00 ∷ 0x00 ∷ []) ∷ readAcross ∷ []
+abbrev pub readAfterWrite : List Event
+readAfterWrite = events "06, 42 00 00 00 00 00 00, 03 00 1F FF"
 
 -- with no write lock an erase takes the keys
-abbrev pub afterErase : List Event
-afterErase = send (0x06 ∷ []) ∷ send (0x20 ∷ 0x00 ∷ 0x00 ∷ 0x00 ∷ []) ∷ completes ∷ []
+abbrev pub erasedKeys : List Event
+erasedKeys = events "06, 20 00 00 00, completion"
 
 abbrev pub AnyRun : List Event → Type 0
 AnyRun es = Unit {0}

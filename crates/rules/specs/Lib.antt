@@ -10,9 +10,16 @@ pub mod Fields
 pub mod Commands
 pub mod WellFormed
 pub mod Numbers
-pub mod Given
 pub mod Machine
+pub mod Given
 pub mod Promises
 pub mod Demands
+pub mod Cases
 pub mod Starred
+pub mod CasesOfReading
+pub mod CasesOfWriting
+pub mod CasesOfEnding
+pub mod Sentences
+pub mod CasesOfOpcodes
+pub mod CasesOfRecords
 pub mod KeyCases

@@ -1,12 +1,13 @@
 -- The command machine: a frame, a completion, a power cut, and runs of them.
-use Prim.Native.Nat.{ℕ, zero, suc}
+use Prim.Native.Nat.{ℕ}
 use mathlib.Core.Bool.{false}
 use mathlib.Core.List.{List, [], _∷_}
+use lib.Dec.{eqb}
 use Rattle.rules.specs.declared.Cell.{Cell}
 use Rattle.rules.specs.declared.Chip.{Chip}
-use Rattle.rules.specs.Words.{Lent, written, unlent}
+use Rattle.rules.specs.Words.{pick, oneOf, Lent, written, unlent}
 use Rattle.rules.specs.Blocks.{arraySize}
-use Rattle.rules.specs.Works.{isErase, arrayRange, securityRange, finish}
+use Rattle.rules.specs.Works.{arrayRange, securityRange, finish}
 use Rattle.rules.specs.Frames.{formOf, opcode}
 use Rattle.rules.specs.Reading.{silent, reply}
 use Rattle.rules.specs.Fields.{withEnable}
@@ -22,36 +23,31 @@ pub record Outcome : Type 0 where
   pub reply : Lent
   pub marks : Lent
 
--- ---- a frame, by the number it gets
+-- ---- a frame, by the number n that it gets
 
-abbrev pub frameNumber : State → Frame → ℕ
-frameNumber s f = first (frameTests s f)
-
--- 1 changes nothing; 2 keeps the enable; every other frame uses it up
+-- every frame except one refused with 1 or 2 uses up the enable; a done one then acts
 unfoldable pub frameChip : ℕ → Chip → List ℕ → Chip
-frameChip zero c sent = act (formOf (opcode sent) .kind) sent (withEnable false c)
-frameChip (suc zero) c sent = c
-frameChip (suc (suc zero)) c sent = c
-frameChip (suc (suc (suc n))) c sent = withEnable false c
+frameChip n c sent =
+    let used = withEnable false c in
+    let acted = act (formOf (opcode sent) .kind) sent used in
+    pick (eqb n 0) acted (pick (oneOf n (1 ∷ 2 ∷ [])) c used)
 
--- byte i of the reply, unless the number is 1
+-- byte i of the reply, with its mark: of a refused frame as of one without a reply
 unfoldable pub frameCell : ℕ → State → List ℕ → ℕ → Cell
-frameCell zero s sent i = reply (formOf (opcode sent) .kind) (s .chip) (s .array) (s .security) sent i
-frameCell (suc n) s sent i = silent
+frameCell n s sent i =
+    let answered = reply (formOf (opcode sent) .kind) (s .chip) (s .array) (s .security) sent i in
+    pick (eqb n 0) answered silent
 
+-- 1 changes nothing at all
 unfoldable pub frameReply : ℕ → State → Frame → Lent
-frameReply zero s f = written (f .reply .size) (λ i. frameCell zero s (f .sent) i .byte)
-frameReply (suc zero) s f = f .reply
-frameReply (suc (suc n)) s f = written (f .reply .size) (λ i. frameCell (suc (suc n)) s (f .sent) i .byte)
+frameReply n s f = pick (eqb n 1) (f .reply) (written (f .reply .size) (λ i. frameCell n s (f .sent) i .byte))
 
 unfoldable pub frameMarks : ℕ → State → Frame → Lent
-frameMarks zero s f = written (f .marks .size) (λ i. frameCell zero s (f .sent) i .mark)
-frameMarks (suc zero) s f = f .marks
-frameMarks (suc (suc n)) s f = written (f .marks .size) (λ i. frameCell (suc (suc n)) s (f .sent) i .mark)
+frameMarks n s f = pick (eqb n 1) (f .marks) (written (f .marks .size) (λ i. frameCell n s (f .sent) i .mark))
 
 unfoldable pub frame : State → Frame → Outcome
 frame s f =
-    let n = frameNumber s f in
+    let n = first (frameTests s f) in
     record {
       number = n;
       chip = frameChip n (s .chip) (f .sent);
@@ -61,21 +57,22 @@ frame s f =
       marks = frameMarks n s f;
     }
 
--- ---- the running work with its first k bytes finished, where the number is 0
+-- ---- a completion and a power cut, by the number n that they get: 1 and 12 change nothing at all
 
+-- the running work with its first k bytes finished
 unfoldable pub workedArray : ℕ → ℕ → State → Lent
-workedArray zero k s = finish (isErase (s .chip .running)) (arrayRange (s .chip .running)) (s .chip .buffer) k (s .array)
-workedArray (suc n) k s = s .array
+workedArray n k s =
+    let w = s .chip .running in
+    pick (eqb n 0) (finish w (arrayRange w) (s .chip .buffer) k (s .array)) (s .array)
 
 unfoldable pub workedSecurity : ℕ → ℕ → State → Lent
-workedSecurity zero k s = finish (isErase (s .chip .running)) (securityRange (s .chip .running)) (s .chip .buffer) k (s .security)
-workedSecurity (suc n) k s = s .security
+workedSecurity n k s =
+    let w = s .chip .running in
+    pick (eqb n 0) (finish w (securityRange w) (s .chip .buffer) k (s .security)) (s .security)
 
--- ---- completion: all bytes are finished, since no range is larger than the array
-
+-- at a completion all bytes are finished: no range is larger than the array
 unfoldable pub completedChip : ℕ → Chip → Chip
-completedChip zero c = rested (settledFirst arraySize c)
-completedChip (suc n) c = c
+completedChip n c = pick (eqb n 0) (rested (settledFirst arraySize c)) c
 
 unfoldable pub completion : State → Outcome
 completion s =
@@ -89,11 +86,9 @@ completion s =
       marks = unlent;
     }
 
--- ---- power cut k
-
+-- after a power cut comes power-up
 unfoldable pub cutChip : ℕ → ℕ → Chip → Chip
-cutChip zero k c = afterCut (settledFirst k c)
-cutChip (suc n) k c = c
+cutChip n k c = pick (eqb n 0) (afterCut (settledFirst k c)) c
 
 unfoldable pub powerCut : State → ℕ → Outcome
 powerCut s k =

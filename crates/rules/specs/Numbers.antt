@@ -84,19 +84,36 @@ noEnable c o = oneOf o (0x99 ∷ []) && not (c .enable)
 abbrev pub noIoc : Chip → ℕ → Bool
 noIoc c o = oneOf o (0x6B ∷ 0x32 ∷ []) && not (c .ioc)
 
--- 8, its five parts in their order
-abbrev pub suspension : Chip → ℕ → List ℕ → Bool
-suspension c o sent =
-    oneOf o (0xB0 ∷ []) && not (canSuspend (c .running) && isNothing (c .suspended))
-    || oneOf o (0x30 ∷ []) && isNothing (c .suspended)
-    || oneOf o (0xC7 ∷ 0x01 ∷ 0x42 ∷ 0x8D ∷ 0xE8 ∷ 0x98 ∷ 0xA5 ∷ 0x85 ∷ []) && not (isNothing (c .suspended))
-    || wse c
+-- 8, clause by clause
+-- B0 unless 20, D8, 02 or 32 runs and nothing is suspended
+abbrev pub suspendsWrongly : Chip → ℕ → Bool
+suspendsWrongly c o = oneOf o (0xB0 ∷ []) && not (canSuspend (c .running) && isNothing (c .suspended))
+
+-- 30 with nothing suspended
+abbrev pub resumesNothing : Chip → ℕ → Bool
+resumesNothing c o = oneOf o (0x30 ∷ []) && isNothing (c .suspended)
+
+-- C7, 01, 42, 8D, E8, 98, A5, 85 while anything is
+abbrev pub mustWait : Chip → ℕ → Bool
+mustWait c o = oneOf o (0xC7 ∷ 0x01 ∷ 0x42 ∷ 0x8D ∷ 0xE8 ∷ 0x98 ∷ 0xA5 ∷ 0x85 ∷ []) && not (isNothing (c .suspended))
+
+-- with WSE 1, 20 and D8, and 02 or 32 into the range
+abbrev pub besideErase : Chip → ℕ → List ℕ → Bool
+besideErase c o sent =
+    wse c
     && (oneOf o (0x20 ∷ 0xD8 ∷ [])
     || oneOf o (0x02 ∷ 0x32 ∷ []) && holds (arrayRange (c .suspended)) (address sent))
-    || wsp c
+
+-- with WSP 1, 02 and 32, and 20 or D8 whose range holds the page
+abbrev pub besideProgram : Chip → ℕ → List ℕ → Bool
+besideProgram c o sent =
+    wsp c
     && (oneOf o (0x02 ∷ 0x32 ∷ [])
     || oneOf o (0x20 ∷ []) && holds (range (address sent / 4096 * 4096) 4096) (arrayRange (c .suspended) .start)
     || oneOf o (0xD8 ∷ []) && holds (span (blockAt (blockOf (address sent)))) (arrayRange (c .suspended) .start))
+
+abbrev pub suspension : Chip → ℕ → List ℕ → Bool
+suspension c o sent = suspendsWrongly c o || resumesNothing c o || mustWait c o || besideErase c o sent || besideProgram c o sent
 
 -- 9: WEL needed and 0
 abbrev pub noWel : Chip → ℕ → Bool

@@ -24,7 +24,7 @@ pageBuffer sent = fill blank (address sent % pageSize) (drop 4 sent)
 unfoldable pub securityBuffer : List ℕ → List ℕ
 securityBuffer sent = fill blank (securityAddress sent % pageSize) (drop 3 sent)
 
--- one of the bytes from p on goes to a place below 8 of the page that starts at s
+-- one of the bytes, from place p of the page that starts at s on, goes to a Security ID place below 8
 unfoldable pub reaches : ℕ → ℕ → List ℕ → Bool
 reaches s p [] = false
 reaches s p (x ∷ xs) = ltb (s + p % pageSize) 8 || reaches s (p + 1) xs

@@ -30,6 +30,12 @@ abbrev pub every {ℓ} : {A : Type ℓ} → (A → Bool) → List A → Bool
 every t [] = true
 every t (x ∷ xs) = t x && every t xs
 
+-- the statement holds of each entry
+infixr 20 _next_
+pub data Each {A : Type 0} (P : A → Type 0) : List A → Type 0 where
+  end : Each P []
+  _next_ : {x : A} {xs : List A} → P x → Each P xs → Each P (x ∷ xs)
+
 -- the places from s on, n of them
 abbrev pub range : ℕ → ℕ → Range
 range s n = record { start = s; size = n }

@@ -81,12 +81,11 @@ securityRange LockSecurity = nowhere
 securityRange (WriteConfiguration i w) = nowhere
 securityRange (AddPermanent v) = nowhere
 
--- byte i of the range, of old value x, finished: an erase sets FF, a program clears bits
-abbrev pub finished : Bool → List ℕ → ℕ → ℕ → ℕ
-finished true buffer i x = 0xFF
-finished false buffer i x = bitAnd x (getD buffer i 0)
+-- byte i of the work's range, of old value x, finished: erase sets FF, a program leaves the old value AND the buffer byte
+abbrev pub finished : Work → List ℕ → ℕ → ℕ → ℕ
+finished w buffer i x = pick (isErase w) 0xFF (bitAnd x (getD buffer i 0))
 
--- memory in which the first k bytes of the range, in rising address order, are finished and the rest is unchanged
-unfoldable pub finish : Bool → Range → List ℕ → ℕ → Lent → Lent
-finish erases r buffer k m =
-    record { size = m .size; byte = λ a. pick (holds r a && ltb (a - r .start) k) (finished erases buffer (a - r .start) (m .byte a)) (m .byte a) }
+-- memory in which the first k bytes of the work's range r, in rising address order, are finished and the rest is unchanged
+unfoldable pub finish : Work → Range → List ℕ → ℕ → Lent → Lent
+finish w r buffer k m =
+    record { size = m .size; byte = λ a. pick (holds r a && ltb (a - r .start) k) (finished w buffer (a - r .start) (m .byte a)) (m .byte a) }

@@ -1,5 +1,4 @@
 -- Erases and page programs patch their range; other work leaves the array. Assumes nothing.
-use mathlib.Core.Bool.{true, false}
 use Rattle.rules.specs.Words.{lent}
 use Rattle.blocks.proofs.Ranges.{sector-number, block-number, page-number}
 use Rattle.finishing.proofs.Finishes.{patch-finishes, nowhere-finishes, in-array, block-finishes, block-fits}
@@ -75,7 +74,7 @@ same-length : tie.Need-same-length
 same-length c = search needs
 
 returns-2 : tie.Need-returns-2
-returns-2 c = in-array (c .before .before .before .before .before .before .before .before .before .args .w) _ (c .before .before .before .before .before .before .before .before .before .args .buffer .now) (c .before .before .before .before .before .before .before .before .before .args .k) (lent (c .before .before .before .before .before .before .before .before .before .args .array .now)) _ (c .before .before .before .before .before .before .w .given .1) (patch-finishes true _ 4096 (c .before .before .before .before .before .before .before .before .before .args .k) _ (c .before .before .before .before .before .before .before .before .before .args .buffer .now) _ _ (c .before .before .before .before .smaller .ensures) (c .before .before .set-all .ensures))
+returns-2 c = in-array (c .before .before .before .before .before .before .before .before .before .args .w) _ (c .before .before .before .before .before .before .before .before .before .args .buffer .now) (c .before .before .before .before .before .before .before .before .before .args .k) (lent (c .before .before .before .before .before .before .before .before .before .args .array .now)) _ (c .before .before .before .before .before .before .w .given .1) (patch-finishes _ _ 4096 (c .before .before .before .before .before .before .before .before .before .args .k) _ (c .before .before .before .before .before .before .before .before .before .args .buffer .now) _ _ (c .before .before .before .before .smaller .ensures) (c .before .before .set-all .ensures))
 
 same-length-2 : tie.Need-same-length-2
 same-length-2 c = search needs
@@ -87,13 +86,13 @@ same-length-3 : tie.Need-same-length-3
 same-length-3 c = search needs
 
 returns-4 : tie.Need-returns-4
-returns-4 c = in-array (c .before .before .before .before .before .before .before .before .args .w) _ (c .before .before .before .before .before .before .before .before .args .buffer .now) (c .before .before .before .before .before .before .before .before .args .k) (lent (c .before .before .before .before .before .before .before .before .args .array .now)) _ (c .before .before .before .before .before .enum-told2 .given .1) (patch-finishes true 0 2097152 (c .before .before .before .before .before .before .before .before .args .k) _ (c .before .before .before .before .before .before .before .before .args .buffer .now) _ _ (c .before .before .before .before .smaller3 .ensures) (c .before .before .set-all3 .ensures))
+returns-4 c = in-array (c .before .before .before .before .before .before .before .before .args .w) _ (c .before .before .before .before .before .before .before .before .args .buffer .now) (c .before .before .before .before .before .before .before .before .args .k) (lent (c .before .before .before .before .before .before .before .before .args .array .now)) _ (c .before .before .before .before .before .enum-told2 .given .1) (patch-finishes _ 0 2097152 (c .before .before .before .before .before .before .before .before .args .k) _ (c .before .before .before .before .before .before .before .before .args .buffer .now) _ _ (c .before .before .before .before .smaller3 .ensures) (c .before .before .set-all3 .ensures))
 
 same-length-4 : tie.Need-same-length-4
 same-length-4 c = search needs
 
 returns-5 : tie.Need-returns-5
-returns-5 c = in-array (c .before .before .before .before .before .before .before .before .before .args .w) _ (c .before .before .before .before .before .before .before .before .before .args .buffer .now) (c .before .before .before .before .before .before .before .before .before .args .k) (lent (c .before .before .before .before .before .before .before .before .before .args .array .now)) _ (c .before .before .before .before .before .before .w3 .given .1) (patch-finishes false _ 256 (c .before .before .before .before .before .before .before .before .before .args .k) _ (c .before .before .before .before .before .before .before .before .before .args .buffer .now) _ _ (c .before .before .before .before .smaller4 .ensures) (c .before .before .clear-bits .ensures))
+returns-5 c = in-array (c .before .before .before .before .before .before .before .before .before .args .w) _ (c .before .before .before .before .before .before .before .before .before .args .buffer .now) (c .before .before .before .before .before .before .before .before .before .args .k) (lent (c .before .before .before .before .before .before .before .before .before .args .array .now)) _ (c .before .before .before .before .before .before .w3 .given .1) (patch-finishes _ _ 256 (c .before .before .before .before .before .before .before .before .before .args .k) _ (c .before .before .before .before .before .before .before .before .before .args .buffer .now) _ _ (c .before .before .before .before .smaller4 .ensures) (c .before .before .clear-bits .ensures))
 
 returns-6 : tie.Need-returns-6
 returns-6 c = in-array (c .before .before .before .args .w) _ (c .before .before .before .args .buffer .now) (c .before .before .before .args .k) (lent (c .before .before .before .args .array .now)) _ (c .enum-told3 .given .1) (nowhere-finishes _ (c .before .before .before .args .buffer .now) (c .before .before .before .args .array .now) (c .before .before .before .args .k))

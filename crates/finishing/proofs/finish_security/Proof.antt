@@ -1,5 +1,4 @@
 -- Only an A5 patches the Security ID. Assumes nothing.
-use mathlib.Core.Bool.{false}
 use Rattle.rules.specs.Words.{lent}
 use Rattle.finishing.proofs.Finishes.{patch-finishes, nowhere-finishes, in-security, security-number}
 use native.Mathlib.Omega.{arith}
@@ -62,7 +61,7 @@ same-length : tie.Need-same-length
 same-length c = search needs
 
 returns-6 : tie.Need-returns-6
-returns-6 c = in-security (c .before .before .before .before .before .before .before .before .before .args .w) _ (c .before .before .before .before .before .before .before .before .before .args .buffer .now) (c .before .before .before .before .before .before .before .before .before .args .k) (lent (c .before .before .before .before .before .before .before .before .before .args .security .now)) _ (c .before .before .before .before .before .before .w .given .1) (patch-finishes false _ 256 (c .before .before .before .before .before .before .before .before .before .args .k) _ (c .before .before .before .before .before .before .before .before .before .args .buffer .now) _ _ (c .before .before .before .before .smaller .ensures) (c .before .before .clear-bits .ensures))
+returns-6 c = in-security (c .before .before .before .before .before .before .before .before .before .args .w) _ (c .before .before .before .before .before .before .before .before .before .args .buffer .now) (c .before .before .before .before .before .before .before .before .before .args .k) (lent (c .before .before .before .before .before .before .before .before .before .args .security .now)) _ (c .before .before .before .before .before .before .w .given .1) (patch-finishes _ _ 256 (c .before .before .before .before .before .before .before .before .before .args .k) _ (c .before .before .before .before .before .before .before .before .before .args .buffer .now) _ _ (c .before .before .before .before .smaller .ensures) (c .before .before .clear-bits .ensures))
 
 returns-7 : tie.Need-returns-7
 returns-7 c = in-security (c .before .before .before .args .w) _ (c .before .before .before .args .buffer .now) (c .before .before .before .args .k) (lent (c .before .before .before .args .security .now)) _ (c .enum-told6 .given .1) (nowhere-finishes _ (c .before .before .before .args .buffer .now) (c .before .before .before .args .security .now) (c .before .before .before .args .k))
