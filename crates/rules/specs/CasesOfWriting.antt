@@ -11,6 +11,7 @@ sentencesOfWriting =
     ∷ ("Data go to rising places in the page and wrap from its end to its start" on "02 00 10 FE 11 22 33 44" gives (buffered 253 is 0xFF ∷ buffered 254 is 0x11 ∷ buffered 255 is 0x22 ∷ buffered 0 is 0x33 ∷ buffered 1 is 0x44 ∷ buffered 2 is 0xFF ∷ []))
     ∷ ("32: the same" on "01 00 02, completion, 06, 32 00 10 FF 11 22" gives (buffered 254 is 0xFF ∷ buffered 255 is 0x11 ∷ buffered 0 is 0x22 ∷ buffered 1 is 0xFF ∷ []))
     ∷ ("A5: wraps in its page" on "A5 01 FE 11 22 33" gives (buffered 253 is 0xFF ∷ buffered 254 is 0x11 ∷ buffered 255 is 0x22 ∷ buffered 0 is 0x33 ∷ buffered 1 is 0xFF ∷ []))
+    ∷ ("11*3 stands for 11 11 11" on "02 00 10 00 11*3" gives (buffered 0 is 0x11 ∷ buffered 2 is 0x11 ∷ buffered 3 is 0xFF ∷ []))
     ∷ [])
     ∷ section "Programs: at completion" "open, 06, 02 00 0F FF 33, completion, 06, 02 00 10 00 33 33, completion, 06, 02 00 20 00 33, completion, 06" (
     ("At completion each page byte becomes its old value AND the buffer byte." on "02 00 10 00 0F, completion" gives (place 0x0FFF is 0x33 ∷ place 0x1000 is 0x03 ∷ place 0x1001 is 0x33 ∷ place 0x1002 is 0xFF ∷ []))

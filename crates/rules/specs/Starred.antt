@@ -1,4 +1,4 @@
--- 01, Both sides of each edge: the cases marked *, a section for each starred line, under one statement. Proved in proofs/Starred.
+-- 01, Both sides of each edge: the cases marked *, a section for each starred line, under one statement. Proved in proofs/Sentences.
 use mathlib.Core.List.{List, [], _∷_}
 use Rattle.rules.specs.Cases.{Section, section, _on_, _gives_, _is_, number, byte, place, from, to, replies, marked, Holds}
 
