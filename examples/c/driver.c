@@ -44,6 +44,7 @@ int main(void)
     const uint8_t program[] = { 0x02, 0x00, 0x01, 0xFE, 0x11, 0x22, 0x33 };
     const uint8_t read_page[] = { 0x03, 0x00, 0x01, 0x00 };
     const uint8_t read_end[] = { 0x03, 0x00, 0x01, 0xFE };
+    fulkibono_range page;
     uint8_t byte[4];
     int wrong = 0, polls = 0;
 
@@ -58,6 +59,8 @@ int main(void)
 
     write_enable();
     transfer("02 at 0001FE: 11 22 33", program, sizeof program, NULL, 0);
+    page = fulkibono_array_range(fulkibono_running(&chip));
+    printf("  %06X to %06X will change\n", (unsigned)page.start, (unsigned)(page.start + page.size - 1));
     while (status() & 1) {
         polls++;
         if (polls == 3) /* the bench decides when the operation ends */

@@ -138,7 +138,7 @@ static void floor_frame(void)
     uint8_t differs = 0;
     memcpy(&c, &chip, sizeof c);
     __asm__ volatile("" : : "r"(&c) : "memory");
-    for (int i = 0; i < 256; i++)
+    for (int i = FULKIBONO_PLACE_PAGE; i < FULKIBONO_PLACE_PROTECTION; i++)
         differs |= (uint8_t)(c.bytes[i] ^ 255);
     __asm__ volatile("" : : "r"(&c), "r"(differs) : "memory");
     memcpy(&other, &c, sizeof c);

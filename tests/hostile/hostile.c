@@ -88,10 +88,10 @@ static const uint8_t opcodes[] = { 0x00, 0x66, 0x99, 0x38, 0xFF, 0x05, 0x35, 0x7
 static const uint8_t lengths[] = { 1, 1, 1, 1, 1, 1, 1, 1, 1, 2, 4, 5, 5, 4, 1, 1, 1, 1, 4, 4, 1, 9, 9, 9, 1, 3, 7, 7, 1, 1, 1, 1 };
 
 /* the record: what a run of frames left, that with one byte changed, or random bytes */
-static uint8_t kept[FULKIBONO_RECORD];
+static uint8_t kept[FULKIBONO_RECORD_SIZE];
 static void some_record(void)
 {
-    size_t n = near(FULKIBONO_RECORD);
+    size_t n = near(FULKIBONO_RECORD_SIZE);
     lend(&record, n);
     switch (below(24)) {
     case 0:
@@ -100,13 +100,13 @@ static void some_record(void)
         break;
     case 1:
         for (size_t i = 0; i < n; i++)
-            record.lent[i] = i < FULKIBONO_RECORD ? kept[i] : 0;
-        if (n > 256)
-            record.lent[256 + below(n - 256)] = (uint8_t)(below(2) ? below(10) : any());
+            record.lent[i] = i < FULKIBONO_RECORD_SIZE ? kept[i] : 0;
+        if (n > FULKIBONO_PLACE_PROTECTION)
+            record.lent[FULKIBONO_PLACE_PROTECTION + below(n - FULKIBONO_PLACE_PROTECTION)] = (uint8_t)(below(2) ? below(10) : any());
         break;
     default:
         for (size_t i = 0; i < n; i++)
-            record.lent[i] = i < FULKIBONO_RECORD ? kept[i] : 0;
+            record.lent[i] = i < FULKIBONO_RECORD_SIZE ? kept[i] : 0;
     }
     keep(&record);
 }
@@ -122,6 +122,29 @@ static void some_memory(void)
     keep(&security);
 }
 
+/* what a call left is a record that is taken again, and its bytes say what the chip answers */
+static void taken_again(void)
+{
+    fulkibono_record c, asked;
+    memcpy(c.bytes, kept, sizeof c.bytes);
+    uint8_t running = fulkibono_running(&c).kind, aside = fulkibono_suspended(&c).kind, answer[6], known[6];
+    size_t n = fulkibono_flag(&c, FULKIBONO_FLAG_SQI) ? 2 : 1;
+    const uint8_t status[] = { 0x05, 0 }, configuration[] = { 0x35, 0 }, protection[] = { 0x72, 0 };
+    asked = c;
+    must(fulkibono_send(&asked, array.lent, security.lent, status, n, answer, known, 1) == 0, "what a call left is refused");
+    must(answer[0] == (running != FULKIBONO_KIND_NOTHING) * 0x81 + fulkibono_flag(&c, FULKIBONO_FLAG_WEL) * 0x02
+         + (aside == FULKIBONO_KIND_SECTOR_ERASE || aside == FULKIBONO_KIND_BLOCK_ERASE) * 0x04 + (aside == FULKIBONO_KIND_PAGE_PROGRAM) * 0x08
+         + fulkibono_flag(&c, FULKIBONO_FLAG_WPLD) * 0x10 + fulkibono_flag(&c, FULKIBONO_FLAG_SEC) * 0x20, "the status of a record");
+    if (running != FULKIBONO_KIND_NOTHING)
+        return;
+    must(fulkibono_send(&asked, array.lent, security.lent, configuration, n, answer, known, 1) == 0, "35");
+    must(answer[0] == fulkibono_flag(&c, FULKIBONO_FLAG_IOC) * 0x02 + (fulkibono_permanent(&c) == 0) * 0x08
+         + fulkibono_flag(&c, FULKIBONO_FLAG_WPEN) * 0x80, "the configuration of a record");
+    must(fulkibono_send(&asked, array.lent, security.lent, protection, n, answer, known, 6) == 0, "72");
+    for (int i = 0; i < 6; i++)
+        must(answer[i] == (uint8_t)(fulkibono_protection(&c) >> 8 * (5 - i)), "the protection register of a record");
+}
+
 static long counts[13];
 
 static void after(uint8_t number, int frame, const uint8_t *array_before)
@@ -133,7 +156,7 @@ static void after(uint8_t number, int frame, const uint8_t *array_before)
     if (number == 1 && frame)
         must(same(&reply) && same(&marks), "refusal 1 wrote a reply");
     if (number != 1 && frame) {
-        must(record.n == FULKIBONO_RECORD && array.n == FULKIBONO_ARRAY && security.n == FULKIBONO_SECURITY && sent.n <= 65536
+        must(record.n == FULKIBONO_RECORD_SIZE && array.n == FULKIBONO_ARRAY && security.n == FULKIBONO_SECURITY && sent.n <= 65536
              && reply.n <= 65536 && reply.n == marks.n, "a wrong length was taken");
         for (size_t i = 0; i < marks.n; i++)
             must(marks.lent[i] <= 1, "a mark above 1");
@@ -141,15 +164,9 @@ static void after(uint8_t number, int frame, const uint8_t *array_before)
     }
     if (number == 2)
         must(sent.n == 0, "refusal 2 of a frame that is not empty");
-    if (record.n == FULKIBONO_RECORD && number != 1) {
-        /* what is left is a record that is taken again */
-        uint8_t b = 0, m = 0;
-        const uint8_t status = 0x05;
-        memcpy(kept, record.lent, FULKIBONO_RECORD);
-        uint8_t again[FULKIBONO_RECORD];
-        memcpy(again, kept, sizeof again);
-        uint8_t k = fulkibono_frame(again, sizeof again, array.lent, array.n, security.lent, security.n, &status, 1, &b, 1, &m, 1);
-        must(k != 1 || array.n != FULKIBONO_ARRAY, "what a call left is refused");
+    if (record.n == FULKIBONO_RECORD_SIZE && number != 1) {
+        memcpy(kept, record.lent, FULKIBONO_RECORD_SIZE);
+        taken_again();
     }
 }
 
@@ -157,7 +174,7 @@ int main(int argc, char **argv)
 {
     long rounds = argc > 1 ? atol(argv[1]) : 20000;
     uint8_t *before;
-    record = room_of(400);
+    record = room_of(2 * FULKIBONO_RECORD_SIZE);
     array = room_of(FULKIBONO_ARRAY + 1);
     security = room_of(FULKIBONO_SECURITY + 1);
     sent = room_of(MOST);
@@ -170,12 +187,12 @@ int main(int argc, char **argv)
     memset(security.open, 0xFF, security.size);
 
     /* a new chip, in every length about the right one */
-    for (size_t n = 0; n <= 400; n++) {
+    for (size_t n = 0; n <= 2 * FULKIBONO_RECORD_SIZE; n++) {
         lend(&record, n);
         memset(record.lent, 0xAB, n);
         keep(&record);
         uint8_t k = fulkibono_new(record.lent, n);
-        must(k == (n == FULKIBONO_RECORD ? 0 : 1), "fulkibono_new's number");
+        must(k == (n == FULKIBONO_RECORD_SIZE ? 0 : 1), "fulkibono_new's number");
         must(k == 0 || same(&record), "fulkibono_new wrote where it refused");
         if (k == 0)
             memcpy(kept, record.lent, n);

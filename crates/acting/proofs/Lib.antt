@@ -1,4 +1,3 @@
 -- Laws that the proofs cite.
 pub mod Flags
-pub mod Acts
 pub mod Unique

@@ -1,34 +1,41 @@
--- No second outcome: whatever meets the guarantee of a public function of this crate at the same input is the same result and the same lent memory.
--- All are equations. Assumes nothing.
-use Prim.Native.Nat.{ℕ}
-use mathlib.Core.Path.{_≡_}
-use mathlib.Core.Bool.{Bool, false}
-use mathlib.Core.List.{List}
-use Rattle.rules.specs.declared.Chip.{Chip}
-use Rattle.rules.specs.declared.Kind.{Kind}
-use Rattle.rules.specs.Words.{pick}
-use Rattle.rules.specs.Registers.{status, configuration}
-use Rattle.rules.specs.Fields.{withEnable}
-use Rattle.rules.specs.Commands.{newChip, act, settled, rested, afterCut}
+-- No second outcome: whatever meets the guarantee of a public function of this crate at the same input is the same record without its buffer, the
+-- same register and the same buffer. Assumes nothing.
 use Rattle.rules.proofs.Promises.{one}
+use Rattle.blocks.proofs.Unique.{OneResult}
+use Rattle.memory.proofs.Unique.{OneList}
+use Rattle.acting.proofs.commands.acted.Reads as acted
+use Rattle.acting.proofs.commands.used.Reads as used
+use Rattle.acting.proofs.ends.completed.Reads as completed
+use Rattle.acting.proofs.ends.cut.Reads as cut
+use Rattle.acting.proofs.pages.page_after.Reads as page-after
+use Rattle.acting.proofs.pages.page_rested.Reads as page-rested
+use Rattle.acting.proofs.power.new_rest.Reads as new-rest
+use Rattle.acting.proofs.registers.configuration_of.Reads as configuration-of
+use Rattle.acting.proofs.registers.status_of.Reads as status-of
 
-pub status-of-one : (c : Chip) (r r′ : ℕ) → r ≡ status c → r′ ≡ status c → r ≡ r′
-status-of-one c r r′ e e′ = one e e′
+pub acted-one : OneResult acted.Post
+acted-one κ a x y r r′ p q = one p q
 
-pub configuration-of-one : (c : Chip) (r r′ : ℕ) → r ≡ configuration c → r′ ≡ configuration c → r ≡ r′
-configuration-of-one c r r′ e e′ = one e e′
+pub used-one : OneResult used.Post
+used-one κ a x y r r′ p q = one p q
 
-pub new-chip-one : (r r′ : Chip) → r ≡ newChip → r′ ≡ newChip → r ≡ r′
-new-chip-one r r′ e e′ = one e e′
+pub completed-one : OneResult completed.Post
+completed-one κ a x y r r′ p q = one p q
 
-pub used-one : (c : Chip) (r r′ : Chip) → r ≡ withEnable false c → r′ ≡ withEnable false c → r ≡ r′
-used-one c r r′ e e′ = one e e′
+pub cut-one : OneResult cut.Post
+cut-one κ a x y r r′ p q = one p q
 
-pub acted-one : (k : Kind) (sent : List ℕ) (c : Chip) (r r′ : Chip) → r ≡ act k sent (withEnable false c) → r′ ≡ act k sent (withEnable false c) → r ≡ r′
-acted-one k sent c r r′ e e′ = one e e′
+pub page-after-one : OneList page-after.Post (λ a. a .1 .1 .0 .now)
+page-after-one κ a x y r r′ p q = one p q
 
-pub completed-one : (c : Chip) (r r′ : Chip) → r ≡ rested (settled (c .running) c) → r′ ≡ rested (settled (c .running) c) → r ≡ r′
-completed-one c r r′ e e′ = one e e′
+pub page-rested-one : OneList page-rested.Post (λ a. a .1 .0 .now)
+page-rested-one κ a x y r r′ p q = one p q
 
-pub cut-one : (c : Chip) (some : Bool) (r r′ : Chip) → r ≡ afterCut (pick some (settled (c .running) c) c) → r′ ≡ afterCut (pick some (settled (c .running) c) c) → r ≡ r′
-cut-one c some r r′ e e′ = one e e′
+pub new-rest-one : OneResult new-rest.Post
+new-rest-one κ a x y r r′ p q = one p q
+
+pub configuration-of-one : OneResult configuration-of.Post
+configuration-of-one κ a x y r r′ p q = one p q
+
+pub status-of-one : OneResult status-of.Post
+status-of-one κ a x y r r′ p q = one p q

@@ -1,224 +1,187 @@
-// The record after a frame.
+// The record without its buffer after a frame.
 use crate::power;
-use rules::Chip;
 use rules::Kind;
 use rules::Long;
+use rules::Rest;
+use rules::Short;
 use rules::Work;
+use rules::Works;
 ghost use mathlib.Core.Path.{_≡_};
 ghost use mathlib.Core.Bool.{true, false};
-ghost use Prim.Native.Nat.{_≤_};
-ghost use lib.ListN.{length};
-ghost use Rattle.rules.specs.Frames.{six};
-ghost use Rattle.rules.specs.Fields.{withBuffer, withProtection, withRunning, withSuspended, withSqi, withWel, withWpld, withEnable};
-ghost use Rattle.rules.specs.Commands.{workOf, bufferOf, act};
-ghost use Rattle.judging.specs.ByKind.{startLength, lookedAt};
+ghost use Rattle.rules.specs.Fields.{withProtection, withRunning, withSuspended, withSqi, withWel, withWpld, withEnable};
+ghost use Rattle.rules.specs.Commands.{workOf, atOnce, act};
 
 // The enable is used up.
-pub fn used(c: Chip) -> Chip
-    ensures { λ r. ⌜ r ≡ withEnable false c ⌝ }
+pub fn used(r: Rest) -> Rest
+    ensures { λ q. ⌜ q ≡ withEnable false r ⌝ }
 {
-    let mut spent = c;
-    spent.enable = false;
-    spent
+    let mut next = r;
+    next.flags.enable = false;
+    next
 }
 
-// Work w starts with the buffer b.
-fn begin_with(c: Chip, w: Work, b: [u8; 256]) -> Chip
-    ensures { λ r. ⌜ r ≡ withRunning w (withBuffer b (withEnable false c)) ⌝ }
-{
-    let aside = c.suspended;
-    Chip {
-        buffer: b,
-        protection: c.protection,
-        permanent: c.permanent,
-        running: w,
-        suspended: aside,
-        sqi: c.sqi,
-        wel: c.wel,
-        ioc: c.ioc,
-        wpen: c.wpen,
-        wpld: c.wpld,
-        sec: c.sec,
-        enable: false,
-    }
-}
+// ---- long commands
 
-// Work w starts, and needs no buffer.
-fn begin(c: Chip, w: Work) -> Chip
-    ensures { λ r. ⌜ r ≡ withRunning w (withBuffer (c .buffer) (withEnable false c)) ⌝ }
-{
-    let b = c.buffer;
-    begin_with(c, w, b)
-}
-
-fn suspend(c: Chip) -> Chip
-    ensures { λ r. ⌜ r ≡ withSuspended (c .running) (withRunning Work.Nothing (withEnable false c)) ⌝ }
-{
-    let b = c.buffer;
-    let run = c.running;
-    let wel = c.wel;
-    Chip {
-        buffer: b,
-        protection: c.protection,
-        permanent: c.permanent,
-        running: Work::Nothing,
-        suspended: run,
-        sqi: c.sqi,
-        wel,
-        ioc: c.ioc,
-        wpen: c.wpen,
-        wpld: c.wpld,
-        sec: c.sec,
-        enable: false,
-    }
-}
-
-fn resume(c: Chip) -> Chip
-    ensures { λ r. ⌜ r ≡ withRunning (c .suspended) (withSuspended Work.Nothing (withEnable false c)) ⌝ }
-{
-    let b = c.buffer;
-    let aside = c.suspended;
-    Chip {
-        buffer: b,
-        protection: c.protection,
-        permanent: c.permanent,
-        running: aside,
-        suspended: Work::Nothing,
-        sqi: c.sqi,
-        wel: c.wel,
-        ioc: c.ioc,
-        wpen: c.wpen,
-        wpld: c.wpld,
-        sec: c.sec,
-        enable: false,
-    }
-}
-
-fn wide64(x: u8) -> u64
-    ensures { λ r. ⌜ r ≡ x ⌝ }
-{
-    x as u64
-}
-
-// A register's six bytes.
-fn six_of(sent: &[u8]) -> u64
-    requires { ⌜ 7 ≤ length (now sent) ⌝ }
-    ensures { λ r. ⌜ r ≡ six (now (sent .entry)) ⌝ }
-{
-    let high = wide64(sent[1]) * 0x100_0000_0000
-        + wide64(sent[2]) * 0x1_0000_0000
-        + wide64(sent[3]) * 0x100_0000;
-    let low = wide64(sent[4]) * 0x1_0000 + wide64(sent[5]) * 0x100 + wide64(sent[6]);
-    high + low
-}
-
-// A long command starts.
-fn start(l: Long, sent: &[u8], c: Chip) -> Chip
-    requires { ⌜ (startLength l ≤ length (now sent)) × (length (now sent) ≤ 65536) ⌝ }
-    ensures { λ r. ⌜ r ≡ withRunning (workOf l (now (sent .entry))) (withBuffer (bufferOf l (now (sent .entry)) (c .buffer)) (withEnable false c)) ⌝ }
+// The work that a long command starts.
+fn work_of(l: Long, sent: &[u8]) -> Work
+    ensures { λ w. ⌜ w ≡ workOf l (now (sent .entry)) ⌝ }
 {
     match l {
         Long::Sector => {
-            let a = judging::address_of(sent);
-            begin(c, Work::EraseSector(a / 4096))
+            let a = opcodes::address_of(sent);
+            Work::EraseSector(a / 4096)
         }
         Long::Block => {
-            let a = judging::address_of(sent);
-            begin(c, Work::EraseBlock(blocks::block_of(a)))
+            let a = opcodes::address_of(sent);
+            Work::EraseBlock(blocks::block_of(a))
         }
-        Long::Array => begin(c, Work::EraseArray),
+        Long::Array => Work::EraseArray,
         Long::Page => {
-            let a = judging::address_of(sent);
-            let b = memory::page_buffer(sent, 4, a % 256);
-            begin_with(c, Work::ProgramPage(a / 256), b)
+            let a = opcodes::address_of(sent);
+            Work::ProgramPage(a / 256)
         }
         Long::SecurityPage => {
-            let a = judging::security_address_of(sent);
-            let b = memory::page_buffer(sent, 3, a % 256);
-            begin_with(c, Work::ProgramSecurity(a / 256), b)
+            let a = opcodes::security_address_of(sent);
+            Work::ProgramSecurity(a / 256)
         }
-        Long::SecurityLock => begin(c, Work::LockSecurity),
+        Long::SecurityLock => Work::LockSecurity,
         Long::Configuration => {
-            let v = wide64(sent[2]);
+            let v = opcodes::sent_byte(sent, 2);
             let ioc = blocks::bit_at(v, 1);
             let wpen = blocks::bit_at(v, 7);
-            begin(c, Work::WriteConfiguration(ioc, wpen))
+            Work::WriteConfiguration(ioc, wpen)
         }
-        Long::Permanent => {
-            let v = six_of(sent);
-            begin(c, Work::AddPermanent(v))
-        }
+        Long::Permanent => Work::AddPermanent(opcodes::six_of(sent)),
     }
 }
 
-fn with_wel(c: Chip, on: bool) -> Chip
-    ensures { λ r. ⌜ r ≡ withWel on (withEnable false c) ⌝ }
+fn begin(r: Rest, w: Work) -> Rest
+    ensures { λ q. ⌜ q ≡ withRunning w (withEnable false r) ⌝ }
 {
-    let mut next = c;
-    next.wel = on;
-    next.enable = false;
+    let works = r.works;
+    let aside = works.suspended;
+    let both = Works {
+        running: w,
+        suspended: aside,
+    };
+    let mut next = r;
+    next.works = both;
+    next.flags.enable = false;
     next
 }
 
-fn with_protocol(c: Chip, sqi: bool) -> Chip
-    ensures { λ r. ⌜ r ≡ withSqi sqi (withEnable false c) ⌝ }
+// ---- commands that act at once
+
+fn suspend(r: Rest) -> Rest
+    ensures { λ q. ⌜ q ≡ withSuspended (r .works .running) (withRunning Work.Nothing (withEnable false r)) ⌝ }
 {
-    let mut next = c;
-    next.sqi = sqi;
-    next.enable = false;
+    let works = r.works;
+    let run = works.running;
+    let both = Works {
+        running: Work::Nothing,
+        suspended: run,
+    };
+    let mut next = r;
+    next.works = both;
+    next.flags.enable = false;
     next
 }
 
-fn with_locks(c: Chip, p: u64) -> Chip
-    ensures { λ r. ⌜ r ≡ withWel false (withProtection p (withEnable false c)) ⌝ }
+fn resume(r: Rest) -> Rest
+    ensures { λ q. ⌜ q ≡ withRunning (r .works .suspended) (withSuspended Work.Nothing (withEnable false r)) ⌝ }
 {
-    let mut next = c;
-    next.protection = p;
-    next.wel = false;
-    next.enable = false;
+    let works = r.works;
+    let aside = works.suspended;
+    let both = Works {
+        running: aside,
+        suspended: Work::Nothing,
+    };
+    let mut next = r;
+    next.works = both;
+    next.flags.enable = false;
     next
 }
 
-fn locked_down(c: Chip) -> Chip
-    ensures { λ r. ⌜ r ≡ withWel false (withWpld true (withEnable false c)) ⌝ }
+fn with_wel(r: Rest, on: bool) -> Rest
+    ensures { λ q. ⌜ q ≡ withWel on (withEnable false r) ⌝ }
 {
-    let mut next = c;
-    next.wpld = true;
-    next.wel = false;
-    next.enable = false;
+    let mut next = r;
+    next.flags.wel = on;
+    next.flags.enable = false;
     next
 }
 
-fn enabled(c: Chip) -> Chip
-    ensures { λ r. ⌜ r ≡ withEnable true c ⌝ }
+fn with_protocol(r: Rest, sqi: bool) -> Rest
+    ensures { λ q. ⌜ q ≡ withSqi sqi (withEnable false r) ⌝ }
 {
-    let mut next = c;
-    next.enable = true;
+    let mut next = r;
+    next.flags.sqi = sqi;
+    next.flags.enable = false;
     next
 }
 
-// The record after a done frame.
-pub fn acted(kind: Kind, sent: &[u8], c: Chip) -> Chip
-    requires { ⌜ (lookedAt kind ≤ length (now sent)) × (length (now sent) ≤ 65536) ⌝ }
-    ensures { λ r. ⌜ r ≡ act kind (now (sent .entry)) (withEnable false c) ⌝ }
+fn with_locks(r: Rest, p: u64) -> Rest
+    ensures { λ q. ⌜ q ≡ withWel false (withProtection p (withEnable false r)) ⌝ }
+{
+    let mut next = r;
+    next.locks.protection = p;
+    next.flags.wel = false;
+    next.flags.enable = false;
+    next
+}
+
+fn locked_down(r: Rest) -> Rest
+    ensures { λ q. ⌜ q ≡ withWel false (withWpld true (withEnable false r)) ⌝ }
+{
+    let mut next = r;
+    next.flags.wpld = true;
+    next.flags.wel = false;
+    next.flags.enable = false;
+    next
+}
+
+fn enabled(r: Rest) -> Rest
+    ensures { λ q. ⌜ q ≡ withEnable true r ⌝ }
+{
+    let mut next = r;
+    next.flags.enable = true;
+    next
+}
+
+fn at_once(s: Short, sent: &[u8], r: Rest) -> Rest
+    ensures { λ q. ⌜ q ≡ atOnce s (now (sent .entry)) (withEnable false r) ⌝ }
+{
+    match s {
+        Short::Nothing => used(r),
+        Short::EnableReset => enabled(r),
+        Short::Reset => power::reset(r),
+        Short::ToSqi => with_protocol(r, true),
+        Short::ToSpi => with_protocol(r, false),
+        Short::SetWel => with_wel(r, true),
+        Short::ClearWel => with_wel(r, false),
+        Short::WriteProtection => {
+            let v = opcodes::six_of(sent);
+            with_locks(r, (v & 0xffff_ffff_ffff) | r.locks.permanent)
+        }
+        Short::LockDown => locked_down(r),
+        Short::ClearLocks => {
+            with_locks(
+                r,
+                (r.locks.protection & 0xaaaa_0000_0000) | r.locks.permanent,
+            )
+        }
+        Short::Suspend => suspend(r),
+        Short::Resume => resume(r),
+    }
+}
+
+// After a done frame.
+pub fn acted(kind: Kind, sent: &[u8], r: Rest) -> Rest
+    ensures { λ q. ⌜ q ≡ act kind (now (sent .entry)) (withEnable false r) ⌝ }
 {
     match kind {
-        Kind::Nothing => used(c),
-        Kind::EnableReset => enabled(c),
-        Kind::Reset => power::reset(c),
-        Kind::ToSqi => with_protocol(c, true),
-        Kind::ToSpi => with_protocol(c, false),
-        Kind::Show(_) => used(c),
-        Kind::SetWel => with_wel(c, true),
-        Kind::ClearWel => with_wel(c, false),
-        Kind::Begin(l) => start(l, sent, c),
-        Kind::WriteProtection => {
-            let v = six_of(sent);
-            with_locks(c, (v & 0xffff_ffff_ffff) | c.permanent)
-        }
-        Kind::LockDown => locked_down(c),
-        Kind::ClearLocks => with_locks(c, (c.protection & 0xaaaa_0000_0000) | c.permanent),
-        Kind::Suspend => suspend(c),
-        Kind::Resume => resume(c),
+        Kind::Show(_) => used(r),
+        Kind::Begin(l) => begin(r, work_of(l, sent)),
+        Kind::Do(s) => at_once(s, sent, r),
     }
 }

@@ -1,85 +1,78 @@
-// The record when work ends.
+// The record without its buffer when work ends.
 use crate::power;
-use rules::Chip;
+use rules::Rest;
 use rules::Work;
+use rules::Works;
 ghost use mathlib.Core.Path.{_≡_};
 ghost use Rattle.rules.specs.Words.{pick};
 ghost use Rattle.rules.specs.Commands.{settled, rested, afterCut};
 
 // The registers that finished work sets.
-fn settle(c: Chip) -> Chip
-    ensures { λ r. ⌜ r ≡ settled (c .running) c ⌝ }
+fn settle(r: Rest) -> Rest
+    ensures { λ q. ⌜ q ≡ settled (r .works .running) r ⌝ }
 {
-    let run = c.running;
+    let works = r.works;
+    let run = works.running;
     match run {
-        Work::Nothing => c,
-        Work::EraseSector(_) => c,
-        Work::EraseBlock(_) => c,
-        Work::EraseArray => c,
-        Work::ProgramPage(_) => c,
-        Work::ProgramSecurity(_) => c,
+        Work::Nothing => r,
+        Work::EraseSector(_) => r,
+        Work::EraseBlock(_) => r,
+        Work::EraseArray => r,
+        Work::ProgramPage(_) => r,
+        Work::ProgramSecurity(_) => r,
         Work::LockSecurity => {
-            let mut next = c;
-            next.sec = true;
+            let mut next = r;
+            next.flags.sec = true;
             next
         }
         Work::WriteConfiguration(ioc, wpen) => {
-            let mut next = c;
-            next.ioc = ioc;
-            next.wpen = wpen;
+            let mut next = r;
+            next.flags.ioc = ioc;
+            next.flags.wpen = wpen;
             next
         }
         Work::AddPermanent(v) => {
             let more = v & 0x5555_ffff_ffff;
-            let mut next = c;
-            next.protection = c.protection | more;
-            next.permanent = c.permanent | more;
+            let protection = r.locks.protection | more;
+            let permanent = r.locks.permanent | more;
+            let mut next = r;
+            next.locks.protection = protection;
+            next.locks.permanent = permanent;
             next
         }
     }
 }
 
-// BUSY and WEL 0, and the buffer FF where no program is suspended.
-fn rest(c: Chip) -> Chip
-    ensures { λ r. ⌜ r ≡ rested c ⌝ }
+// BUSY and WEL 0.
+fn rest(r: Rest) -> Rest
+    ensures { λ q. ⌜ q ≡ rested r ⌝ }
 {
-    let aside = c.suspended;
-    let b = c.buffer;
-    let kept = if records::is_program(aside) {
-        b
-    } else {
-        [255; 256]
-    };
-    Chip {
-        buffer: kept,
-        protection: c.protection,
-        permanent: c.permanent,
+    let works = r.works;
+    let aside = works.suspended;
+    let both = Works {
         running: Work::Nothing,
         suspended: aside,
-        sqi: c.sqi,
-        wel: false,
-        ioc: c.ioc,
-        wpen: c.wpen,
-        wpld: c.wpld,
-        sec: c.sec,
-        enable: c.enable,
-    }
+    };
+    let mut next = r;
+    next.works = both;
+    next.flags.wel = false;
+    next
 }
 
-// The record after a completion.
-pub fn completed(c: Chip) -> Chip
-    ensures { λ r. ⌜ r ≡ rested (settled (c .running) c) ⌝ }
+// After a completion.
+pub fn completed(r: Rest) -> Rest
+    ensures { λ q. ⌜ q ≡ rested (settled (r .works .running) r) ⌝ }
 {
-    rest(settle(c))
+    rest(settle(r))
 }
 
-// The record after a power cut; `some`: at least one byte was finished.
-pub fn cut(c: Chip, some: bool) -> Chip
-    ensures { λ r. ⌜ r ≡ afterCut (pick some (settled (c .running) c) c) ⌝ }
+// After a power cut; `some`: at least one byte was finished.
+pub fn cut(r: Rest, some: bool) -> Rest
+    ensures { λ q. ⌜ q ≡ afterCut (pick some (settled (r .works .running) r) r) ⌝ }
 {
     if some {
-        let d = settle(c);
-        return power::powered_up(d.sec, d.wpen, d.permanent);
+        let left = settle(r);
+        return power::powered_up(left.flags.sec, left.flags.wpen, left.locks.permanent);
     }
-    power::powered_up(c.sec, c.wpen, c.permanent)
+    power::powered_up(r.flags.sec, r.flags.wpen, r.locks.permanent)
 }

@@ -1,52 +1,58 @@
 // Power-up and reset.
-use rules::Chip;
+use rules::Flags;
+use rules::Locks;
+use rules::Rest;
 use rules::Work;
+use rules::Works;
 ghost use mathlib.Core.Path.{_≡_};
 ghost use mathlib.Core.Bool.{false};
 ghost use Rattle.rules.specs.Fields.{withEnable};
-ghost use Rattle.rules.specs.Commands.{newChip, poweredUp, afterReset};
+ghost use Rattle.rules.specs.Commands.{poweredUp, afterReset};
 
 // The power-up state, with what outlives a power cut.
-pub fn powered_up(sec: bool, wpen: bool, permanent: u64) -> Chip
+pub fn powered_up(sec: bool, wpen: bool, permanent: u64) -> Rest
     ensures { λ r. ⌜ r ≡ poweredUp sec wpen permanent ⌝ }
 {
-    Chip {
-        buffer: [255; 256],
-        protection: 0x5555_ffff_ffff,
-        permanent,
-        running: Work::Nothing,
-        suspended: Work::Nothing,
-        sqi: false,
-        wel: false,
-        ioc: false,
-        wpen,
-        wpld: false,
-        sec,
-        enable: false,
+    Rest {
+        locks: Locks {
+            protection: 0x5555_ffff_ffff,
+            permanent,
+        },
+        works: Works {
+            running: Work::Nothing,
+            suspended: Work::Nothing,
+        },
+        flags: Flags {
+            sqi: false,
+            wel: false,
+            ioc: false,
+            wpen,
+            wpld: false,
+            sec,
+            enable: false,
+        },
     }
 }
 
-pub fn new_chip() -> Chip
-    ensures { λ r. ⌜ r ≡ newChip ⌝ }
+// Of a new chip.
+pub fn new_rest() -> Rest
+    ensures { λ r. ⌜ r ≡ poweredUp false false 0 ⌝ }
 {
     powered_up(false, false, 0)
 }
 
-pub fn reset(c: Chip) -> Chip
-    ensures { λ r. ⌜ r ≡ afterReset (withEnable false c) ⌝ }
+pub fn reset(r: Rest) -> Rest
+    ensures { λ q. ⌜ q ≡ afterReset (withEnable false r) ⌝ }
 {
-    Chip {
-        buffer: [255; 256],
-        protection: c.protection,
-        permanent: c.permanent,
+    let none = Works {
         running: Work::Nothing,
         suspended: Work::Nothing,
-        sqi: false,
-        wel: false,
-        ioc: false,
-        wpen: c.wpen,
-        wpld: c.wpld,
-        sec: c.sec,
-        enable: false,
-    }
+    };
+    let mut next = r;
+    next.works = none;
+    next.flags.sqi = false;
+    next.flags.wel = false;
+    next.flags.ioc = false;
+    next.flags.enable = false;
+    next
 }

@@ -1,29 +1,30 @@
 // The registers as read.
-use rules::Chip;
+use rules::Rest;
 ghost use mathlib.Core.Path.{_≡_};
 ghost use Rattle.rules.specs.Registers.{status, configuration};
 
 // Status, bit by bit.
-pub fn status_of(c: Chip) -> u8
-    ensures { λ r. ⌜ r ≡ status c ⌝ }
+pub fn status_of(r: Rest) -> u8
+    ensures { λ s. ⌜ s ≡ status r ⌝ }
 {
-    let run = c.running;
-    let aside = c.suspended;
-    let busy = !records::is_nothing(run);
-    let wse = records::is_erase(aside);
-    let wsp = records::is_program(aside);
+    let works = r.works;
+    let run = works.running;
+    let aside = works.suspended;
+    let busy = !blocks::is_nothing(run);
+    let wse = blocks::is_erase(aside);
+    let wsp = blocks::is_program(aside);
     (busy as u8)
-        | ((c.wel as u8) << 1)
+        | ((r.flags.wel as u8) << 1)
         | ((wse as u8) << 2)
         | ((wsp as u8) << 3)
-        | ((c.wpld as u8) << 4)
-        | ((c.sec as u8) << 5)
+        | ((r.flags.wpld as u8) << 4)
+        | ((r.flags.sec as u8) << 5)
         | ((busy as u8) << 7)
 }
 
-pub fn configuration_of(c: Chip) -> u8
-    ensures { λ r. ⌜ r ≡ configuration c ⌝ }
+pub fn configuration_of(r: Rest) -> u8
+    ensures { λ s. ⌜ s ≡ configuration r ⌝ }
 {
-    let bpnv = c.permanent == 0;
-    ((c.ioc as u8) << 1) | ((bpnv as u8) << 3) | ((c.wpen as u8) << 7)
+    let bpnv = r.locks.permanent == 0;
+    ((r.flags.ioc as u8) << 1) | ((bpnv as u8) << 3) | ((r.flags.wpen as u8) << 7)
 }

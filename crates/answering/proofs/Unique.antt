@@ -1,40 +1,43 @@
--- No second outcome: whatever meets the guarantee of a public function of this crate at the same input is the same result.
--- All are equations. Assumes nothing.
-use Prim.Native.Nat.{ℕ}
-use mathlib.Core.Bool.{Bool}
-use mathlib.Core.List.{List}
-use Rattle.rules.specs.declared.Work.{Work}
-use Rattle.rows.specs.declared.Row.{Row}
-use Rattle.answering.specs.Questions.{statusRow, configurationRow, protocolRow, runningRow, suspendedRow, locksRow, lockRow, lockDownRow, dumpHeadRow, dumpRow}
-use mathlib.Core.Path.{_≡_}
+-- No second outcome: whatever meets the guarantee of a public function of this crate at the same input is the same result. Assumes nothing.
 use Rattle.rules.proofs.Promises.{one}
+use Rattle.blocks.proofs.Unique.{OneResult}
+use Rattle.answering.proofs.status_row.Reads as status-row
+use Rattle.answering.proofs.configuration_row.Reads as configuration-row
+use Rattle.answering.proofs.protocol_row.Reads as protocol-row
+use Rattle.answering.proofs.running_row.Reads as running-row
+use Rattle.answering.proofs.suspended_row.Reads as suspended-row
+use Rattle.answering.proofs.locks_row.Reads as locks-row
+use Rattle.answering.proofs.lock_row.Reads as lock-row
+use Rattle.answering.proofs.lock_down_row.Reads as lock-down-row
+use Rattle.answering.proofs.dump_head_row.Reads as dump-head-row
+use Rattle.answering.proofs.dump_row.Reads as dump-row
 
-pub status-row-one : (line status : ℕ) (q q′ : Row) → q ≡ statusRow line status → q′ ≡ statusRow line status → q ≡ q′
-status-row-one line status q q′ e e′ = one e e′
+pub status-row-one : OneResult status-row.Post
+status-row-one κ a x y r r′ p q = one p q
 
-pub configuration-row-one : (configuration : ℕ) (q q′ : Row) → q ≡ configurationRow configuration → q′ ≡ configurationRow configuration → q ≡ q′
-configuration-row-one configuration q q′ e e′ = one e e′
+pub configuration-row-one : OneResult configuration-row.Post
+configuration-row-one κ a x y r r′ p q = one p q
 
-pub protocol-row-one : (sqi enable : Bool) (q q′ : Row) → q ≡ protocolRow sqi enable → q′ ≡ protocolRow sqi enable → q ≡ q′
-protocol-row-one sqi enable q q′ e e′ = one e e′
+pub protocol-row-one : OneResult protocol-row.Post
+protocol-row-one κ a x y r r′ p q = one p q
 
-pub running-row-one : (line : ℕ) (w : Work) (q q′ : Row) → q ≡ runningRow line w → q′ ≡ runningRow line w → q ≡ q′
-running-row-one line w q q′ e e′ = one e e′
+pub running-row-one : OneResult running-row.Post
+running-row-one κ a x y r r′ p q = one p q
 
-pub suspended-row-one : (w : Work) (q q′ : Row) → q ≡ suspendedRow w → q′ ≡ suspendedRow w → q ≡ q′
-suspended-row-one w q q′ e e′ = one e e′
+pub suspended-row-one : OneResult suspended-row.Post
+suspended-row-one κ a x y r r′ p q = one p q
 
-pub locks-row-one : (line protection permanent : ℕ) (q q′ : Row) → q ≡ locksRow line protection permanent → q′ ≡ locksRow line protection permanent → q ≡ q′
-locks-row-one line protection permanent q q′ e e′ = one e e′
+pub locks-row-one : OneResult locks-row.Post
+locks-row-one κ a x y r r′ p q = one p q
 
-pub lock-row-one : (n protection permanent : ℕ) (q q′ : Row) → q ≡ lockRow n protection permanent → q′ ≡ lockRow n protection permanent → q ≡ q′
-lock-row-one n protection permanent q q′ e e′ = one e e′
+pub lock-row-one : OneResult lock-row.Post
+lock-row-one κ a x y r r′ p q = one p q
 
-pub lock-down-row-one : (wpld : Bool) (q q′ : Row) → q ≡ lockDownRow wpld → q′ ≡ lockDownRow wpld → q ≡ q′
-lock-down-row-one wpld q q′ e e′ = one e e′
+pub lock-down-row-one : OneResult lock-down-row.Post
+lock-down-row-one κ a x y r r′ p q = one p q
 
-pub dump-head-row-one : (line place count : ℕ) (q q′ : Row) → q ≡ dumpHeadRow line place count → q′ ≡ dumpHeadRow line place count → q ≡ q′
-dump-head-row-one line place count q q′ e e′ = one e e′
+pub dump-head-row-one : OneResult dump-head-row.Post
+dump-head-row-one κ a x y r r′ p q = one p q
 
-pub dump-row-one : (place : ℕ) (array : List ℕ) (n : ℕ) (q q′ : Row) → q ≡ dumpRow place array n → q′ ≡ dumpRow place array n → q ≡ q′
-dump-row-one place array n q q′ e e′ = one e e′
+pub dump-row-one : OneResult dump-row.Post
+dump-row-one κ a x y r r′ p q = one p q

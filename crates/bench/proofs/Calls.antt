@@ -1,75 +1,90 @@
--- The calls in a row: the bytes read, the chip's promise, the record written back, the number. Assumes nothing.
+-- The calls in a row: the bytes read, the chip's turn with the page in place, the record written back, the number. Assumes nothing.
 use Prim.Native.Nat.{ℕ}
 use mathlib.Core.Path.{_≡_, sym, ap, _∙_}
-use mathlib.Core.Bool.{Bool, true, false}
-use mathlib.Core.List.{List, []}
-use lib.Dec.{eqb}
-use lib.ListN.{length}
-use borrow.Author.Tests.{eqb-true, eq-eqb, ne-eqb}
-use Rattle.rules.specs.declared.After.{After}
+use mathlib.Core.Bool.{Bool, true, false, not}
+use mathlib.Core.List.{List, [], _∷_, _++_}
+use native.Mathlib.Omega.{arith}
+use lib.ListN.{length, getD, take, drop}
+use lib.Seq.{length-take-le, length-front, take-at}
+use borrow.Author.Tests.{eq-eqb, ne-eqb, not-true, not-false}
 use Rattle.rules.specs.declared.Chip.{Chip}
-use Rattle.rules.specs.Words.{pick, lent}
-use Rattle.rules.specs.Commands.{newChip}
+use Rattle.rules.specs.declared.Rest.{Rest}
+use Rattle.rules.specs.Fields.{chipOf}
+use Rattle.rules.specs.Programs.{blank}
+use Rattle.rules.specs.Commands.{poweredUp}
 use Rattle.rules.specs.Numbers.{answerNumber}
-use Rattle.rules.specs.Machine.{frame, completion, powerCut}
-use Rattle.rules.specs.Promises.{state, carried, came, FramePromise, CompletionPromise, CutPromise}
-use Rattle.rules.proofs.Bools.{and-split}
-use Rattle.record_code.specs.Layout.{recordSize, code, isCode, chipIn}
-use Rattle.bench.specs.Boundary.{seen, coded, refused, newBytes, frameBytes, completionBytes, cutBytes}
+use Rattle.rules.specs.Machine.{Outcome, step, run}
+use Rattle.rules.specs.Promises.{Bench, Returned, benchOf, returnedOf, stateOf, outcomeOf}
+use Rattle.rules.specs.Demands.{Call, Meets, eventOf}
+use Rattle.rules.proofs.Runs.{demand-2}
+use Rattle.record_code.specs.Layout.{recordSize, restCode, code, isCode, restIn, chipIn}
+use Rattle.record_code.proofs.Faithful.{code-of, chip-in, known-length}
+use Rattle.chip.specs.declared.turns.Turn.{Turn}
+use Rattle.chip.specs.Turns.{afterOf}
+use Rattle.bench.specs.Boundary.{LentBench, cameOf, untouched, seenOf, coded, called, CallPromise, newBytes, NewPromise}
 
--- a code has a record's size
-pub code-size : (l : List ℕ) (b : Bool) → b ≡ isCode l → b ≡ true → length l ≡ recordSize
-unfolding isCode
-code-size l b eb e = eqb-true (length l) recordSize (and-split (eqb (length l) recordSize) _ (sym eb ∙ e) .0)
+-- ---- the page in a record's bytes
 
--- the record written back and the number, in the machine's outcome
-written-back : (n : ℕ) (r : After) (bytes array security reply marks : List ℕ) → n ≡ answerNumber (r .answer) → bytes ≡ code (r .chip)
-    → seen n bytes array security reply marks ≡ coded (came r array security reply marks)
-written-back n r bytes array security reply marks en eb =
-    λ i. record { number = en i; bytes = eb i; array = lent array; security = lent security; reply = lent reply; marks = lent marks }
+module _ (l : List ℕ) (size : length l ≡ recordSize) where
+  pub page-size : length (take 256 l) ≡ 256
+  page-size = length-take-le 256 l (omega arith)
+
+  module _ (p : List ℕ) (kept : length p ≡ length (take 256 l)) where
+    -- the page changed in place leaves the length
+    pub page-back : length (p ++ drop 256 l) ≡ recordSize
+    page-back = length-front l p 256 kept ∙ size
+
+    -- and what is put behind it makes a record's code
+    pub rest-put : (q : Rest) → take 256 (p ++ drop 256 l) ++ restCode q ≡ code (chipOf p q)
+    rest-put q = ap (λ (x : List ℕ). x ++ restCode q) (take-at p (drop 256 l) 256 (kept ∙ page-size)) ∙ sym (code-of p q)
+
+-- the same of bytes that are tested to be a code
+module _ (l : List ℕ) (x : Bool) (ex : x ≡ isCode l) (h : not x ≡ false) where
+  pub code-size : length l ≡ recordSize
+  code-size = known-length l (sym ex ∙ not-false x h)
+
+  pub code-page : length (take 256 l) ≡ 256
+  code-page = page-size l code-size
+
+  pub code-back : (p : List ℕ) → length p ≡ length (take 256 l) → length (p ++ drop 256 l) ≡ recordSize
+  code-back p kept = page-back l code-size p kept
 
 -- ---- a new chip
 
-pub new-refused : (bytes : List ℕ) → (length bytes ≡ 297 → ⊥) → seen 1 bytes [] [] [] [] ≡ newBytes bytes
+pub new-refused : (bytes : List ℕ) → (length bytes ≡ recordSize → ⊥) → NewPromise bytes 1 bytes
 unfolding newBytes
-new-refused bytes h = rw (ne-eqb (length bytes) recordSize h)
+new-refused bytes h = record { outcome = rw (ne-eqb (length bytes) recordSize h) }
 
-pub new-done : (bytes bytes′ : List ℕ) (c : Chip) → length bytes ≡ 297 → c ≡ newChip → bytes′ ≡ code c → seen 0 bytes′ [] [] [] [] ≡ newBytes bytes
+pub new-done : (bytes p l : List ℕ) (q : Rest) → length bytes ≡ recordSize → length p ≡ length (take 256 bytes) → p ≡ blank → q ≡ poweredUp false false 0
+    → l ≡ take 256 (p ++ drop 256 bytes) ++ restCode q → NewPromise bytes 0 l
 unfolding newBytes
-new-done bytes bytes′ c h ec eb = rw (eq-eqb (length bytes) recordSize h, eb, ec)
+new-done bytes p l q h k ep eq el =
+    record { outcome = rw (eq-eqb (length bytes) recordSize h) (λ i. (0, (el ∙ rest-put bytes h p k q ∙ (λ j. code (chipOf (ep j) (eq j)))) i)) }
 
 -- ---- the three events
 
-module _ (bytes array security : List ℕ) (b : Bool) (eb : b ≡ isCode bytes) where
-  pub frame-refused : (sent reply marks : List ℕ) → b ≡ false → seen 1 bytes array security reply marks ≡ frameBytes bytes array security sent reply marks
-  unfolding frameBytes
-  frame-refused sent reply marks e = rw (sym eb ∙ e)
+-- a call that meets its guarantee is the machine's step: a chain of one
+met-step : (b : Bench) (e : Call) (g : Returned) → Meets b e g → outcomeOf g ≡ step (stateOf b) (eventOf e)
+unfolding run
+met-step b e g h = ap (λ (os : List Outcome). getD os 0 (outcomeOf g)) (demand-2 b (e ∷ []) (g ∷ []) (h, tt) .machine)
 
-  pub completion-refused : b ≡ false → seen 1 bytes array security [] [] ≡ completionBytes bytes array security
-  unfolding completionBytes
-  completion-refused e = rw (sym eb ∙ e)
+module _ (b : LentBench) (e : Call) (x : Bool) (ex : x ≡ isCode (b .bytes)) where
+  pub call-refused : not x ≡ true → CallPromise b e (untouched 1 b e)
+  unfolding called
+  call-refused h = record { outcome = rw (sym ex ∙ not-true x h) }
 
-  pub cut-refused : (k : ℕ) → b ≡ false → seen 1 bytes array security [] [] ≡ cutBytes bytes array security k
-  unfolding cutBytes
-  cut-refused k e = rw (sym eb ∙ e)
+  pub call-taken : (r : Rest) (t : Turn) (p l array security reply marks : List ℕ) (n : ℕ) → not x ≡ false → r ≡ restIn (b .bytes)
+      → Meets (benchOf (chipOf (take 256 (b .bytes)) r) (b .array) (b .security)) e (returnedOf (afterOf t p) array security reply marks)
+      → length p ≡ length (take 256 (b .bytes)) → l ≡ take 256 (p ++ drop 256 (b .bytes)) ++ restCode (t .rest) → n ≡ answerNumber (t .answer)
+      → CallPromise b e (cameOf n l array security reply marks)
+  unfolding called
+  call-taken r t p l array security reply marks n h er m k el en = record { outcome = rw (sym ex ∙ not-false x h) (numbered ∙ ap coded (met-step _ e came m) ∙ ap (λ (c : Chip). coded (step (stateOf (benchOf c (b .array) (b .security))) (eventOf e))) read) }
+    where
+      came : Returned
+      came = returnedOf (afterOf t p) array security reply marks
 
-  module _ (c : Chip) (r : After) (n : ℕ) (bytes′ array′ security′ : List ℕ) (e : b ≡ true) (ec : c ≡ chipIn bytes) (ew : bytes′ ≡ code (r .chip)) (en : n ≡ answerNumber (r .answer)) where
-    pub frame-taken : (sent reply marks reply′ marks′ : List ℕ) → FramePromise c array security sent reply marks r array′ security′ reply′ marks′
-        → seen n bytes′ array′ security′ reply′ marks′ ≡ frameBytes bytes array security sent reply marks
-    unfolding frameBytes
-    frame-taken sent reply marks reply′ marks′ p =
-        rw (sym eb ∙ e)
-        (written-back n r bytes′ array′ security′ reply′ marks′ en ew ∙ ap coded (p .outcome)
-        ∙ ap (λ (d : Chip). coded (frame (state d array security) (carried sent reply marks))) ec)
+      read : chipOf (take 256 (b .bytes)) r ≡ chipIn (b .bytes)
+      read = ap (chipOf (take 256 (b .bytes))) er ∙ sym (chip-in (b .bytes))
 
-    pub completion-taken : CompletionPromise c array security r array′ security′ → seen n bytes′ array′ security′ [] [] ≡ completionBytes bytes array security
-    unfolding completionBytes
-    completion-taken p =
-        rw (sym eb ∙ e)
-        (written-back n r bytes′ array′ security′ [] [] en ew ∙ ap coded (p .outcome) ∙ ap (λ (d : Chip). coded (completion (state d array security))) ec)
-
-    pub cut-taken : (k : ℕ) → CutPromise c array security k r array′ security′ → seen n bytes′ array′ security′ [] [] ≡ cutBytes bytes array security k
-    unfolding cutBytes
-    cut-taken k p =
-        rw (sym eb ∙ e)
-        (written-back n r bytes′ array′ security′ [] [] en ew ∙ ap coded (p .outcome) ∙ ap (λ (d : Chip). coded (powerCut (state d array security) k)) ec)
+      numbered : seenOf (cameOf n l array security reply marks) ≡ coded (outcomeOf came)
+      numbered = λ i. seenOf (cameOf (en i) ((el ∙ rest-put (b .bytes) (code-size (b .bytes) x ex h) p k (t .rest)) i) array security reply marks)

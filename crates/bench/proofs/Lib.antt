@@ -1,4 +1,8 @@
 -- Laws of the boundary.
 pub mod Calls
 pub mod Texts
+pub mod Outcomes
 pub mod Unique
+pub mod Refusals
+pub mod Typed
+pub mod Runs

@@ -8,7 +8,7 @@ use native.Mathlib.Numerals.{add-one}
 use lib.Dec.{ltb}
 use lib.ListN.{length, getD, set, take, drop, drop-of-length-le}
 use lib.Seq.{take-suc, take-all, take-nil, drop-cons, set-append-seam, append-snoc, length-take-le}
-use borrow.Author.Tests.{ltb-true, ltb-false}
+use borrow.Author.Tests.{ltb-true, ltb-false, ne-eqb}
 use Rattle.bench.specs.Meanings.{meaning, over, MeaningBytes}
 
 -- one byte more
@@ -41,9 +41,30 @@ over-end t l i ht hl h = go (ltb i (length t)) refl
 
 -- ---- the text of a number
 
-pub put : (n r : ℕ) (t l l′ : List ℕ) → meaning n ≡ t → r ≡ length t → l′ ≡ over t l → MeaningBytes n l r l′
-put n r t l l′ e p q = record { size = p ∙ ap length (sym e); text = q ∙ ap (λ (t : List ℕ). over t l) (sym e) }
+pub put : (n k r : ℕ) (t l l′ : List ℕ) → n ≡ k → meaning k ≡ t → (r ≡ length t) × (l′ ≡ over t l) → MeaningBytes n l r l′
+put n k r t l l′ e m h =
+    let q = ap meaning e ∙ m in
+    record { size = h .0 ∙ ap length (sym q); text = h .1 ∙ ap (λ (t : List ℕ). over t l) (sym q) }
 
-pub none : (n : ℕ) (l : List ℕ) → meaning n ≡ [] → MeaningBytes n l 0 l
+no-text : (n : ℕ) → 12 < n → meaning n ≡ []
+unfolding meaning
+no-text n h =
+    rw (
+      ne-eqb n 0 (λ z. omega arith),
+      ne-eqb n 1 (λ z. omega arith),
+      ne-eqb n 2 (λ z. omega arith),
+      ne-eqb n 3 (λ z. omega arith),
+      ne-eqb n 4 (λ z. omega arith),
+      ne-eqb n 5 (λ z. omega arith),
+      ne-eqb n 6 (λ z. omega arith),
+      ne-eqb n 7 (λ z. omega arith),
+      ne-eqb n 8 (λ z. omega arith),
+      ne-eqb n 9 (λ z. omega arith),
+      ne-eqb n 10 (λ z. omega arith),
+      ne-eqb n 11 (λ z. omega arith),
+      ne-eqb n 12 (λ z. omega arith),
+    )
+
+pub none : (n : ℕ) (l : List ℕ) → 12 < n → MeaningBytes n l 0 l
 unfolding over
-none n l e = put n 0 [] l l e refl (ap (λ (xs : List ℕ). xs ++ l) (sym (take-nil (length l))))
+none n l h = put n n 0 [] l l refl (no-text n h) (refl, ap (λ (xs : List ℕ). xs ++ l) (sym (take-nil (length l))))

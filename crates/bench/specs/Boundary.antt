@@ -1,4 +1,4 @@
--- What the exported functions give back and leave: the number, the record's bytes and all other lent bytes, in terms of the machine and the record's code.
+-- What the exported functions give back and leave: the number and all lent bytes, in terms of the machine and the record's code.
 use Prim.Native.Nat.{ℕ}
 use mathlib.Core.Path.{_≡_}
 use mathlib.Core.List.{List, []}
@@ -6,11 +6,53 @@ use lib.Dec.{eqb}
 use lib.ListN.{length}
 use Rattle.rules.specs.Words.{pick, Lent, lent}
 use Rattle.rules.specs.Commands.{newChip}
-use Rattle.rules.specs.Machine.{Outcome, frame, completion, powerCut}
-use Rattle.rules.specs.Promises.{state, carried}
+use Rattle.rules.specs.Numbers.{State}
+use Rattle.rules.specs.Machine.{Outcome, step}
+use Rattle.rules.specs.Promises.{Carried, benchOf, carriedOf, stateOf}
+use Rattle.rules.specs.Demands.{Call, frameCall, completionCall, cutCall, eventOf}
 use Rattle.record_code.specs.Layout.{recordSize, code, decode}
 
--- the whole of what a call gives back and leaves
+-- ---- what is lent before, and what came
+
+-- a bench in bytes: those of the record, and those of the two memories
+pub record LentBench : Type 0 where
+  pub bytes : List ℕ
+  pub array : List ℕ
+  pub security : List ℕ
+
+-- the number, and what all lent memory holds at the end
+pub record Came : Type 0 where
+  pub number : ℕ
+  pub bytes : List ℕ
+  pub array : List ℕ
+  pub security : List ℕ
+  pub reply : List ℕ
+  pub marks : List ℕ
+
+abbrev pub lentBenchOf : List ℕ → List ℕ → List ℕ → LentBench
+lentBenchOf bytes array security = record { bytes = bytes; array = array; security = security }
+
+abbrev pub cameOf : ℕ → List ℕ → List ℕ → List ℕ → List ℕ → List ℕ → Came
+cameOf n bytes array security reply marks =
+    record { number = n; bytes = bytes; array = array; security = security; reply = reply; marks = marks }
+
+-- what a call carries beside the bench; a completion and a power cut are lent no reply
+abbrev pub carriedBy : Call → Carried
+carriedBy (frameCall f) = f
+carriedBy completionCall = carriedOf [] [] []
+carriedBy (cutCall k) = carriedOf [] [] []
+
+-- the number n, and every lent byte as it was
+abbrev pub untouched : ℕ → LentBench → Call → Came
+untouched n b e = cameOf n (b .bytes) (b .array) (b .security) (carriedBy e .reply) (carriedBy e .marks)
+
+-- ---- the same for the machine
+
+-- the state whose record the bytes are the code of
+abbrev pub stateIn : LentBench → State
+stateIn b = stateOf (benchOf (decode (b .bytes) .chip) (b .array) (b .security))
+
+-- what came, its memories as the machine has them
 pub record Seen : Type 0 where
   pub number : ℕ
   pub bytes : List ℕ
@@ -19,47 +61,42 @@ pub record Seen : Type 0 where
   pub reply : Lent
   pub marks : Lent
 
-abbrev pub seen : ℕ → List ℕ → List ℕ → List ℕ → List ℕ → List ℕ → Seen
-seen n bytes array security reply marks =
-    record { number = n; bytes = bytes; array = lent array; security = lent security; reply = lent reply; marks = lent marks }
+abbrev pub seenOf : Came → Seen
+seenOf g =
+    record {
+      number = g .number;
+      bytes = g .bytes;
+      array = lent (g .array);
+      security = lent (g .security);
+      reply = lent (g .reply);
+      marks = lent (g .marks);
+    }
 
 -- an outcome of the machine, its record as bytes
 abbrev pub coded : Outcome → Seen
-coded o = record { number = o .number; bytes = code (o .chip); array = o .array; security = o .security; reply = o .reply; marks = o .marks }
+coded o =
+    record {
+      number = o .number;
+      bytes = code (o .chip);
+      array = o .array;
+      security = o .security;
+      reply = o .reply;
+      marks = o .marks;
+    }
 
--- bytes that are no record's code: refusal 1, and nothing at all changes
-abbrev pub refused : List ℕ → List ℕ → List ℕ → List ℕ → List ℕ → Seen
-refused bytes array security reply marks = seen 1 bytes array security reply marks
+-- ---- the three events: a call of fulkibono_frame, fulkibono_completion or fulkibono_power_cut
 
--- ---- what each function does to the bytes
+-- a record's code goes through the machine; bytes that are no code get refusal 1, and nothing at all changes
+unfoldable pub called : LentBench → Call → Seen
+called b e = pick (decode (b .bytes) .known) (coded (step (stateIn b) (eventOf e))) (seenOf (untouched 1 b e))
 
-unfoldable pub newBytes : List ℕ → Seen
-newBytes bytes = pick (eqb (length bytes) recordSize) (seen 0 (code newChip) [] [] [] []) (refused bytes [] [] [] [])
+pub record CallPromise (b : LentBench) (e : Call) (g : Came) : Type 0 where
+  pub outcome : seenOf g ≡ called b e
 
-unfoldable pub frameBytes : List ℕ → List ℕ → List ℕ → List ℕ → List ℕ → List ℕ → Seen
-frameBytes bytes array security sent reply marks =
-    pick (decode bytes .known)
-    (coded (frame (state (decode bytes .chip) array security) (carried sent reply marks)))
-    (refused bytes array security reply marks)
+-- ---- fulkibono_new: the code of a new chip, in as many bytes as a record has
 
-unfoldable pub completionBytes : List ℕ → List ℕ → List ℕ → Seen
-completionBytes bytes array security =
-    pick (decode bytes .known) (coded (completion (state (decode bytes .chip) array security))) (refused bytes array security [] [])
+unfoldable pub newBytes : List ℕ → ℕ × List ℕ
+newBytes bytes = pick (eqb (length bytes) recordSize) (0, code newChip) (1, bytes)
 
-unfoldable pub cutBytes : List ℕ → List ℕ → List ℕ → ℕ → Seen
-cutBytes bytes array security k =
-    pick (decode bytes .known) (coded (powerCut (state (decode bytes .chip) array security) k)) (refused bytes array security [] [])
-
--- ---- the promises
-
-pub record NewBytes (bytes : List ℕ) (n : ℕ) (bytes′ : List ℕ) : Type 0 where
-  pub outcome : seen n bytes′ [] [] [] [] ≡ newBytes bytes
-
-pub record FrameBytes (bytes array security sent reply marks : List ℕ) (n : ℕ) (bytes′ array′ security′ reply′ marks′ : List ℕ) : Type 0 where
-  pub outcome : seen n bytes′ array′ security′ reply′ marks′ ≡ frameBytes bytes array security sent reply marks
-
-pub record CompletionBytes (bytes array security : List ℕ) (n : ℕ) (bytes′ array′ security′ : List ℕ) : Type 0 where
-  pub outcome : seen n bytes′ array′ security′ [] [] ≡ completionBytes bytes array security
-
-pub record CutBytes (bytes array security : List ℕ) (k n : ℕ) (bytes′ array′ security′ : List ℕ) : Type 0 where
-  pub outcome : seen n bytes′ array′ security′ [] [] ≡ cutBytes bytes array security k
+pub record NewPromise (bytes : List ℕ) (n : ℕ) (bytes′ : List ℕ) : Type 0 where
+  pub outcome : (n, bytes′) ≡ newBytes bytes

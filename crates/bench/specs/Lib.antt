@@ -1,3 +1,5 @@
 -- The boundary to other languages.
 pub mod Boundary
+pub mod Refusals
+pub mod Demands
 pub mod Meanings

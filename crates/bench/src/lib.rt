@@ -1,9 +1,12 @@
 // The boundary to other languages: the chip's functions over lent bytes. specs/Boundary.antt says what each gives back and leaves.
-// The caller lends all memory; nothing is kept between calls.
+// The caller lends all memory; nothing is kept between calls. The page buffer is changed where it lies, in the record's first 256 bytes.
 ghost use mathlib.Core.Path.{_≡_};
-ghost use Prim.Native.Nat.{_≤_};
+ghost use mathlib.Core.List.{[]};
+ghost use Prim.Native.Nat.{_<_};
 ghost use lib.ListN.{length};
-ghost use Rattle.bench.specs.Boundary.{NewBytes, FrameBytes, CompletionBytes, CutBytes};
+ghost use Rattle.rules.specs.Promises.{carriedOf};
+ghost use Rattle.rules.specs.Demands.{frameCall, completionCall, cutCall};
+ghost use Rattle.bench.specs.Boundary.{lentBenchOf, cameOf, CallPromise, NewPromise};
 ghost use Rattle.bench.specs.Meanings.{over, MeaningBytes};
 
 // ---- the chip
@@ -11,13 +14,14 @@ ghost use Rattle.bench.specs.Meanings.{over, MeaningBytes};
 // A new chip's record.
 #[no_mangle]
 pub extern "C" fn fulkibono_new(bytes: &mut [u8]) -> u8
-    ensures { λ r. ⌜ NewBytes (now (bytes .entry)) r (now (bytes .exit)) ⌝ }
+    ensures { λ r. ⌜ NewPromise (now (bytes .entry)) r (now (bytes .exit)) ⌝ }
 {
-    if bytes.len() != 297 {
+    if bytes.len() != 320 {
         return 1;
     }
-    let c = chip::new();
-    record_code::encode(c, bytes);
+    memory::blank_page(&mut bytes[..256]);
+    let rest = acting::new_rest();
+    record_code::put_rest(bytes, rest);
     0
 }
 
@@ -31,17 +35,17 @@ pub extern "C" fn fulkibono_frame(
     reply: &mut [u8],
     marks: &mut [u8],
 ) -> u8
-    ensures { λ r. ⌜ FrameBytes (now (bytes .entry)) (now (array .entry)) (now (security .entry)) (now (sent .entry)) (now (reply .entry)) (now (marks .entry)) r (now (bytes .exit)) (now (array .exit)) (now (security .exit)) (now (reply .exit)) (now (marks .exit)) ⌝ }
+    ensures { λ r. ⌜ CallPromise (lentBenchOf (now (bytes .entry)) (now (array .entry)) (now (security .entry))) (frameCall (carriedOf (now (sent .entry)) (now (reply .entry)) (now (marks .entry)))) (cameOf r (now (bytes .exit)) (now (array .exit)) (now (security .exit)) (now (reply .exit)) (now (marks .exit))) ⌝ }
 {
     if !record_code::is_code(bytes) {
         return 1;
     }
-    let c = record_code::decode(bytes);
-    let after = chip::frame(c, array, security, sent, reply, marks);
-    let next = after.chip;
-    record_code::encode(next, bytes);
-    let answer = after.answer;
-    numbers::answer_number(answer)
+    let r = record_code::rest_in(bytes);
+    let t = chip::frame_turn(r, &mut bytes[..256], array, security, sent, reply, marks);
+    let rest = t.rest;
+    record_code::put_rest(bytes, rest);
+    let answer = t.answer;
+    chip::answer_number(answer)
 }
 
 // The running operation ends.
@@ -51,17 +55,17 @@ pub extern "C" fn fulkibono_completion(
     array: &mut [u8],
     security: &mut [u8],
 ) -> u8
-    ensures { λ r. ⌜ CompletionBytes (now (bytes .entry)) (now (array .entry)) (now (security .entry)) r (now (bytes .exit)) (now (array .exit)) (now (security .exit)) ⌝ }
+    ensures { λ r. ⌜ CallPromise (lentBenchOf (now (bytes .entry)) (now (array .entry)) (now (security .entry))) completionCall (cameOf r (now (bytes .exit)) (now (array .exit)) (now (security .exit)) [] []) ⌝ }
 {
     if !record_code::is_code(bytes) {
         return 1;
     }
-    let c = record_code::decode(bytes);
-    let after = chip::completion(c, array, security);
-    let next = after.chip;
-    record_code::encode(next, bytes);
-    let answer = after.answer;
-    numbers::answer_number(answer)
+    let r = record_code::rest_in(bytes);
+    let t = chip::completion_turn(r, &mut bytes[..256], array, security);
+    let rest = t.rest;
+    record_code::put_rest(bytes, rest);
+    let answer = t.answer;
+    chip::answer_number(answer)
 }
 
 // A power cut after k bytes of the running operation.
@@ -72,17 +76,17 @@ pub extern "C" fn fulkibono_power_cut(
     security: &mut [u8],
     k: u64,
 ) -> u8
-    ensures { λ r. ⌜ CutBytes (now (bytes .entry)) (now (array .entry)) (now (security .entry)) k r (now (bytes .exit)) (now (array .exit)) (now (security .exit)) ⌝ }
+    ensures { λ r. ⌜ CallPromise (lentBenchOf (now (bytes .entry)) (now (array .entry)) (now (security .entry))) (cutCall k) (cameOf r (now (bytes .exit)) (now (array .exit)) (now (security .exit)) [] []) ⌝ }
 {
     if !record_code::is_code(bytes) {
         return 1;
     }
-    let c = record_code::decode(bytes);
-    let after = chip::power_cut(c, array, security, k);
-    let next = after.chip;
-    record_code::encode(next, bytes);
-    let answer = after.answer;
-    numbers::answer_number(answer)
+    let r = record_code::rest_in(bytes);
+    let t = chip::cut_turn(r, &mut bytes[..256], array, security, k);
+    let rest = t.rest;
+    record_code::put_rest(bytes, rest);
+    let answer = t.answer;
+    chip::answer_number(answer)
 }
 
 // ---- what a number means
@@ -99,51 +103,52 @@ fn put_text(lent: &mut [u8], text: &[u8]) -> usize
     text.len()
 }
 
+// The texts of 0 to 3.
+fn text_below_4(number: u8, text: &mut [u8]) -> usize
+    requires { ⌜ number < 4 ⌝ }
+    ensures { λ r. ⌜ MeaningBytes number (now (text .entry)) r (now (text .exit)) ⌝ }
+{
+    match number {
+        0 => put_text(text, b"done"),
+        1 => put_text(
+            text,
+            b"record not well-formed, or a length outside the sizes",
+        ),
+        2 => put_text(text, b"frame empty"),
+        _ => put_text(text, b"opcode not listed, or not in this protocol"),
+    }
+}
+
+// The texts of 4 to 7.
+fn text_below_8(number: u8, text: &mut [u8]) -> usize
+    requires { ⌜ (3 < number) × (number < 8) ⌝ }
+    ensures { λ r. ⌜ MeaningBytes number (now (text .entry)) r (now (text .exit)) ⌝ }
+{
+    match number {
+        4 => put_text(text, b"length not as listed"),
+        5 => put_text(text, b"busy"),
+        6 => put_text(text, b"99 with no enable"),
+        _ => put_text(text, b"6B or 32 with IOC 0"),
+    }
+}
+
+// The text of a number; a number above 12 has none.
 #[no_mangle]
 pub extern "C" fn fulkibono_meaning(number: u8, text: &mut [u8]) -> usize
     ensures { λ r. ⌜ MeaningBytes number (now (text .entry)) r (now (text .exit)) ⌝ }
 {
-    if number == 0 {
-        return put_text(text, b"done");
+    if number < 4 {
+        return text_below_4(number, text);
     }
-    if number == 1 {
-        return put_text(
-            text,
-            b"record not well-formed, or a length outside the sizes",
-        );
+    if number < 8 {
+        return text_below_8(number, text);
     }
-    if number == 2 {
-        return put_text(text, b"frame empty");
+    match number {
+        8 => put_text(text, b"suspension rule"),
+        9 => put_text(text, b"WEL needed and 0"),
+        10 => put_text(text, b"closed: WPLD 1, SEC 1, or A5 to places 0 to 7"),
+        11 => put_text(text, b"write-locked"),
+        12 => put_text(text, b"completion with nothing running"),
+        _ => 0,
     }
-    if number == 3 {
-        return put_text(text, b"opcode not listed, or not in this protocol");
-    }
-    if number == 4 {
-        return put_text(text, b"length not as listed");
-    }
-    if number == 5 {
-        return put_text(text, b"busy");
-    }
-    if number == 6 {
-        return put_text(text, b"99 with no enable");
-    }
-    if number == 7 {
-        return put_text(text, b"6B or 32 with IOC 0");
-    }
-    if number == 8 {
-        return put_text(text, b"suspension rule");
-    }
-    if number == 9 {
-        return put_text(text, b"WEL needed and 0");
-    }
-    if number == 10 {
-        return put_text(text, b"closed: WPLD 1, SEC 1, or A5 to places 0 to 7");
-    }
-    if number == 11 {
-        return put_text(text, b"write-locked");
-    }
-    if number == 12 {
-        return put_text(text, b"completion with nothing running");
-    }
-    0
 }

@@ -8,7 +8,7 @@ use lib.Bits.{bitAnd}
 use borrow.Author.Tests.{ltb-true}
 use Rattle.rules.specs.declared.Block.{Block}
 use Rattle.rules.specs.declared.Work.{Work}
-use Rattle.rules.specs.Words.{bit, range}
+use Rattle.rules.specs.Words.{bit, range, nowhere}
 use Rattle.rules.specs.Blocks.{arraySize, blockOf, blockAt, span, writeLocked, unlocked, writeLocks}
 use Rattle.rules.specs.Works.{arrayRange}
 use Rattle.rules.specs.WellFormed.{numbersRight}
@@ -61,5 +61,5 @@ pub unlocked-array : (p : ℕ) (w : Work) → w ≡ Work.EraseArray → p < 2 ^ 
 unlocked-array p w e h = sym (array-unlocked p h) ∙ ap (λ (w : Work). unlocked p (arrayRange w)) (sym e)
 
 -- work with no range in the array
-pub unlocked-none : (p : ℕ) (w v : Work) → w ≡ v → arrayRange v ≡ range 0 0 → true ≡ unlocked p (arrayRange w)
-unlocked-none p w v e h = sym (ap (unlocked p) (ap arrayRange e ∙ h) ∙ unlocked-nowhere p)
+pub unlocked-none : (p : ℕ) (w : Work) → nowhere ≡ arrayRange w → true ≡ unlocked p (arrayRange w)
+unlocked-none p w e = sym (unlocked-nowhere p) ∙ ap (unlocked p) e

@@ -1,36 +1,55 @@
--- No second outcome: whatever meets the guarantee of a public function of this crate at the same input is the same result and the same lent memory.
--- All are equations. Assumes nothing.
-use Prim.Native.Nat.{ℕ}
+-- No second outcome: whatever meets the guarantee of a public function of this crate at the same input is the same result. Assumes nothing.
 use mathlib.Core.Path.{_≡_}
-use mathlib.Core.Bool.{Bool}
-use Rattle.rules.specs.declared.Block.{Block}
-use Rattle.rules.specs.declared.Range.{Range}
-use Rattle.rules.specs.declared.Work.{Work}
-use Rattle.rules.specs.Words.{bit, holds}
-use Rattle.rules.specs.Blocks.{blockOf, blockAt, writeLocked, readLocked, unlocked}
-use Rattle.rules.specs.Works.{arrayRange}
 use Rattle.rules.proofs.Promises.{one}
+use Rattle.blocks.proofs.table.block_at.Reads as block-at
+use Rattle.blocks.proofs.block_of.Reads as block-of
+use Rattle.blocks.proofs.bit_at.Reads as bit-at
+use Rattle.blocks.proofs.write_locked.Reads as write-locked
+use Rattle.blocks.proofs.read_locked.Reads as read-locked
+use Rattle.blocks.proofs.is_nothing.Reads as is-nothing
+use Rattle.blocks.proofs.is_erase.Reads as is-erase
+use Rattle.blocks.proofs.is_program.Reads as is-program
+use Rattle.blocks.proofs.can_suspend.Reads as can-suspend
+use Rattle.blocks.proofs.array_range.Reads as array-range
+use Rattle.blocks.proofs.is_unlocked.Reads as is-unlocked
+use Rattle.blocks.proofs.holds_place.Reads as holds-place
 
-pub block-at-one : (n : ℕ) (r r′ : Block) → r ≡ blockAt n → r′ ≡ blockAt n → r ≡ r′
-block-at-one n r r′ e e′ = one e e′
+-- a post-condition over lifetimes, arguments, the result and the arguments at exit leaves one result
+abbrev pub OneResult : {K A R : Type 0} → (K → A → R → A → Type 0) → Type 0
+OneResult {K} {A} {R} Post = (κ : K) (a x y : A) (r r′ : R) → Post κ a r x → Post κ a r′ y → r ≡ r′
 
-pub block-of-one : (a : ℕ) (r r′ : ℕ) → r ≡ blockOf a → r′ ≡ blockOf a → r ≡ r′
-block-of-one a r r′ e e′ = one e e′
+pub block-at-one : OneResult block-at.Post
+block-at-one κ a x y r r′ p q = one p q
 
-pub bit-at-one : (p n : ℕ) (r r′ : Bool) → r ≡ bit n p → r′ ≡ bit n p → r ≡ r′
-bit-at-one p n r r′ e e′ = one e e′
+pub block-of-one : OneResult block-of.Post
+block-of-one κ a x y r r′ p q = one p q
 
-pub write-locked-one : (p a : ℕ) (r r′ : Bool) → r ≡ writeLocked p a → r′ ≡ writeLocked p a → r ≡ r′
-write-locked-one p a r r′ e e′ = one e e′
+pub bit-at-one : OneResult bit-at.Post
+bit-at-one κ a x y r r′ p q = one p q
 
-pub read-locked-one : (p a : ℕ) (r r′ : Bool) → r ≡ readLocked p a → r′ ≡ readLocked p a → r ≡ r′
-read-locked-one p a r r′ e e′ = one e e′
+pub write-locked-one : OneResult write-locked.Post
+write-locked-one κ a x y r r′ p q = one p q
 
-pub array-range-one : (w : Work) (r r′ : Range) → r ≡ arrayRange w → r′ ≡ arrayRange w → r ≡ r′
-array-range-one w r r′ e e′ = one e e′
+pub read-locked-one : OneResult read-locked.Post
+read-locked-one κ a x y r r′ p q = one p q
 
-pub is-unlocked-one : (p : ℕ) (w : Work) (r r′ : Bool) → r ≡ unlocked p (arrayRange w) → r′ ≡ unlocked p (arrayRange w) → r ≡ r′
-is-unlocked-one p w r r′ e e′ = one e e′
+pub is-nothing-one : OneResult is-nothing.Post
+is-nothing-one κ a x y r r′ p q = one p q
 
-pub holds-place-one : (s : Range) (a : ℕ) (r r′ : Bool) → r ≡ holds s a → r′ ≡ holds s a → r ≡ r′
-holds-place-one s a r r′ e e′ = one e e′
+pub is-erase-one : OneResult is-erase.Post
+is-erase-one κ a x y r r′ p q = one p q
+
+pub is-program-one : OneResult is-program.Post
+is-program-one κ a x y r r′ p q = one p q
+
+pub can-suspend-one : OneResult can-suspend.Post
+can-suspend-one κ a x y r r′ p q = one p q
+
+pub array-range-one : OneResult array-range.Post
+array-range-one κ a x y r r′ p q = one p q
+
+pub is-unlocked-one : OneResult is-unlocked.Post
+is-unlocked-one κ a x y r r′ p q = one p q
+
+pub holds-place-one : OneResult holds-place.Post
+holds-place-one κ a x y r r′ p q = one p q

@@ -1,4 +1,4 @@
-// Blocks, locks and ranges of places.
+// Blocks and locks; the kind and the range of work.
 mod table;
 
 use rules::Block;
@@ -10,7 +10,7 @@ ghost use mathlib.Core.Bool.{true};
 ghost use Prim.Native.Nat.{_+_, _*_, _^_, _≤_, _<_};
 ghost use Rattle.rules.specs.Words.{bit, holds};
 ghost use Rattle.rules.specs.Blocks.{arraySize, blockOf, blockAt, writeLocked, readLocked, unlocked};
-ghost use Rattle.rules.specs.Works.{arrayRange};
+ghost use Rattle.rules.specs.Works.{isNothing, isErase, isProgram, canSuspend, arrayRange};
 ghost use Rattle.rules.specs.WellFormed.{numbersRight};
 
 // The number of the block that holds a place.
@@ -73,13 +73,49 @@ pub fn read_locked(p: u64, a: usize) -> bool
     bit_at(p, 2 * g - 463)
 }
 
+pub fn is_nothing(w: Work) -> bool
+    ensures { λ r. ⌜ r ≡ isNothing w ⌝ }
+{
+    match w {
+        Work::Nothing => true,
+        _ => false,
+    }
+}
+
+pub fn is_erase(w: Work) -> bool
+    ensures { λ r. ⌜ r ≡ isErase w ⌝ }
+{
+    match w {
+        Work::EraseSector(_) | Work::EraseBlock(_) | Work::EraseArray => true,
+        _ => false,
+    }
+}
+
+pub fn is_program(w: Work) -> bool
+    ensures { λ r. ⌜ r ≡ isProgram w ⌝ }
+{
+    match w {
+        Work::ProgramPage(_) | Work::ProgramSecurity(_) => true,
+        _ => false,
+    }
+}
+
+// One sector or block erase, or one page program.
+pub fn can_suspend(w: Work) -> bool
+    ensures { λ r. ⌜ r ≡ canSuspend w ⌝ }
+{
+    match w {
+        Work::EraseSector(_) | Work::EraseBlock(_) | Work::ProgramPage(_) => true,
+        _ => false,
+    }
+}
+
 // The range of work in the array.
 pub fn array_range(w: Work) -> Range
     requires { ⌜ numbersRight w ≡ true ⌝ }
     ensures { λ r. ⌜ r ≡ arrayRange w ⌝ }
 {
     match w {
-        Work::Nothing => Range { start: 0, size: 0 },
         Work::EraseSector(n) => Range {
             start: n * 4096,
             size: 4096,
@@ -99,10 +135,7 @@ pub fn array_range(w: Work) -> Range
             start: n * 256,
             size: 256,
         },
-        Work::ProgramSecurity(_) => Range { start: 0, size: 0 },
-        Work::LockSecurity => Range { start: 0, size: 0 },
-        Work::WriteConfiguration(_, _) => Range { start: 0, size: 0 },
-        Work::AddPermanent(_) => Range { start: 0, size: 0 },
+        _ => Range { start: 0, size: 0 },
     }
 }
 
@@ -112,7 +145,6 @@ pub fn is_unlocked(p: u64, w: Work) -> bool
     ensures { λ r. ⌜ r ≡ unlocked p (arrayRange w) ⌝ }
 {
     match w {
-        Work::Nothing => true,
         Work::EraseSector(n) => !write_locked(p, n * 4096),
         Work::EraseBlock(n) => {
             let b = block_at(n);
@@ -121,10 +153,7 @@ pub fn is_unlocked(p: u64, w: Work) -> bool
         }
         Work::EraseArray => p & 0x5555_ffff_ffff == 0,
         Work::ProgramPage(n) => !write_locked(p, n * 256),
-        Work::ProgramSecurity(_) => true,
-        Work::LockSecurity => true,
-        Work::WriteConfiguration(_, _) => true,
-        Work::AddPermanent(_) => true,
+        _ => true,
     }
 }
 

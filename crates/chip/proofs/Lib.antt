@@ -1,4 +1,4 @@
 -- Laws that the proofs cite.
-pub mod Replies
+pub mod Shows
 pub mod Events
 pub mod Unique

@@ -1,26 +1,65 @@
--- No second outcome: whatever meets the guarantee of a public function of this crate at the same input is the same result and the same lent memory.
--- The four events: proofs/Promises of the rules has the law. Assumes nothing.
+-- No second outcome: whatever meets the guarantee of a public function of this crate at the same input is the same result and the same lent
+-- memory. Stated over the guarantees themselves; proofs/Promises of the rules has the law. Assumes nothing.
+use Prim.Native.Nat.{ℕ}
 use mathlib.Core.Path.{_≡_}
 use mathlib.Core.List.{List, []}
-use Prim.Native.Nat.{ℕ}
+use denote.Ref.{RefT}
 use Rattle.rules.specs.declared.After.{After}
+use Rattle.rules.specs.declared.Answer.{Answer}
 use Rattle.rules.specs.declared.Chip.{Chip}
-use Rattle.rules.specs.Commands.{newChip}
-use Rattle.rules.specs.Promises.{FramePromise, CompletionPromise, CutPromise}
+use Rattle.rules.specs.declared.Rest.{Rest}
+use Rattle.rules.specs.Promises.{returnedOf}
 use Rattle.rules.proofs.Promises as promises
+use Rattle.chip.specs.declared.turns.Turn.{Turn}
+use Rattle.chip.specs.Turns.{afterOf}
+use Rattle.chip.proofs.new.Reads as new
+use Rattle.chip.proofs.frame.Reads as frame
+use Rattle.chip.proofs.completion.Reads as completion
+use Rattle.chip.proofs.power_cut.Reads as power-cut
+use Rattle.chip.proofs.numbers.answer_number.Reads as answer-number
+use Rattle.chip.proofs.turns.frame_turn.Reads as frame-turn
+use Rattle.chip.proofs.turns.completion_turn.Reads as completion-turn
+use Rattle.chip.proofs.turns.cut_turn.Reads as cut-turn
 
-pub new-one : (r r′ : Chip) → r ≡ newChip → r′ ≡ newChip → r ≡ r′
-new-one r r′ e e′ = promises.one e e′
+abbrev Slice : Type 0
+Slice = RefT (List ℕ)
 
-pub frame-one : (c : Chip) (array security sent y m : List ℕ) (r₁ r₂ : After) (a₁ a₂ s₁ s₂ y₁ y₂ m₁ m₂ : List ℕ)
-    → FramePromise c array security sent y m r₁ a₁ s₁ y₁ m₁ → FramePromise c array security sent y m r₂ a₂ s₂ y₂ m₂
-    → promises.Same r₁ r₂ a₁ a₂ s₁ s₂ y₁ y₂ m₁ m₂
-frame-one c array security sent y m r₁ r₂ a₁ a₂ s₁ s₂ y₁ y₂ m₁ m₂ p q = promises.frame-one c array security sent y m r₁ r₂ a₁ a₂ s₁ s₂ y₁ y₂ m₁ m₂ p q
+pub new-one : (r s : Chip) → new.Post tt tt r tt → new.Post tt tt s tt → r ≡ s
+new-one r s p q = promises.one p q
 
-pub completion-one : (c : Chip) (array security : List ℕ) (r₁ r₂ : After) (a₁ a₂ s₁ s₂ : List ℕ)
-    → CompletionPromise c array security r₁ a₁ s₁ → CompletionPromise c array security r₂ a₂ s₂ → promises.Same r₁ r₂ a₁ a₂ s₁ s₂ [] [] [] []
-completion-one c array security r₁ r₂ a₁ a₂ s₁ s₂ p q = promises.completion-one c array security r₁ r₂ a₁ a₂ s₁ s₂ p q
+pub answer-number-one : (a x y : Answer × Unit {0}) (r s : ℕ) → answer-number.Post tt a r x → answer-number.Post tt a s y → r ≡ s
+answer-number-one a x y r s p q = promises.one p q
 
-pub power-cut-one : (c : Chip) (array security : List ℕ) (k : ℕ) (r₁ r₂ : After) (a₁ a₂ s₁ s₂ : List ℕ)
-    → CutPromise c array security k r₁ a₁ s₁ → CutPromise c array security k r₂ a₂ s₂ → promises.Same r₁ r₂ a₁ a₂ s₁ s₂ [] [] [] []
-power-cut-one c array security k r₁ r₂ a₁ a₂ s₁ s₂ p q = promises.cut-one c array security k r₁ r₂ a₁ a₂ s₁ s₂ p q
+-- ---- a frame, a completion, a power cut, by value
+
+module _ (κ : List ℕ × (List ℕ × (List ℕ × (List ℕ × (List ℕ × Unit {0}))))) (a x y : Chip × (Slice × (Slice × (Slice × (Slice × (Slice × Unit {0})))))) (r s : After) where
+  pub frame-one : frame.Post κ a r x → frame.Post κ a s y
+      → returnedOf r (x .1 .0 .now) (x .1 .1 .0 .now) (x .1 .1 .1 .1 .0 .now) (x .1 .1 .1 .1 .1 .0 .now)
+      ≡ returnedOf s (y .1 .0 .now) (y .1 .1 .0 .now) (y .1 .1 .1 .1 .0 .now) (y .1 .1 .1 .1 .1 .0 .now)
+  frame-one p q = promises.frame-one _ _ _ _ p q
+
+module _ (κ : List ℕ × (List ℕ × Unit {0})) (a x y : Chip × (Slice × (Slice × Unit {0}))) (r s : After) where
+  pub completion-one : completion.Post κ a r x → completion.Post κ a s y → returnedOf r (x .1 .0 .now) (x .1 .1 .0 .now) [] [] ≡ returnedOf s (y .1 .0 .now) (y .1 .1 .0 .now) [] []
+  completion-one p q = promises.completion-one _ _ _ p q
+
+module _ (κ : List ℕ × (List ℕ × Unit {0})) (a x y : Chip × (Slice × (Slice × (ℕ × Unit {0})))) (r s : After) where
+  pub power-cut-one : power-cut.Post κ a r x → power-cut.Post κ a s y → returnedOf r (x .1 .0 .now) (x .1 .1 .0 .now) [] [] ≡ returnedOf s (y .1 .0 .now) (y .1 .1 .0 .now) [] []
+  power-cut-one p q = promises.cut-one _ _ _ _ p q
+
+-- ---- the same with the page buffer in place
+
+module _ (κ : List ℕ × (List ℕ × (List ℕ × (List ℕ × (List ℕ × (List ℕ × Unit {0})))))) (a x y : Rest × (Slice × (Slice × (Slice × (Slice × (Slice × (Slice × Unit {0}))))))) (r s : Turn) where
+  pub frame-turn-one : frame-turn.Post κ a r x → frame-turn.Post κ a s y
+      → returnedOf (afterOf r (x .1 .0 .now)) (a .1 .1 .0 .now) (a .1 .1 .1 .0 .now) (x .1 .1 .1 .1 .1 .0 .now) (x .1 .1 .1 .1 .1 .1 .0 .now)
+      ≡ returnedOf (afterOf s (y .1 .0 .now)) (a .1 .1 .0 .now) (a .1 .1 .1 .0 .now) (y .1 .1 .1 .1 .1 .0 .now) (y .1 .1 .1 .1 .1 .1 .0 .now)
+  frame-turn-one p q = promises.frame-one _ _ _ _ p q
+
+module _ (κ : List ℕ × (List ℕ × (List ℕ × Unit {0}))) (a x y : Rest × (Slice × (Slice × (Slice × Unit {0})))) (r s : Turn) where
+  pub completion-turn-one : completion-turn.Post κ a r x → completion-turn.Post κ a s y
+      → returnedOf (afterOf r (x .1 .0 .now)) (x .1 .1 .0 .now) (x .1 .1 .1 .0 .now) [] [] ≡ returnedOf (afterOf s (y .1 .0 .now)) (y .1 .1 .0 .now) (y .1 .1 .1 .0 .now) [] []
+  completion-turn-one p q = promises.completion-one _ _ _ p q
+
+module _ (κ : List ℕ × (List ℕ × (List ℕ × Unit {0}))) (a x y : Rest × (Slice × (Slice × (Slice × (ℕ × Unit {0}))))) (r s : Turn) where
+  pub cut-turn-one : cut-turn.Post κ a r x → cut-turn.Post κ a s y
+      → returnedOf (afterOf r (x .1 .0 .now)) (x .1 .1 .0 .now) (x .1 .1 .1 .0 .now) [] [] ≡ returnedOf (afterOf s (y .1 .0 .now)) (y .1 .1 .0 .now) (y .1 .1 .1 .0 .now) [] []
+  cut-turn-one p q = promises.cut-one _ _ _ _ p q

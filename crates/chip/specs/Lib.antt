@@ -1,2 +1,2 @@
--- What a kind of frame shows.
-pub mod Showing
+-- The events where the page buffer lies with the caller.
+pub mod Turns

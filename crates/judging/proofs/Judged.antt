@@ -1,122 +1,141 @@
 -- The parts of the decision, put together. Assumes nothing.
-use Prim.Native.Nat.{ℕ, _+_, _*_, _/_, _≤_, _<_}
-use mathlib.Core.Path.{_≡_, sym, ap, _∙_, subst}
+use Prim.Native.Nat.{ℕ, _+_, _*_, _/_, _%_, _≤_, _<_}
+use mathlib.Core.Path.{_≡_, refl, sym, ap, _∙_}
 use mathlib.Core.Bool.{Bool, true, false, not, _&&_, _||_}
 use mathlib.Core.List.{List, [], _∷_}
 use native.Mathlib.Omega.{arith}
-use lib.ListN.{length}
 use lib.Dec.{eqb}
-use borrow.Author.Tests.{eq-eqb, ne-eqb}
+use lib.ListN.{length, drop, length-drop}
 use Rattle.rules.specs.declared.Block.{Block}
-use Rattle.rules.specs.declared.Chip.{Chip}
 use Rattle.rules.specs.declared.Form.{Form}
-use Rattle.rules.specs.declared.Kind.{Kind}
-use Rattle.rules.specs.declared.Long.{Long}
 use Rattle.rules.specs.declared.Range.{Range}
+use Rattle.rules.specs.declared.Rest.{Rest}
 use Rattle.rules.specs.declared.Work.{Work}
-use Rattle.rules.specs.Words.{pick, oneOf, range, holds}
-use Rattle.rules.specs.Blocks.{arraySize, blockOf, blockAt, span}
-use Rattle.rules.specs.Works.{isNothing, isErase, isProgram, arrayRange}
-use Rattle.rules.specs.Frames.{address, formOf, listed, leastLength, lengthRight, opcode}
+use Rattle.rules.specs.Words.{oneOf}
+use Rattle.rules.specs.Blocks.{arraySize, blockOf, blockAt, writeLocked}
+use Rattle.rules.specs.Works.{isNothing, canSuspend, arrayRange}
+use Rattle.rules.specs.Frames.{formOf, listed, lengthRight, address, securityAddress}
+use Rattle.rules.specs.Programs.{reaches, reachesFirst}
 use Rattle.rules.specs.WellFormed.{numbersRight}
-use Rattle.rules.specs.Numbers.{notListed, wrongLength, whileBusy, noEnable, noIoc, suspension, closed, lockedTarget, test, first, commandTests}
+use Rattle.rules.specs.Numbers.{notListed, wrongLength, whileBusy, noEnable, noIoc, suspension, noWel, closed, lockedTarget, first, commandTests}
+use Rattle.rules.proofs.Bools.{or-none}
 use Rattle.rules.proofs.Blocks.{blockOf-lt, block-placed}
 use Rattle.rules.proofs.Ranges.{array-inside}
-use Rattle.rules.proofs.WellFormed.{well-of}
-use Rattle.judging.specs.ByKind.{startLength, startConflict, lookedAt, conflict, needsWel, closedBy, lockedBy, laterTests, Judgeable, Weighable}
-use Rattle.judging.proofs.Conditions.{or-none, conflict-is, latched-is, closed-is, locked-is, looked-at}
+use Rattle.rules.proofs.WellFormed.{nothing}
+use Rattle.judging.specs.Judging.{Judgeable}
 
--- the bytes of a long command, of a known one
-pub long-length : (l m : Long) (sent : List ℕ) → l ≡ m → startLength l ≤ length sent → startLength m ≤ length sent
-long-length l m sent e h = subst (λ (x : Long). startLength x ≤ length sent) e h
-
-pub kind-length : (k m : Kind) (sent : List ℕ) → k ≡ m → lookedAt k ≤ length sent → lookedAt m ≤ length sent
-kind-length k m sent e h = subst (λ (x : Kind). lookedAt x ≤ length sent) e h
-
--- an address is a place of the array
-pub address-low : (a : ℕ) (sent : List ℕ) → a ≡ address sent → a < arraySize
-address-low a sent e = omega arith
+-- ---- ranges
 
 pub found-inside : (w : Work) (r : Range) → numbersRight w ≡ true → r ≡ arrayRange w → r .start + r .size ≤ arraySize
 found-inside w r h e = rw e (array-inside w h)
 
-pub block-inside : (a n : ℕ) (b : Block) (sent : List ℕ) → a ≡ address sent → n ≡ blockOf a → b ≡ blockAt n → (n < 40) × (b .start + b .size ≤ arraySize)
-block-inside a n b sent e f g =
-    let h : n < 40 = rw f (blockOf-lt a (address-low a sent e)) in
-    (h, rw g (block-placed n h .inside))
+pub block-found : (a n : ℕ) → a < arraySize → n ≡ blockOf a → n < 40
+block-found a n h e = rw e (blockOf-lt a h)
 
-module _ (sent : List ℕ) (s : Work) (r : Range) (a : ℕ) (x y h : Bool) (ea : a ≡ address sent) (er : r ≡ arrayRange s) (ex : x ≡ isErase s) (ey : y ≡ isProgram s) where
-  pub sector-conflict : (l : Long) → l ≡ Long.Sector → h ≡ holds (range (a / 4096 * 4096) 4096) (r .start) → (x || y && h) ≡ startConflict l s sent
-  sector-conflict l el eh = rw (eh, ex, ey, er, ea, el)
+pub block-inside : (n : ℕ) (b : Block) → n < 40 → b ≡ blockAt n → b .start + b .size ≤ arraySize
+block-inside n b h e = rw e (block-placed n h .inside)
 
-  pub block-conflict : (l : Long) (n : ℕ) (b : Block) → l ≡ Long.Block → n ≡ blockOf a → b ≡ blockAt n → h ≡ holds (span b) (r .start) → (x || y && h) ≡ startConflict l s sent
-  block-conflict l n b el en eb eh = rw (eh, ex, ey, er, eb, en, ea, el)
+-- ---- 8, with nothing suspended
 
-  pub page-conflict : (l : Long) → l ≡ Long.Page → h ≡ holds r a → (x && h || y) ≡ startConflict l s sent
-  page-conflict l el eh = rw (eh, ex, ey, er, ea, el)
+and-true : (a : Bool) → (a && true) ≡ a
+and-true true = refl
+and-true false = refl
 
--- ---- the seven conditions as the code finds them
+and-none : (a : Bool) → (a && false) ≡ false
+and-none true = refl
+and-none false = refl
 
-module _ (c : Chip) (o : ℕ) (k : Kind) (sent : List ℕ) (w : Weighable c o k sent) where
-  pub suspended-right : numbersRight (c .suspended) ≡ true
-  suspended-right = well-of c (w .well) .works .suspended
+or-three : (a : Bool) → a ≡ (a || false || false || false)
+or-three true = refl
+or-three false = refl
 
-  pub enough : lookedAt k ≤ length sent
-  enough = rw (w .its-kind) (looked-at o (length sent) (c .sqi) (w .is-listed) (w .is-long))
+pub none-beside : (r : Rest) (o : ℕ) (sent : List ℕ) → isNothing (r .works .suspended) ≡ true
+    → (oneOf o (0xB0 ∷ []) && not (canSuspend (r .works .running)) || oneOf o (0x30 ∷ [])) ≡ suspension r o sent
+none-beside r o sent e =
+    let b = oneOf o (0xB0 ∷ []) in
+    let c = canSuspend (r .works .running) in
+    let t = oneOf o (0x30 ∷ []) in
+    let w = oneOf o (0xC7 ∷ 0x01 ∷ 0x42 ∷ 0x8D ∷ 0xE8 ∷ 0x98 ∷ 0xA5 ∷ 0x85 ∷ []) in
+    rw (nothing (r .works .suspended) e, and-true c, and-true t, and-none w) (or-three (b && not c || t))
 
-  pub weighed : (i p x b n u l : Bool) → i ≡ isNothing (c .running) → p ≡ oneOf o (0x05 ∷ 0x66 ∷ 0x99 ∷ 0xB0 ∷ []) → x ≡ oneOf o (0x6B ∷ 0x32 ∷ [])
-      → b ≡ conflict k (c .running) (c .suspended) sent → n ≡ needsWel k → u ≡ closedBy k (c .wpld) (c .sec) sent → l ≡ lockedBy k (c .protection) sent
-      → (z : ℕ)
-      → z ≡ first (test 5 (not i && not p) ∷ test 6 (eqb o 0x99 && not (c .enable)) ∷ test 7 (x && not (c .ioc)) ∷ test 8 b ∷ test 9 (n && not (c .wel)) ∷ test 10 u ∷ test 11 l ∷ [])
-      → z ≡ first (laterTests c o sent)
-  weighed i p x b n u l ei ep ex eb en eu el z e =
-      e
-      ∙ ap (λ (y : Bool). first (test 5 (not i && not p) ∷ test 6 (y && not (c .enable)) ∷ test 7 (x && not (c .ioc)) ∷ test 8 b ∷ test 9 (n && not (c .wel)) ∷ test 10 u ∷ test 11 l ∷ [])) (sym (or-none (eqb o 0x99)))
-      ∙ rw (ei, ep, ex, eb ∙ k-is conflict-k ∙ sym (conflict-is c o sent (c .sqi) (w .is-listed)), en, eu ∙ k-is closed-k ∙ sym (closed-is c o sent (c .sqi) (w .is-listed)), el ∙ k-is locked-k ∙ sym (locked-is c o sent (c .sqi) (w .is-listed)))
-      (ap (λ (y : Bool). first (test 5 (whileBusy c o) ∷ test 6 (noEnable c o) ∷ test 7 (noIoc c o) ∷ test 8 (suspension c o sent) ∷ test 9 y ∷ test 10 (closed c o sent) ∷ test 11 (lockedTarget c o sent) ∷ []))
-      (k-is wel-k ∙ sym (latched-is c o (c .sqi) (w .is-listed))))
-    where
-      conflict-k : Kind → Bool
-      conflict-k k = conflict k (c .running) (c .suspended) sent
+-- ---- 10 and 11
 
-      closed-k : Kind → Bool
-      closed-k k = closedBy k (c .wpld) (c .sec) sent
+pub no-data : (sent : List ℕ) → length sent < 4 → false ≡ reachesFirst sent
+unfolding reachesFirst reaches
+no-data sent h = go (drop 3 sent) (let e = length-drop 3 sent in omega arith)
+  where
+    a : ℕ
+    a = securityAddress sent
 
-      locked-k : Kind → Bool
-      locked-k k = lockedBy k (c .protection) sent
+    go : (ds : List ℕ) → length ds ≡ 0 → false ≡ reaches (a / 256 * 256) (a % 256) ds
+    go [] e = refl
+    go (d ∷ ds) e = absurd (omega arith)
 
-      wel-k : Kind → Bool
-      wel-k k = needsWel k && not (c .wel)
+pub closed-other : (r : Rest) (o : ℕ) (sent : List ℕ) → eqb o 0xA5 ≡ false
+    → (oneOf o (0x42 ∷ 0x98 ∷ []) && r .flags .wpld || oneOf o (0xA5 ∷ 0x85 ∷ []) && r .flags .sec) ≡ closed r o sent
+closed-other r o sent e = rw e (sym (or-none _))
 
-      k-is : (f : Kind → Bool) → f k ≡ f (formOf o .kind)
-      k-is f = ap f (w .its-kind)
+pub locked-block : (r : Rest) (o : ℕ) (sent : List ℕ) → eqb o 0xC7 ≡ false → oneOf o (0x20 ∷ 0xD8 ∷ 0x02 ∷ 0x32 ∷ []) ≡ true
+    → writeLocked (r .locks .protection) (address sent) ≡ lockedTarget r o sent
+locked-block r o sent e t = rw (t, e) (sym (or-none _))
 
--- ---- the two conditions before
+pub locked-none : (r : Rest) (o : ℕ) (sent : List ℕ) → eqb o 0xC7 ≡ false → oneOf o (0x20 ∷ 0xD8 ∷ 0x02 ∷ 0x32 ∷ []) ≡ false → false ≡ lockedTarget r o sent
+locked-none r o sent e t = rw (t, e)
 
-pub not-listed : (c : Chip) (o : ℕ) (f : Form) (sent : List ℕ) (n : ℕ) → Judgeable c o f sent → n ≡ leastLength (c .sqi) f → n ≡ 0 → 3 ≡ first (commandTests c sent)
-unfolding commandTests
-not-listed c o f sent n j e z =
-    sym (ap (λ (b : Bool). pick b 3 (first (test 4 (wrongLength c (opcode sent) sent) ∷ laterTests c (opcode sent) sent)))
-    (ap not (ap not (eq-eqb (leastLength (c .sqi) (formOf (opcode sent))) 0 (ap (leastLength (c .sqi)) (sym (j .its-form ∙ ap formOf (j .first-byte))) ∙ sym e ∙ z)))))
+-- ---- the first that applies
 
-pub is-listed : (c : Chip) (o : ℕ) (f : Form) (sent : List ℕ) (n : ℕ) → Judgeable c o f sent → n ≡ leastLength (c .sqi) f → (n ≡ 0 → ⊥) → listed (c .sqi) (formOf o) ≡ true
-is-listed c o f sent n j e z = ap not (ne-eqb (leastLength (c .sqi) (formOf o)) 0 (λ q. z (e ∙ ap (leastLength (c .sqi)) (j .its-form) ∙ q)))
+module _ {r : Rest} {o : ℕ} {f : Form} {sent : List ℕ} (j : Judgeable r o f sent) where
+  pub not-listed : {b x : Bool} → b ≡ not (listed (r .flags .sqi) f) → b ≡ x → notListed r o ≡ x
+  not-listed e t = ap (λ (f : Form). not (listed (r .flags .sqi) f)) (sym (j .its-form)) ∙ sym e ∙ t
 
-pub length-known : (c : Chip) (o : ℕ) (f : Form) (sent : List ℕ) (x : Bool) → Judgeable c o f sent → x ≡ lengthRight (c .sqi) f (length sent) → x ≡ lengthRight (c .sqi) (formOf o) (length sent)
-length-known c o f sent x j e = e ∙ ap (λ (f : Form). lengthRight (c .sqi) f (length sent)) (j .its-form)
+  pub wrong-length : {b x : Bool} → b ≡ not (lengthRight (r .flags .sqi) f (length sent)) → b ≡ x → wrongLength r o sent ≡ x
+  wrong-length e t = ap (λ (f : Form). not (lengthRight (r .flags .sqi) f (length sent))) (sym (j .its-form)) ∙ sym e ∙ t
 
--- listed: the first condition does not hold
-pub after-listed : (c : Chip) (o : ℕ) (f : Form) (sent : List ℕ) (z : ℕ) → Judgeable c o f sent → listed (c .sqi) (formOf o) ≡ true
-    → z ≡ first (test 4 (wrongLength c o sent) ∷ laterTests c o sent) → z ≡ first (commandTests c sent)
-unfolding commandTests
-after-listed c o f sent z j l e =
-    e ∙ ap (λ (b : Bool). pick b 3 (first (test 4 (wrongLength c o sent) ∷ laterTests c o sent))) (sym (ap not l))
-    ∙ ap (λ (o : ℕ). first (test 3 (notListed c o) ∷ test 4 (wrongLength c o sent) ∷ laterTests c o sent)) (j .first-byte)
+  module _ (t₃ : notListed r o ≡ true) where
+    pub is-3 : 3 ≡ first (commandTests r sent)
+    unfolding commandTests
+    is-3 = rw (sym (j .first-byte), t₃)
 
-pub wrong-length : (c : Chip) (o : ℕ) (sent : List ℕ) (x : Bool) → x ≡ lengthRight (c .sqi) (formOf o) (length sent) → x ≡ false
-    → 4 ≡ first (test 4 (wrongLength c o sent) ∷ laterTests c o sent)
-wrong-length c o sent x e t = sym (ap (λ (b : Bool). pick b 4 (first (laterTests c o sent))) (ap not (sym e ∙ t)))
+  module _ (f₃ : notListed r o ≡ false) where
+    pub is-4 : wrongLength r o sent ≡ true → 4 ≡ first (commandTests r sent)
+    unfolding commandTests
+    is-4 t = rw (sym (j .first-byte), f₃, t)
 
-pub right-length : (c : Chip) (o : ℕ) (sent : List ℕ) (x : Bool) (z : ℕ) → x ≡ lengthRight (c .sqi) (formOf o) (length sent) → x ≡ true
-    → z ≡ first (laterTests c o sent) → z ≡ first (test 4 (wrongLength c o sent) ∷ laterTests c o sent)
-right-length c o sent x z e t f = f ∙ sym (ap (λ (b : Bool). pick b 4 (first (laterTests c o sent))) (ap not (sym e ∙ t)))
+    module _ (f₄ : wrongLength r o sent ≡ false) where
+      pub is-5 : whileBusy r o ≡ true → 5 ≡ first (commandTests r sent)
+      unfolding commandTests
+      is-5 t = rw (sym (j .first-byte), f₃, f₄, t)
+
+      module _ (f₅ : whileBusy r o ≡ false) where
+        pub is-6 : noEnable r o ≡ true → 6 ≡ first (commandTests r sent)
+        unfolding commandTests
+        is-6 t = rw (sym (j .first-byte), f₃, f₄, f₅, t)
+
+        module _ (f₆ : noEnable r o ≡ false) where
+          pub is-7 : noIoc r o ≡ true → 7 ≡ first (commandTests r sent)
+          unfolding commandTests
+          is-7 t = rw (sym (j .first-byte), f₃, f₄, f₅, f₆, t)
+
+          module _ (f₇ : noIoc r o ≡ false) where
+            pub is-8 : suspension r o sent ≡ true → 8 ≡ first (commandTests r sent)
+            unfolding commandTests
+            is-8 t = rw (sym (j .first-byte), f₃, f₄, f₅, f₆, f₇, t)
+
+            module _ (f₈ : suspension r o sent ≡ false) where
+              pub is-9 : noWel r o ≡ true → 9 ≡ first (commandTests r sent)
+              unfolding commandTests
+              is-9 t = rw (sym (j .first-byte), f₃, f₄, f₅, f₆, f₇, f₈, t)
+
+              module _ (f₉ : noWel r o ≡ false) where
+                pub is-10 : closed r o sent ≡ true → 10 ≡ first (commandTests r sent)
+                unfolding commandTests
+                is-10 t = rw (sym (j .first-byte), f₃, f₄, f₅, f₆, f₇, f₈, f₉, t)
+
+                module _ (f₁₀ : closed r o sent ≡ false) where
+                  pub is-11 : lockedTarget r o sent ≡ true → 11 ≡ first (commandTests r sent)
+                  unfolding commandTests
+                  is-11 t = rw (sym (j .first-byte), f₃, f₄, f₅, f₆, f₇, f₈, f₉, f₁₀, t)
+
+                  pub is-0 : lockedTarget r o sent ≡ false → 0 ≡ first (commandTests r sent)
+                  unfolding commandTests
+                  is-0 f = rw (sym (j .first-byte), f₃, f₄, f₅, f₆, f₇, f₈, f₉, f₁₀, f)

@@ -1,310 +1,209 @@
-// The refusals 3 to 11 of a frame.
+// The refusals 3 to 11 of a frame, each by its opcode.
+mod named;
+
 use rules::Answer;
-use rules::Chip;
 use rules::Form;
-use rules::Kind;
-use rules::Long;
 use rules::Range;
 use rules::Refusal;
-use rules::Source;
+use rules::Rest;
 use rules::Work;
 ghost use mathlib.Core.Path.{_≡_};
-ghost use mathlib.Core.Bool.{true};
+ghost use mathlib.Core.Bool.{true, not, _&&_, _||_};
 ghost use mathlib.Core.List.{[], _∷_};
-ghost use Prim.Native.Nat.{ℕ, _^_, _≤_, _<_};
+ghost use Prim.Native.Nat.{_*_, _/_, _≤_};
 ghost use lib.ListN.{length};
-ghost use Rattle.rules.specs.Words.{oneOf};
-ghost use Rattle.rules.specs.Frames.{formOf, lengthRight, leastLength, opcode, address, securityAddress};
+ghost use Rattle.rules.specs.Words.{oneOf, range, holds};
+ghost use Rattle.rules.specs.Blocks.{blockOf, blockAt, span};
+ghost use Rattle.rules.specs.Works.{isErase, isProgram, arrayRange};
+ghost use Rattle.rules.specs.Frames.{leastLength, listed, lengthRight, address};
 ghost use Rattle.rules.specs.Programs.{reachesFirst};
-ghost use Rattle.rules.specs.WellFormed.{numbersRight, wellFormed};
-ghost use Rattle.rules.specs.Numbers.{answerNumber, test, first, commandTests};
-ghost use Rattle.judging.specs.ByKind.{needsWel, startConflict, conflict, startClosed, closedBy, startLocked, lockedBy, startLength, lookedAt, laterTests, Weighable, Judgeable};
+ghost use Rattle.rules.specs.WellFormed.{numbersRight};
+ghost use Rattle.rules.specs.Numbers.{answerNumber, whileBusy, noEnable, noIoc, suspension, noWel, closed, lockedTarget, first, commandTests};
+ghost use Rattle.judging.specs.Judging.{Judgeable};
 
-pub fn wide(x: u8) -> usize
-    ensures { λ r. ⌜ r ≡ x ⌝ }
+// ---- 3 to 7
+
+// The length of a form in the protocol in force.
+fn least_length(r: Rest, f: Form) -> usize
+    ensures { λ n. ⌜ n ≡ leastLength (r .flags .sqi) f ⌝ }
 {
-    x as usize
+    if r.flags.sqi { f.sqi } else { f.spi }
 }
 
-// The array address of a frame that has one.
-pub fn address_of(sent: &[u8]) -> usize
-    requires { ⌜ 4 ≤ length (now sent) ⌝ }
-    ensures { λ r. ⌜ r ≡ address (now (sent .entry)) ⌝ }
+fn not_listed(r: Rest, f: Form) -> bool
+    ensures { λ b. ⌜ b ≡ not (listed (r .flags .sqi) f) ⌝ }
 {
-    (wide(sent[1]) * 65536 + wide(sent[2]) * 256 + wide(sent[3])) % 2097152
+    !(least_length(r, f) != 0)
 }
 
-// The Security ID address of a frame that has one.
-pub fn security_address_of(sent: &[u8]) -> usize
-    requires { ⌜ 3 ≤ length (now sent) ⌝ }
-    ensures { λ r. ⌜ r ≡ securityAddress (now (sent .entry)) ⌝ }
+fn wrong_length(r: Rest, f: Form, n: usize) -> bool
+    ensures { λ b. ⌜ b ≡ not (lengthRight (r .flags .sqi) f n) ⌝ }
 {
-    (wide(sent[1]) * 256 + wide(sent[2])) % 2048
+    let least = least_length(r, f);
+    !((n == least) | f.more & (least < n))
 }
 
-// BUSY lets 05, 66, 99 and B0 through.
-fn passes_busy(op: u8) -> bool
-    ensures { λ r. ⌜ r ≡ oneOf op (0x05 ∷ 0x66 ∷ 0x99 ∷ 0xB0 ∷ []) ⌝ }
+fn while_busy(r: Rest, op: u8) -> bool
+    ensures { λ b. ⌜ b ≡ whileBusy r op ⌝ }
 {
-    match op {
-        0x05 | 0x66 | 0x99 | 0xb0 => true,
-        _ => false,
+    let works = r.works;
+    let run = works.running;
+    !blocks::is_nothing(run) & !named::passes_busy(op)
+}
+
+fn no_enable(r: Rest, op: u8) -> bool
+    ensures { λ b. ⌜ b ≡ noEnable r op ⌝ }
+{
+    named::is(op, 0x99) & !r.flags.enable
+}
+
+fn no_ioc(r: Rest, op: u8) -> bool
+    ensures { λ b. ⌜ b ≡ noIoc r op ⌝ }
+{
+    named::needs_ioc(op) & !r.flags.ioc
+}
+
+// ---- 8
+
+// With WSE 1.
+fn beside_erase(aside: Work, op: u8, sent: &[u8]) -> bool
+    requires { ⌜ numbersRight aside ≡ true ⌝ }
+    ensures { λ b. ⌜ b ≡ (isErase aside && (oneOf op (0x20 ∷ 0xD8 ∷ []) || oneOf op (0x02 ∷ 0x32 ∷ []) && holds (arrayRange aside) (address (now (sent .entry))))) ⌝ }
+{
+    let erased = blocks::array_range(aside);
+    let into = blocks::holds_place(erased, opcodes::address_of(sent));
+    blocks::is_erase(aside) & (named::erases(op) | named::programs(op) & into)
+}
+
+// With WSP 1.
+fn beside_program(aside: Work, op: u8, sent: &[u8]) -> bool
+    requires { ⌜ numbersRight aside ≡ true ⌝ }
+    ensures { λ b. ⌜ b ≡ (isProgram aside && (oneOf op (0x02 ∷ 0x32 ∷ []) || oneOf op (0x20 ∷ []) && holds (range (address (now (sent .entry)) / 4096 * 4096) 4096) (arrayRange aside .start) || oneOf op (0xD8 ∷ []) && holds (span (blockAt (blockOf (address (now (sent .entry)))))) (arrayRange aside .start))) ⌝ }
+{
+    let page = blocks::array_range(aside);
+    let a = opcodes::address_of(sent);
+    let sector = Range {
+        start: a / 4096 * 4096,
+        size: 4096,
+    };
+    let b = blocks::block_at(blocks::block_of(a));
+    let block = Range {
+        start: b.start,
+        size: b.size,
+    };
+    let in_sector = blocks::holds_place(sector, page.start);
+    let in_block = blocks::holds_place(block, page.start);
+    blocks::is_program(aside)
+        & (named::programs(op) | named::is(op, 0x20) & in_sector | named::is(op, 0xd8) & in_block)
+}
+
+// 8, clause by clause.
+fn conflicts_beside(r: Rest, op: u8, sent: &[u8]) -> bool
+    requires { ⌜ numbersRight (r .works .suspended) ≡ true ⌝ }
+    ensures { λ b. ⌜ b ≡ suspension r op (now (sent .entry)) ⌝ }
+{
+    let works = r.works;
+    let run = works.running;
+    let aside = works.suspended;
+    let wrongly = named::is(op, 0xb0) & !(blocks::can_suspend(run) & blocks::is_nothing(aside));
+    let nothing = named::is(op, 0x30) & blocks::is_nothing(aside);
+    let waits = named::must_wait(op) & !blocks::is_nothing(aside);
+    let erase = beside_erase(aside, op, sent);
+    let program = beside_program(aside, op, sent);
+    wrongly | nothing | waits | erase | program
+}
+
+// 8: with nothing suspended only B0 and 30 can conflict.
+fn conflicts(r: Rest, op: u8, sent: &[u8]) -> bool
+    requires { ⌜ numbersRight (r .works .suspended) ≡ true ⌝ }
+    ensures { λ b. ⌜ b ≡ suspension r op (now (sent .entry)) ⌝ }
+{
+    let works = r.works;
+    let run = works.running;
+    let aside = works.suspended;
+    if blocks::is_nothing(aside) {
+        return named::is(op, 0xb0) & !blocks::can_suspend(run) | named::is(op, 0x30);
     }
+    conflicts_beside(r, op, sent)
 }
 
-// 6B and 32 need IOC.
-fn needs_ioc(op: u8) -> bool
-    ensures { λ r. ⌜ r ≡ oneOf op (0x6B ∷ 0x32 ∷ []) ⌝ }
-{
-    (op == 0x6b) | (op == 0x32)
-}
+// ---- 9 to 11
 
-// What starts work or changes protection needs WEL.
-fn needs_wel(k: Kind) -> bool
-    ensures { λ r. ⌜ r ≡ needsWel k ⌝ }
+fn no_wel(r: Rest, op: u8) -> bool
+    ensures { λ b. ⌜ b ≡ noWel r op ⌝ }
 {
-    match k {
-        Kind::Nothing => false,
-        Kind::EnableReset => false,
-        Kind::Reset => false,
-        Kind::ToSqi => false,
-        Kind::ToSpi => false,
-        Kind::Show(_) => false,
-        Kind::SetWel => false,
-        Kind::ClearWel => false,
-        Kind::Begin(_) => true,
-        Kind::WriteProtection => true,
-        Kind::LockDown => true,
-        Kind::ClearLocks => true,
-        Kind::Suspend => false,
-        Kind::Resume => false,
-    }
-}
-
-// 8 of a long command, beside suspended work s.
-fn start_conflicts(l: Long, s: Work, sent: &[u8]) -> bool
-    requires { ⌜ (numbersRight s ≡ true) × (startLength l ≤ length (now sent)) ⌝ }
-    ensures { λ b. ⌜ b ≡ startConflict l s (now (sent .entry)) ⌝ }
-{
-    match l {
-        Long::Sector => {
-            let a = address_of(sent);
-            let aside = blocks::array_range(s);
-            let sector = Range {
-                start: a / 4096 * 4096,
-                size: 4096,
-            };
-            records::is_erase(s) | records::is_program(s) & blocks::holds_place(sector, aside.start)
-        }
-        Long::Block => {
-            let a = address_of(sent);
-            let aside = blocks::array_range(s);
-            let n = blocks::block_of(a);
-            let b = blocks::block_at(n);
-            let block = Range {
-                start: b.start,
-                size: b.size,
-            };
-            records::is_erase(s) | records::is_program(s) & blocks::holds_place(block, aside.start)
-        }
-        Long::Array => !records::is_nothing(s),
-        Long::Page => {
-            let a = address_of(sent);
-            let aside = blocks::array_range(s);
-            records::is_erase(s) & blocks::holds_place(aside, a) | records::is_program(s)
-        }
-        Long::SecurityPage => !records::is_nothing(s),
-        Long::SecurityLock => !records::is_nothing(s),
-        Long::Configuration => !records::is_nothing(s),
-        Long::Permanent => !records::is_nothing(s),
-    }
-}
-
-// 8 of a frame of kind k, with running work r and suspended work s.
-fn conflicts(k: Kind, r: Work, s: Work, sent: &[u8]) -> bool
-    requires { ⌜ (numbersRight s ≡ true) × (lookedAt k ≤ length (now sent)) ⌝ }
-    ensures { λ b. ⌜ b ≡ conflict k r s (now (sent .entry)) ⌝ }
-{
-    match k {
-        Kind::Nothing => false,
-        Kind::EnableReset => false,
-        Kind::Reset => false,
-        Kind::ToSqi => false,
-        Kind::ToSpi => false,
-        Kind::Show(_) => false,
-        Kind::SetWel => false,
-        Kind::ClearWel => false,
-        Kind::Begin(l) => start_conflicts(l, s, sent),
-        Kind::WriteProtection => !records::is_nothing(s),
-        Kind::LockDown => !records::is_nothing(s),
-        Kind::ClearLocks => !records::is_nothing(s),
-        Kind::Suspend => !(records::can_suspend(r) & records::is_nothing(s)),
-        Kind::Resume => records::is_nothing(s),
-    }
+    named::needs_wel(op) & !r.flags.wel
 }
 
 // A5 sends a byte to places 0 to 7.
 fn reaches_first(sent: &[u8]) -> bool
-    requires { ⌜ (4 ≤ length (now sent)) × (length (now sent) ≤ 65536) ⌝ }
+    requires { ⌜ length (now sent) ≤ 65536 ⌝ }
     ensures { λ r. ⌜ r ≡ reachesFirst (now (sent .entry)) ⌝ }
 {
-    let a = security_address_of(sent);
+    if sent.len() < 4 {
+        return false;
+    }
+    let a = opcodes::security_address_of(sent);
     let at = a % 256;
     let n = sent.len() - 3;
     (a < 256) & ((at < 8) | (256 < at + n))
 }
 
-// 10 of a long command.
-fn start_closed(l: Long, sec: bool, sent: &[u8]) -> bool
-    requires { ⌜ (startLength l ≤ length (now sent)) × (length (now sent) ≤ 65536) ⌝ }
-    ensures { λ b. ⌜ b ≡ startClosed l sec (now (sent .entry)) ⌝ }
+fn is_closed(r: Rest, op: u8, sent: &[u8]) -> bool
+    requires { ⌜ length (now sent) ≤ 65536 ⌝ }
+    ensures { λ b. ⌜ b ≡ closed r op (now (sent .entry)) ⌝ }
 {
-    match l {
-        Long::Sector => false,
-        Long::Block => false,
-        Long::Array => false,
-        Long::Page => false,
-        Long::SecurityPage => sec | reaches_first(sent),
-        Long::SecurityLock => sec,
-        Long::Configuration => false,
-        Long::Permanent => false,
+    if op == 0xa5 {
+        return r.flags.sec | reaches_first(sent);
     }
+    named::changes_locks(op) & r.flags.wpld | named::to_security(op) & r.flags.sec
 }
 
-// 10 of a frame of kind k.
-fn is_closed(k: Kind, wpld: bool, sec: bool, sent: &[u8]) -> bool
-    requires { ⌜ (lookedAt k ≤ length (now sent)) × (length (now sent) ≤ 65536) ⌝ }
-    ensures { λ b. ⌜ b ≡ closedBy k wpld sec (now (sent .entry)) ⌝ }
+fn is_locked(r: Rest, op: u8, sent: &[u8]) -> bool
+    ensures { λ b. ⌜ b ≡ lockedTarget r op (now (sent .entry)) ⌝ }
 {
-    match k {
-        Kind::Nothing => false,
-        Kind::EnableReset => false,
-        Kind::Reset => false,
-        Kind::ToSqi => false,
-        Kind::ToSpi => false,
-        Kind::Show(_) => false,
-        Kind::SetWel => false,
-        Kind::ClearWel => false,
-        Kind::Begin(l) => start_closed(l, sec, sent),
-        Kind::WriteProtection => wpld,
-        Kind::LockDown => false,
-        Kind::ClearLocks => wpld,
-        Kind::Suspend => false,
-        Kind::Resume => false,
+    if op == 0xc7 {
+        return r.locks.protection & 0x5555_ffff_ffff != 0;
     }
-}
-
-// 11 of a long command.
-fn start_locked(l: Long, p: u64, sent: &[u8]) -> bool
-    requires { ⌜ startLength l ≤ length (now sent) ⌝ }
-    ensures { λ b. ⌜ b ≡ startLocked l p (now (sent .entry)) ⌝ }
-{
-    match l {
-        Long::Sector => blocks::write_locked(p, address_of(sent)),
-        Long::Block => blocks::write_locked(p, address_of(sent)),
-        Long::Array => p & 0x5555_ffff_ffff != 0,
-        Long::Page => blocks::write_locked(p, address_of(sent)),
-        Long::SecurityPage => false,
-        Long::SecurityLock => false,
-        Long::Configuration => false,
-        Long::Permanent => false,
+    if !named::in_a_block(op) {
+        return false;
     }
+    blocks::write_locked(r.locks.protection, opcodes::address_of(sent))
 }
 
-// 11 of a frame of kind k.
-fn is_locked(k: Kind, p: u64, sent: &[u8]) -> bool
-    requires { ⌜ lookedAt k ≤ length (now sent) ⌝ }
-    ensures { λ b. ⌜ b ≡ lockedBy k p (now (sent .entry)) ⌝ }
+// ---- the first that applies
+
+// The number of a frame that is not empty, with a well-formed record and right lengths.
+pub fn judge(r: Rest, op: u8, form: Form, sent: &[u8]) -> Answer
+    requires { ⌜ Judgeable r op form (now sent) ⌝ }
+    ensures { λ a. ⌜ answerNumber a ≡ first (commandTests r (now (sent .entry))) ⌝ }
 {
-    match k {
-        Kind::Nothing => false,
-        Kind::EnableReset => false,
-        Kind::Reset => false,
-        Kind::ToSqi => false,
-        Kind::ToSpi => false,
-        Kind::Show(_) => false,
-        Kind::SetWel => false,
-        Kind::ClearWel => false,
-        Kind::Begin(l) => start_locked(l, p, sent),
-        Kind::WriteProtection => false,
-        Kind::LockDown => false,
-        Kind::ClearLocks => false,
-        Kind::Suspend => false,
-        Kind::Resume => false,
+    if not_listed(r, form) {
+        return Answer::Refused(Refusal::NotListed);
     }
-}
-
-// The length of a form in the protocol in force.
-fn least_length(q: bool, f: Form) -> usize
-    ensures { λ r. ⌜ r ≡ leastLength q f ⌝ }
-{
-    if q { f.sqi } else { f.spi }
-}
-
-fn length_right(q: bool, f: Form, n: usize) -> bool
-    ensures { λ r. ⌜ r ≡ lengthRight q f n ⌝ }
-{
-    let least = least_length(q, f);
-    (n == least) | f.more & (least < n)
-}
-
-// The first of the conditions 5 to 11 that holds.
-fn lowest(b5: bool, b6: bool, b7: bool, b8: bool, b9: bool, b10: bool, b11: bool) -> Answer
-    ensures { λ r. ⌜ answerNumber r ≡ first (test 5 b5 ∷ test 6 b6 ∷ test 7 b7 ∷ test 8 b8 ∷ test 9 b9 ∷ test 10 b10 ∷ test 11 b11 ∷ []) ⌝ }
-{
-    if b5 {
+    if wrong_length(r, form, sent.len()) {
+        return Answer::Refused(Refusal::WrongLength);
+    }
+    if while_busy(r, op) {
         return Answer::Refused(Refusal::Busy);
     }
-    if b6 {
+    if no_enable(r, op) {
         return Answer::Refused(Refusal::NoEnable);
     }
-    if b7 {
+    if no_ioc(r, op) {
         return Answer::Refused(Refusal::NoIoc);
     }
-    if b8 {
+    if conflicts(r, op, sent) {
         return Answer::Refused(Refusal::Suspension);
     }
-    if b9 {
+    if no_wel(r, op) {
         return Answer::Refused(Refusal::NoWel);
     }
-    if b10 {
+    if is_closed(r, op, sent) {
         return Answer::Refused(Refusal::Closed);
     }
-    if b11 {
+    if is_locked(r, op, sent) {
         return Answer::Refused(Refusal::WriteLocked);
     }
     Answer::Done
-}
-
-// The conditions 5 to 11 of a frame of the right length.
-fn weigh(c: Chip, op: u8, kind: Kind, sent: &[u8]) -> Answer
-    requires { ⌜ Weighable c op kind (now sent) ⌝ }
-    ensures { λ r. ⌜ answerNumber r ≡ first (laterTests c op (now (sent .entry))) ⌝ }
-{
-    let run = c.running;
-    let aside = c.suspended;
-    let b5 = !records::is_nothing(run) & !passes_busy(op);
-    let b6 = (op == 0x99) & !c.enable;
-    let b7 = needs_ioc(op) & !c.ioc;
-    let b8 = conflicts(kind, run, aside, sent);
-    let b9 = needs_wel(kind) & !c.wel;
-    let b10 = is_closed(kind, c.wpld, c.sec, sent);
-    let b11 = is_locked(kind, c.protection, sent);
-    lowest(b5, b6, b7, b8, b9, b10, b11)
-}
-
-// The number of a frame that is not empty, with a well-formed record and right lengths.
-pub fn judge(c: Chip, op: u8, form: Form, sent: &[u8]) -> Answer
-    requires { ⌜ Judgeable c op form (now sent) ⌝ }
-    ensures { λ r. ⌜ answerNumber r ≡ first (commandTests c (now (sent .entry))) ⌝ }
-{
-    let sqi = c.sqi;
-    if least_length(sqi, form) == 0 {
-        return Answer::Refused(Refusal::NotListed);
-    }
-    if !length_right(sqi, form, sent.len()) {
-        return Answer::Refused(Refusal::WrongLength);
-    }
-    let kind = form.kind;
-    weigh(c, op, kind, sent)
 }

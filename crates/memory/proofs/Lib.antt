@@ -1,4 +1,5 @@
 -- Laws that the proofs cite.
 pub mod Patched
 pub mod Buffers
+pub mod Finishes
 pub mod Unique

@@ -1,11 +1,12 @@
 -- A loop that stores one byte after the other patches a list. Assumes nothing.
 use Prim.Native.Nat.{ℕ, _+_, _<_}
-use mathlib.Core.Path.{_≡_, refl, _∙_}
+use mathlib.Core.Path.{_≡_, refl, sym, _∙_}
 use mathlib.Core.List.{List}
 use native.Mathlib.Omega.{arith}
 use native.Mathlib.Decide.{ℕ-discrete}
-use lib.ListN.{length, getD, set, length-set}
-use lib.Seq.{getD-set-same, getD-set-other}
+use native.Mathlib.Nat.{zero-add}
+use lib.ListN.{length, getD, set, replicate, length-set, length-replicate, getD-replicate}
+use lib.Seq.{ext-getD, getD-set-same, getD-set-other}
 use Rattle.memory.specs.Patched.{Patched}
 
 pub patched-none : (l : List ℕ) (from : ℕ) (f : ℕ → ℕ) → Patched l l from 0 f
@@ -27,3 +28,9 @@ patched-more l l₀ from n v f h fits e =
 -- what the loop has not reached yet is as it was
 pub patched-next : (l l₀ : List ℕ) (from n : ℕ) (f : ℕ → ℕ) → Patched l l₀ from n f → getD l (from + n) 0 ≡ getD l₀ (from + n) 0
 patched-next l l₀ from n f h = h .after (from + n) (omega arith)
+
+-- a patch of the whole with one value
+pub patched-whole : (l l₀ : List ℕ) (n v : ℕ) → length l₀ ≡ n → Patched l l₀ 0 n (λ i. v) → l ≡ replicate n v
+patched-whole l l₀ n v e p =
+    ext-getD 0 l (replicate n v) (p .size ∙ e ∙ sym (length-replicate n v))
+    (λ i below. let h : i < n = let s = p .size in omega arith in (rw zero-add at (p .inside i h)) ∙ sym (getD-replicate n i v 0 h))

@@ -1,22 +1,28 @@
 -- No second outcome: whatever meets the guarantee of a public function of this crate at the same input is the same result and the same lent memory.
--- Loops leave one list; the rest are equations. Assumes nothing.
-use Prim.Native.Nat.{ℕ, _+_, _-_, _<_, min}
+-- A patch leaves one list; the rest are equations. Assumes nothing.
+use Prim.Native.Nat.{ℕ, _+_, _-_, _<_}
 use mathlib.Core.Path.{_≡_, sym, ap, _∙_}
-use mathlib.Core.Bool.{Bool}
 use mathlib.Core.List.{List}
 use native.Mathlib.Omega.{arith}
 use native.Mathlib.Decide.{decLt}
-use lib.ListN.{getD, drop}
+use lib.ListN.{getD}
 use lib.Seq.{ext-getD}
-use lib.Bits.{bitAnd}
-use Rattle.rules.specs.Programs.{blank, fill}
-use Rattle.rules.specs.WellFormed.{firstFF}
-use Rattle.rules.proofs.Promises.{one}
+use Rattle.rules.proofs.Promises.{one, lent-one}
+use Rattle.blocks.proofs.Unique.{OneResult}
 use Rattle.memory.specs.Patched.{Patched}
+use Rattle.memory.proofs.smaller.Reads as smaller
+use Rattle.memory.proofs.set_all.Reads as set-all
+use Rattle.memory.proofs.copy.Reads as copy
+use Rattle.memory.proofs.clear_bits.Reads as clear-bits
+use Rattle.memory.proofs.blank_page.Reads as blank-page
+use Rattle.memory.proofs.fill_page.Reads as fill-page
+use Rattle.memory.proofs.first_ff.Reads as first-ff
+use Rattle.memory.proofs.finish_array.Reads as finish-array
+use Rattle.memory.proofs.finish_security.Reads as finish-security
 
 -- a patch leaves no second list
-pub patched-one : (l k l₀ : List ℕ) (from n : ℕ) (f : ℕ → ℕ) → Patched l l₀ from n f → Patched k l₀ from n f → l ≡ k
-patched-one l k l₀ from n f p q = ext-getD 0 l k (p .size ∙ sym (q .size)) (λ i below. go i (decLt i from) (decLt i (from + n)))
+patched-one : {l k l₀ : List ℕ} {from n : ℕ} {f : ℕ → ℕ} → Patched l l₀ from n f → Patched k l₀ from n f → l ≡ k
+patched-one {l} {k} {l₀} {from} {n} {f} p q = ext-getD 0 l k (p .size ∙ sym (q .size)) (λ i below. go i (decLt i from) (decLt i (from + n)))
   where
     go : (i : ℕ) → Dec (i < from) → Dec (i < from + n) → getD l i 0 ≡ getD k i 0
     go i (yes b) d = p .before i b ∙ sym (q .before i b)
@@ -25,20 +31,33 @@ patched-one l k l₀ from n f p q = ext-getD 0 l k (p .size ∙ sym (q .size)) (
         ap (λ (x : ℕ). getD l x 0) (sym e) ∙ p .inside (i - from) (omega arith) ∙ sym (q .inside (i - from) (omega arith)) ∙ ap (λ (x : ℕ). getD k x 0) e
     go i (no b) (no d) = p .after i (omega arith) ∙ sym (q .after i (omega arith))
 
-pub smaller-one : (a b : ℕ) (r r′ : ℕ) → r ≡ min a b → r′ ≡ min a b → r ≡ r′
-smaller-one a b r r′ e e′ = one e e′
+-- a post-condition over lifetimes, arguments, the result and the arguments at exit leaves one list in the slice that `lies` finds
+abbrev pub OneList : {K A R : Type 0} → (K → A → R → A → Type 0) → (A → List ℕ) → Type 0
+OneList {K} {A} {R} Post lies = (κ : K) (a x y : A) (r r′ : R) → Post κ a r x → Post κ a r′ y → lies x ≡ lies y
 
-pub set-all-one : (from n v : ℕ) (s₀ s₁ s₂ : List ℕ) → Patched s₁ s₀ from n (λ i. v) → Patched s₂ s₀ from n (λ i. v) → s₁ ≡ s₂
-set-all-one from n v s₀ s₁ s₂ p q = patched-one s₁ s₂ s₀ from n (λ i. v) p q
+pub smaller-one : OneResult smaller.Post
+smaller-one κ a x y r r′ p q = one p q
 
-pub copy-one : (from n at : ℕ) (src s₀ s₁ s₂ : List ℕ) → Patched s₁ s₀ from n (λ i. getD src (at + i) 0) → Patched s₂ s₀ from n (λ i. getD src (at + i) 0) → s₁ ≡ s₂
-copy-one from n at src s₀ s₁ s₂ p q = patched-one s₁ s₂ s₀ from n (λ i. getD src (at + i) 0) p q
+pub set-all-one : OneList set-all.Post (λ a. a .0 .now)
+set-all-one κ a x y r r′ p q = patched-one p q
 
-pub clear-bits-one : (from n : ℕ) (buffer s₀ s₁ s₂ : List ℕ) → Patched s₁ s₀ from n (λ i. bitAnd (getD s₀ (from + i) 0) (getD buffer i 0)) → Patched s₂ s₀ from n (λ i. bitAnd (getD s₀ (from + i) 0) (getD buffer i 0)) → s₁ ≡ s₂
-clear-bits-one from n buffer s₀ s₁ s₂ p q = patched-one s₁ s₂ s₀ from n (λ i. bitAnd (getD s₀ (from + i) 0) (getD buffer i 0)) p q
+pub copy-one : OneList copy.Post (λ a. a .0 .now)
+copy-one κ a x y r r′ p q = patched-one p q
 
-pub page-buffer-one : (sent : List ℕ) (skip at : ℕ) (r r′ : List ℕ) → r ≡ fill blank at (drop skip sent) → r′ ≡ fill blank at (drop skip sent) → r ≡ r′
-page-buffer-one sent skip at r r′ e e′ = one e e′
+pub clear-bits-one : OneList clear-bits.Post (λ a. a .0 .now)
+clear-bits-one κ a x y r r′ p q = patched-one p q
 
-pub first-ff-one : (buffer : List ℕ) (n : ℕ) (r r′ : Bool) → r ≡ firstFF n buffer → r′ ≡ firstFF n buffer → r ≡ r′
-first-ff-one buffer n r r′ e e′ = one e e′
+pub blank-page-one : OneList blank-page.Post (λ a. a .0 .now)
+blank-page-one κ a x y r r′ p q = one p q
+
+pub fill-page-one : OneList fill-page.Post (λ a. a .0 .now)
+fill-page-one κ a x y r r′ p q = one p q
+
+pub first-ff-one : OneResult first-ff.Post
+first-ff-one κ a x y r r′ p q = one p q
+
+pub finish-array-one : OneList finish-array.Post (λ a. a .1 .1 .1 .0 .now)
+finish-array-one κ a x y r r′ p q = lent-one _ _ (one p q)
+
+pub finish-security-one : OneList finish-security.Post (λ a. a .1 .1 .1 .0 .now)
+finish-security-one κ a x y r r′ p q = lent-one _ _ (one p q)

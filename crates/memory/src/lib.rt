@@ -1,10 +1,15 @@
-// Loops over lent bytes and over the page buffer.
+// Loops over lent bytes: pieces of memory, the page buffer, and finishing the first k bytes of work.
+use rules::Work;
 ghost use mathlib.Core.Path.{_≡_};
+ghost use mathlib.Core.Bool.{true};
 ghost use Prim.Native.Nat.{_+_, _≤_, _<_, min};
 ghost use lib.ListN.{length, getD, drop};
 ghost use lib.Bits.{bitAnd};
+ghost use Rattle.rules.specs.Words.{lent};
+ghost use Rattle.rules.specs.Blocks.{arraySize, securitySize};
+ghost use Rattle.rules.specs.Works.{arrayRange, securityRange, finish};
 ghost use Rattle.rules.specs.Programs.{blank, fill};
-ghost use Rattle.rules.specs.WellFormed.{firstFF};
+ghost use Rattle.rules.specs.WellFormed.{firstFF, numbersRight};
 ghost use Rattle.memory.specs.Patched.{Patched};
 
 pub fn smaller(a: usize, b: usize) -> usize
@@ -37,43 +42,90 @@ pub fn copy(s: &mut [u8], from: usize, n: usize, src: &[u8], at: usize)
     }
 }
 
-// n bytes from `from` on keep only the bits that the buffer has too.
-pub fn clear_bits(s: &mut [u8], from: usize, n: usize, buffer: &[u8; 256])
-    requires { ⌜ (from + n ≤ length (now s)) × (n ≤ 256) ⌝ }
-    ensures { λ _. ⌜ Patched (now (s .exit)) (now (s .entry)) from n (λ i. bitAnd (getD (now (s .entry)) (from + i) 0) (getD (now (buffer .entry)) i 0)) ⌝ }
+// n bytes from `from` on keep only the bits that the page buffer has too.
+pub fn clear_bits(s: &mut [u8], from: usize, n: usize, page: &[u8])
+    requires { ⌜ (from + n ≤ length (now s)) × (n ≤ length (now page)) ⌝ }
+    ensures { λ _. ⌜ Patched (now (s .exit)) (now (s .entry)) from n (λ i. bitAnd (getD (now (s .entry)) (from + i) 0) (getD (now (page .entry)) i 0)) ⌝ }
 {
     let mut i: usize = 0;
     while i < n {
-        s[from + i] = s[from + i] & buffer[i];
+        s[from + i] = s[from + i] & page[i];
         i += 1;
     }
 }
 
-// The page buffer of the bytes sent from `skip` on, from place `at` of the page.
-pub fn page_buffer(sent: &[u8], skip: usize, at: usize) -> [u8; 256]
-    requires { ⌜ (at < 256) × ((skip ≤ length (now sent)) × (length (now sent) ≤ 65536)) ⌝ }
-    ensures { λ r. ⌜ r ≡ fill blank at (drop skip (now (sent .entry))) ⌝ }
+pub fn blank_page(page: &mut [u8])
+    requires { ⌜ length (now page) ≡ 256 ⌝ }
+    ensures { λ _. ⌜ now (page .exit) ≡ blank ⌝ }
 {
-    let mut page = [255u8; 256];
+    set_all(page, 0, 256, 255);
+}
+
+// The page buffer of the bytes sent from `skip` on, from place `at` of the page.
+pub fn fill_page(page: &mut [u8], sent: &[u8], skip: usize, at: usize)
+    requires { ⌜ (length (now page) ≡ 256) × ((at < 256) × (length (now sent) ≤ 65536)) ⌝ }
+    ensures { λ _. ⌜ now (page .exit) ≡ fill blank at (drop skip (now (sent .entry))) ⌝ }
+{
+    blank_page(page);
     let mut i = skip;
     while i < sent.len() {
         let to = (at + (i - skip)) % 256;
         page[to] = sent[i];
         i += 1;
     }
-    page
 }
 
 // The first n bytes of the buffer are FF. No early exit, so that a pass over the whole buffer is a few wide instructions.
-pub fn first_ff(buffer: &[u8; 256], n: usize) -> bool
-    requires { ⌜ n ≤ 256 ⌝ }
-    ensures { λ r. ⌜ r ≡ firstFF n (now (buffer .entry)) ⌝ }
+pub fn first_ff(page: &[u8], n: usize) -> bool
+    requires { ⌜ n ≤ length (now page) ⌝ }
+    ensures { λ r. ⌜ r ≡ firstFF n (now (page .entry)) ⌝ }
 {
     let mut other: u8 = 0;
     let mut i: usize = 0;
     while i < n {
-        other = other | (buffer[i] ^ 255);
+        other = other | (page[i] ^ 255);
         i += 1;
     }
     other == 0
+}
+
+// The first k bytes of the work's range in the array are finished.
+pub fn finish_array(w: Work, page: &[u8], k: usize, array: &mut [u8])
+    requires { ⌜ (numbersRight w ≡ true) × ((length (now array) ≡ arraySize) × (length (now page) ≡ 256)) ⌝ }
+    ensures { λ _. ⌜ lent (now (array .exit)) ≡ finish w (arrayRange w) (now (page .entry)) k (lent (now (array .entry))) ⌝ }
+{
+    match w {
+        Work::EraseSector(n) => {
+            let m = smaller(k, 4096);
+            set_all(array, n * 4096, m, 255);
+        }
+        Work::EraseBlock(n) => {
+            let b = blocks::block_at(n);
+            let m = smaller(k, b.size);
+            set_all(array, b.start, m, 255);
+        }
+        Work::EraseArray => {
+            let m = smaller(k, 2097152);
+            set_all(array, 0, m, 255);
+        }
+        Work::ProgramPage(n) => {
+            let m = smaller(k, 256);
+            clear_bits(array, n * 256, m, page);
+        }
+        _ => {}
+    }
+}
+
+// And in the Security ID: only an A5 has a range there.
+pub fn finish_security(w: Work, page: &[u8], k: usize, security: &mut [u8])
+    requires { ⌜ (numbersRight w ≡ true) × ((length (now security) ≡ securitySize) × (length (now page) ≡ 256)) ⌝ }
+    ensures { λ _. ⌜ lent (now (security .exit)) ≡ finish w (securityRange w) (now (page .entry)) k (lent (now (security .entry))) ⌝ }
+{
+    match w {
+        Work::ProgramSecurity(n) => {
+            let m = smaller(k, 256);
+            clear_bits(security, n * 256, m, page);
+        }
+        _ => {}
+    }
 }

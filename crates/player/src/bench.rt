@@ -33,7 +33,7 @@ pub fn number_of(after: After) -> u8
     ensures { λ r. ⌜ r ≡ answerNumber (after .answer) ⌝ }
 {
     let answer = after.answer;
-    numbers::answer_number(answer)
+    chip::answer_number(answer)
 }
 
 // The bench after an event that gave these.

@@ -5,15 +5,19 @@ use crate::say::say_row;
 
 pub fn status_told(b: Bench) {
     let c = b.chip;
-    say_row(wording::status_row(b.line, acting::status_of(c)));
-    say_row(wording::configuration_row(acting::configuration_of(c)));
-    say_row(wording::protocol_row(c.sqi, c.enable));
+    let rest = c.rest;
+    let flags = rest.flags;
+    say_row(wording::status_row(b.line, acting::status_of(rest)));
+    say_row(wording::configuration_row(acting::configuration_of(rest)));
+    say_row(wording::protocol_row(flags.sqi, flags.enable));
 }
 
 pub fn work_told(b: Bench) {
     let c = b.chip;
-    let running = c.running;
-    let suspended = c.suspended;
+    let rest = c.rest;
+    let works = rest.works;
+    let running = works.running;
+    let suspended = works.suspended;
     say_row(wording::running_row(b.line, running));
     say_row(wording::suspended_row(suspended));
 }
@@ -28,9 +32,12 @@ fn blocks_told(protection: u64, permanent: u64) {
 
 pub fn locks_told(b: Bench) {
     let c = b.chip;
-    say_row(wording::locks_row(b.line, c.protection, c.permanent));
-    blocks_told(c.protection, c.permanent);
-    say_row(wording::lock_down_row(c.wpld));
+    let rest = c.rest;
+    let locks = rest.locks;
+    let flags = rest.flags;
+    say_row(wording::locks_row(b.line, locks.protection, locks.permanent));
+    blocks_told(locks.protection, locks.permanent);
+    say_row(wording::lock_down_row(flags.wpld));
 }
 
 // How many of the places from start on the array has.

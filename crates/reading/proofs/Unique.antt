@@ -1,16 +1,17 @@
--- No second outcome: whatever meets the guarantee of a public function of this crate at the same input is the same result and the same lent memory.
--- A reply that is filled to its end is one list. Assumes nothing.
-use Prim.Native.Nat.{ℕ, _+_, _-_, _*_, _/_, _%_, _^_}
+-- No second outcome: whatever meets the guarantee of a public function of this crate at the same input leaves the same lent memory. Stated over
+-- the guarantees themselves: a reply that is filled to its end is one list. Assumes nothing.
+use Prim.Native.Nat.{ℕ}
 use mathlib.Core.Path.{_≡_, sym, _∙_}
-use mathlib.Core.List.{List, [], _∷_}
+use mathlib.Core.List.{List}
 use native.Mathlib.Omega.{arith}
-use lib.Dec.{ltb}
-use lib.ListN.{length, getD}
 use lib.Seq.{ext-getD}
+use denote.Ref.{RefT}
 use Rattle.rules.specs.declared.Range.{Range}
-use Rattle.rules.specs.Words.{pick}
-use Rattle.rules.specs.Blocks.{securitySize}
-use Rattle.reading.specs.Upto.{Upto, cellFrom}
+use Rattle.reading.specs.Upto.{Upto}
+use Rattle.reading.proofs.read_array.Reads as read-array
+use Rattle.reading.proofs.read_security.Reads as read-security
+use Rattle.reading.proofs.read_protection.Reads as read-protection
+use Rattle.reading.proofs.read_identity.Reads as read-identity
 
 -- what is filled to its end leaves no second list
 pub upto-one : (l k : List ℕ) (n : ℕ) (f : ℕ → ℕ) → Upto l n n f → Upto k n n f → l ≡ k
@@ -18,20 +19,18 @@ upto-one l k n f p q =
     let e = p .size in
     ext-getD 0 l k (p .size ∙ sym (q .size)) (λ i below. p .at i (omega arith) ∙ sym (q .at i (omega arith)))
 
-pub read-array-one : (p : ℕ) (r : Range) (array : List ℕ) (at : ℕ) (y m y₁ m₁ y₂ m₂ : List ℕ)
-    → Upto y₁ (length y) (length y) (λ i. cellFrom p r array at i .byte) → Upto m₁ (length m) (length m) (λ i. cellFrom p r array at i .mark)
-    → Upto y₂ (length y) (length y) (λ i. cellFrom p r array at i .byte) → Upto m₂ (length m) (length m) (λ i. cellFrom p r array at i .mark)
-    → (y₁ ≡ y₂) × (m₁ ≡ m₂)
-read-array-one p r array at y m y₁ m₁ y₂ m₂ a b c d = (upto-one y₁ y₂ (length y) _ a c, upto-one m₁ m₂ (length m) _ b d)
+abbrev Slice : Type 0
+Slice = RefT (List ℕ)
 
-pub read-security-one : (security : List ℕ) (at : ℕ) (y y₁ y₂ : List ℕ)
-    → Upto y₁ (length y) (length y) (λ i. getD security ((at + i) % securitySize) 0) → Upto y₂ (length y) (length y) (λ i. getD security ((at + i) % securitySize) 0) → y₁ ≡ y₂
-read-security-one security at y y₁ y₂ a b = upto-one y₁ y₂ (length y) _ a b
+pub read-array-one : (κ : List ℕ × (List ℕ × (List ℕ × Unit {0}))) (a x y : ℕ × (Range × (Slice × (ℕ × (Slice × (Slice × Unit {0})))))) → read-array.Post κ a tt x → read-array.Post κ a tt y
+    → (x .1 .1 .1 .1 .0 .now ≡ y .1 .1 .1 .1 .0 .now) × (x .1 .1 .1 .1 .1 .0 .now ≡ y .1 .1 .1 .1 .1 .0 .now)
+read-array-one κ a x y p q = (upto-one _ _ _ _ (p .0) (q .0), upto-one _ _ _ _ (p .1) (q .1))
 
-pub read-protection-one : (p : ℕ) (y y₁ y₂ : List ℕ)
-    → Upto y₁ (length y) (length y) (λ i. pick (ltb i 6) (p / 2 ^ (8 * (5 - i)) % 256) 0) → Upto y₂ (length y) (length y) (λ i. pick (ltb i 6) (p / 2 ^ (8 * (5 - i)) % 256) 0) → y₁ ≡ y₂
-read-protection-one p y y₁ y₂ a b = upto-one y₁ y₂ (length y) _ a b
+pub read-security-one : (κ : List ℕ × (List ℕ × Unit {0})) (a x y : Slice × (ℕ × (Slice × Unit {0}))) → read-security.Post κ a tt x → read-security.Post κ a tt y → x .1 .1 .0 .now ≡ y .1 .1 .0 .now
+read-security-one κ a x y p q = upto-one _ _ _ _ p q
 
-pub read-identity-one : (y y₁ y₂ : List ℕ)
-    → Upto y₁ (length y) (length y) (λ i. getD (191 ∷ 38 ∷ 81 ∷ []) (i % 3) 0) → Upto y₂ (length y) (length y) (λ i. getD (191 ∷ 38 ∷ 81 ∷ []) (i % 3) 0) → y₁ ≡ y₂
-read-identity-one y y₁ y₂ a b = upto-one y₁ y₂ (length y) _ a b
+pub read-protection-one : (κ : List ℕ × Unit {0}) (a x y : ℕ × (Slice × Unit {0})) → read-protection.Post κ a tt x → read-protection.Post κ a tt y → x .1 .0 .now ≡ y .1 .0 .now
+read-protection-one κ a x y p q = upto-one _ _ _ _ p q
+
+pub read-identity-one : (κ : List ℕ × Unit {0}) (a x y : Slice × Unit {0}) → read-identity.Post κ a tt x → read-identity.Post κ a tt y → x .0 .now ≡ y .0 .now
+read-identity-one κ a x y p q = upto-one _ _ _ _ p q

@@ -1,4 +1,4 @@
 -- Laws of the code.
-pub mod Parts
 pub mod Laws
 pub mod Faithful
+pub mod Unique

@@ -1,46 +1,82 @@
--- The 297 bytes of a chip record:
---   0 to 255     the page buffer
---   256 to 263   the protection register, low byte first
---   264 to 271   the permanent register, low byte first
---   272          what runs: 0 nothing, 1 sector erase, 2 block erase, 3 array erase, 4 page program, 5 Security ID program,
---                6 Security ID lock, 7 configuration, 8 permanent bits
---   273 to 280   its number, low byte first: the sector, block or page; of 7, IOC + 2 × WPEN; of 8, the bits; 0 for the others
---   281          what is suspended, by the same numbers
---   282 to 289   its number
---   290 to 296   SQI, WEL, IOC, WPEN, WPLD, SEC, and whether a 99 is taken next: each 0 or 1
+-- A chip record as 320 bytes: what crosses the boundary to other languages, fit to be stored. Numbers stand low byte first.
 use Prim.Native.Nat.{ℕ, zero, suc, _+_, _*_, _/_, _%_, _^_, _<_}
+use Prim.Native.String.{String, compare}
 use mathlib.Core.Path.{_≡_}
-use mathlib.Core.Bool.{Bool, _&&_, _||_}
+use mathlib.Core.Bool.{Bool, not, _&&_, _||_}
 use mathlib.Core.List.{List, [], _∷_, _++_}
-use lib.Dec.{eqb, ltb}
-use lib.ListN.{length, getD, take, drop}
+use lib.Dec.{eqb, isEq, ltb}
+use lib.ListN.{length, getD, take}
 use Rattle.rules.specs.declared.Chip.{Chip}
+use Rattle.rules.specs.declared.Flags.{Flags}
+use Rattle.rules.specs.declared.Rest.{Rest}
 use Rattle.rules.specs.declared.Work.{Work}
 use Rattle.rules.specs.declared.Work.the-variants.{Nothing, EraseSector, EraseBlock, EraseArray, ProgramPage, ProgramSecurity, LockSecurity, WriteConfiguration, AddPermanent}
-use Rattle.rules.specs.Words.{num, pick}
+use Rattle.rules.specs.Fields.{locksOf, worksOf, flagsOf, restOf, chipOf}
+use Rattle.rules.specs.Words.{bit, num, pick}
+
+-- ---- the layout
+
+-- the fields in their order, with the bytes that each takes
+abbrev pub layout : List (String × ℕ)
+layout =
+    ("page", 256)
+    ∷ ("protection", 8)
+    ∷ ("permanent", 8)
+    ∷ ("running number", 8)
+    ∷ ("suspended number", 8)
+    ∷ ("running kind", 1)
+    ∷ ("suspended kind", 1)
+    ∷ ("flags", 1)
+    ∷ ("reserved", 29)
+    ∷ []
+
+-- the bytes of a field, those before it, and those of all fields
+abbrev pub sizeIn : List (String × ℕ) → String → ℕ
+sizeIn [] f = 0
+sizeIn (e ∷ es) f = pick (isEq (compare (e .0) f)) (e .1) (sizeIn es f)
+
+abbrev pub placeIn : List (String × ℕ) → String → ℕ
+placeIn [] f = 0
+placeIn (e ∷ es) f = pick (isEq (compare (e .0) f)) 0 (e .1 + placeIn es f)
+
+abbrev pub total : List (String × ℕ) → ℕ
+total [] = 0
+total (e ∷ es) = e .1 + total es
+
+abbrev pub sizeOf : String → ℕ
+sizeOf = sizeIn layout
+
+abbrev pub placeOf : String → ℕ
+placeOf = placeIn layout
 
 abbrev pub recordSize : ℕ
-recordSize = 297
+recordSize = total layout
 
--- ---- numbers, low byte first
+-- ---- numbers in bytes
 
 -- the n lowest bytes of x
 unfoldable pub bytes : ℕ → ℕ → List ℕ
 bytes zero x = []
 bytes (suc n) x = x % 256 ∷ bytes n (x / 256)
 
--- the number of some bytes
-unfoldable pub number : List ℕ → ℕ
-number [] = 0
-number (b ∷ bs) = b + 256 * number bs
+-- the number in the n bytes from `at` on
+abbrev pub numberAt : List ℕ → ℕ → ℕ → ℕ
+numberAt l at zero = 0
+numberAt l at (suc n) = getD l at 0 + 256 * numberAt l (at + 1) n
 
--- n bytes from `at` on
-unfoldable pub part : List ℕ → ℕ → ℕ → List ℕ
-part l at n = take n (drop at l)
+-- the same of eight bytes, written out: what one load gives
+abbrev pub word : List ℕ → ℕ → ℕ
+word l at =
+    getD l at 0 + 256 * (getD l (at + 1) 0 + 256 * (getD l (at + 2) 0 + 256 * (getD l (at + 3) 0
+    + 256 * (getD l (at + 4) 0 + 256 * (getD l (at + 5) 0 + 256 * (getD l (at + 6) 0 + 256 * (getD l (at + 7) 0 + 256 * 0)))))))
 
--- the number in the eight bytes from `at` on
-unfoldable pub word : List ℕ → ℕ → ℕ
-word l at = number (part l at 8)
+-- the bytes of a field that holds x
+abbrev pub fieldOf : String → ℕ → List ℕ
+fieldOf f x = bytes (sizeOf f) x
+
+-- the number in a field
+abbrev pub fieldIn : List ℕ → String → ℕ
+fieldIn l f = numberAt l (placeOf f) (sizeOf f)
 
 -- ---- the code of a record
 
@@ -55,6 +91,7 @@ kindOf LockSecurity = 6
 kindOf (WriteConfiguration i w) = 7
 kindOf (AddPermanent v) = 8
 
+-- the sector, block or page; of a configuration, IOC and WPEN; of permanent bits, the bits
 abbrev pub numberOf : Work → ℕ
 numberOf Nothing = 0
 numberOf (EraseSector n) = n
@@ -66,22 +103,31 @@ numberOf LockSecurity = 0
 numberOf (WriteConfiguration i w) = num i + 2 * num w
 numberOf (AddPermanent v) = v
 
-unfoldable pub workCode : Work → List ℕ
-workCode w = (kindOf w ∷ []) ++ bytes 8 (numberOf w)
+-- from bit 0 on: SQI, WEL, IOC, WPEN, WPLD, SEC, and whether a 99 is taken next
+abbrev pub flagsNumber : Flags → ℕ
+flagsNumber f =
+    num (f .sqi) + 2 * num (f .wel) + 4 * num (f .ioc) + 8 * num (f .wpen) + 16 * num (f .wpld) + 32 * num (f .sec) + 64 * num (f .enable)
 
-unfoldable pub flags : Bool → Bool → Bool → Bool → Bool → Bool → Bool → List ℕ
-flags sqi wel ioc wpen wpld sec enable = num sqi ∷ num wel ∷ num ioc ∷ num wpen ∷ num wpld ∷ num sec ∷ num enable ∷ []
+-- what stands behind the page
+unfoldable pub restCode : Rest → List ℕ
+restCode r =
+    fieldOf "protection" (r .locks .protection)
+    ++ fieldOf "permanent" (r .locks .permanent)
+    ++ fieldOf "running number" (numberOf (r .works .running))
+    ++ fieldOf "suspended number" (numberOf (r .works .suspended))
+    ++ fieldOf "running kind" (kindOf (r .works .running))
+    ++ fieldOf "suspended kind" (kindOf (r .works .suspended))
+    ++ fieldOf "flags" (flagsNumber (r .flags))
+    ++ fieldOf "reserved" 0
 
 unfoldable pub code : Chip → List ℕ
-code c =
-    c .buffer ++ bytes 8 (c .protection) ++ bytes 8 (c .permanent) ++ workCode (c .running) ++ workCode (c .suspended)
-    ++ flags (c .sqi) (c .wel) (c .ioc) (c .wpen) (c .wpld) (c .sec) (c .enable)
+code c = c .buffer ++ restCode (c .rest)
 
 -- ---- the record of a code
 
--- nothing, the array and the Security ID lock have the number 0; a configuration is below 4
-unfoldable pub workRight : ℕ → ℕ → Bool
-workRight k n = pick (eqb k 0 || eqb k 3 || eqb k 6) (eqb n 0) (pick (eqb k 7) (ltb n 4) (ltb k 9))
+-- one of the nine kinds; the number is 0 for nothing, the array and the Security ID lock, and below 4 for a configuration
+abbrev pub workRight : ℕ → ℕ → Bool
+workRight k n = ltb k 9 && (not (eqb k 0 || eqb k 3 || eqb k 6) || eqb n 0) && (not (eqb k 7) || ltb n 4)
 
 unfoldable pub workOf : ℕ → ℕ → Work
 workOf k n =
@@ -91,37 +137,31 @@ workOf k n =
     (pick (eqb k 4) (ProgramPage n)
     (pick (eqb k 5) (ProgramSecurity n)
     (pick (eqb k 6) LockSecurity
-    (pick (eqb k 7) (WriteConfiguration (eqb (n % 2) 1) (eqb (n / 2 % 2) 1))
+    (pick (eqb k 7) (WriteConfiguration (bit 0 n) (bit 1 n))
     (pick (eqb k 8) (AddPermanent n)
     Nothing)))))))
 
--- the kind at `at` and its number behind it
-abbrev pub workIn : List ℕ → ℕ → Work
-workIn l at = workOf (getD l at 0) (word l (at + 1))
+abbrev pub flagsIn : ℕ → Flags
+flagsIn x = flagsOf (bit 0 x) (bit 1 x) (bit 2 x) (bit 3 x) (bit 4 x) (bit 5 x) (bit 6 x)
 
+-- two works that are right, seven flags, and 0 in the reserved bytes
 unfoldable pub isCode : List ℕ → Bool
 isCode l =
     eqb (length l) recordSize
-    && (workRight (getD l 272 0) (word l 273) && workRight (getD l 281 0) (word l 282)
-    && ltb (getD l 290 0) 2 && ltb (getD l 291 0) 2 && ltb (getD l 292 0) 2 && ltb (getD l 293 0) 2
-    && ltb (getD l 294 0) 2 && ltb (getD l 295 0) 2 && ltb (getD l 296 0) 2)
+    && (workRight (fieldIn l "running kind") (fieldIn l "running number")
+    && workRight (fieldIn l "suspended kind") (fieldIn l "suspended number")
+    && ltb (fieldIn l "flags") 128
+    && eqb (fieldIn l "reserved") 0)
+
+unfoldable pub restIn : List ℕ → Rest
+restIn l =
+    restOf
+    (locksOf (fieldIn l "protection") (fieldIn l "permanent"))
+    (worksOf (workOf (fieldIn l "running kind") (fieldIn l "running number")) (workOf (fieldIn l "suspended kind") (fieldIn l "suspended number")))
+    (flagsIn (fieldIn l "flags"))
 
 unfoldable pub chipIn : List ℕ → Chip
-chipIn l =
-    record {
-      buffer = take 256 l;
-      protection = word l 256;
-      permanent = word l 264;
-      running = workIn l 272;
-      suspended = workIn l 281;
-      sqi = eqb (getD l 290 0) 1;
-      wel = eqb (getD l 291 0) 1;
-      ioc = eqb (getD l 292 0) 1;
-      wpen = eqb (getD l 293 0) 1;
-      wpld = eqb (getD l 294 0) 1;
-      sec = eqb (getD l 295 0) 1;
-      enable = eqb (getD l 296 0) 1;
-    }
+chipIn l = chipOf (take (sizeOf "page") l) (restIn l)
 
 -- whether the bytes are some record's code, and if so of which
 pub record Decoded : Type 0 where
@@ -131,10 +171,13 @@ pub record Decoded : Type 0 where
 abbrev pub decode : List ℕ → Decoded
 decode l = record { known = isCode l; chip = chipIn l }
 
--- what the Rattle types hold a record to: 256 buffer bytes, numbers of 64 bits
+-- what the Rattle types hold a record to: numbers of 64 bits, 256 buffer bytes
+pub record TypedRest (r : Rest) : Type 0 where
+  pub protection : r .locks .protection < 2 ^ 64
+  pub permanent : r .locks .permanent < 2 ^ 64
+  pub running : numberOf (r .works .running) < 2 ^ 64
+  pub suspended : numberOf (r .works .suspended) < 2 ^ 64
+
 pub record Typed (c : Chip) : Type 0 where
   pub buffer : length (c .buffer) ≡ 256
-  pub protection : c .protection < 2 ^ 64
-  pub permanent : c .permanent < 2 ^ 64
-  pub running : numberOf (c .running) < 2 ^ 64
-  pub suspended : numberOf (c .suspended) < 2 ^ 64
+  pub rest : TypedRest (c .rest)

@@ -1,48 +1,35 @@
-// The chip record as bytes: what crosses the boundary to other languages. The layout is in specs/Layout.antt.
-use rules::Chip;
+// The chip record as bytes: what crosses the boundary to other languages and is stored. The layout is in specs/Layout.antt.
+// The page stays where it is: these functions read and write what stands behind it.
+use rules::Flags;
+use rules::Locks;
+use rules::Rest;
 use rules::Work;
+use rules::Works;
 ghost use mathlib.Core.Path.{_≡_};
-ghost use mathlib.Core.List.{[], _∷_, _++_};
+ghost use mathlib.Core.List.{_++_};
 ghost use Prim.Native.Nat.{_+_, _*_, _≤_};
+ghost use lib.Dec.{eqb};
 ghost use lib.ListN.{length, take};
 ghost use Rattle.rules.specs.Words.{num};
-ghost use Rattle.record_code.specs.Layout.{bytes, word, kindOf, numberOf, workCode, flags, code, workRight, workOf, workIn, isCode, chipIn};
+ghost use Rattle.record_code.specs.Layout.{bytes, numberAt, word, kindOf, numberOf, flagsNumber, flagsIn, workRight, workOf, restCode, restIn, isCode};
 
-// ---- from a record to bytes: each function adds its part behind those before it
+// ---- from a record to bytes
 
-fn put_byte(coded: &mut [u8], at: usize, b: u8)
-    requires { ⌜ at + 1 ≤ length (now coded) ⌝ }
-    ensures { λ _. ⌜ take (at + 1) (now (coded .exit)) ≡ take at (now (coded .entry)) ++ (b ∷ []) ⌝ }
+// A number in n bytes, behind those before it. At a known n the loop becomes one store.
+fn put_number(coded: &mut [u8], at: usize, n: usize, x: u64)
+    requires { ⌜ at + n ≤ length (now coded) ⌝ }
+    ensures { λ _. ⌜ take (at + n) (now (coded .exit)) ≡ take at (now (coded .entry)) ++ bytes n x ⌝ }
 {
-    coded[at] = b;
-}
-
-// Low byte first. A loop of eight turns, which becomes one store.
-fn put_word(coded: &mut [u8], at: usize, x: u64)
-    requires { ⌜ at + 8 ≤ length (now coded) ⌝ }
-    ensures { λ _. ⌜ take (at + 8) (now (coded .exit)) ≡ take at (now (coded .entry)) ++ bytes 8 x ⌝ }
-{
-    let mut rest = x;
+    let mut left = x;
     let mut i: usize = 0;
-    while i < 8 {
-        coded[at + i] = (rest % 256) as u8;
-        rest = rest / 256;
+    while i < n {
+        coded[at + i] = (left % 256) as u8;
+        left = left / 256;
         i += 1;
     }
 }
 
-fn put_buffer(coded: &mut [u8], buffer: &[u8; 256])
-    requires { ⌜ (length (now coded) ≡ 297) × (length (now buffer) ≡ 256) ⌝ }
-    ensures { λ _. ⌜ take 256 (now (coded .exit)) ≡ now (buffer .entry) ⌝ }
-{
-    let mut i: usize = 0;
-    while i < 256 {
-        coded[i] = buffer[i];
-        i += 1;
-    }
-}
-
-fn kind_of(w: Work) -> u8
+fn kind_of(w: Work) -> u64
     ensures { λ r. ⌜ r ≡ kindOf w ⌝ }
 {
     match w {
@@ -58,10 +45,11 @@ fn kind_of(w: Work) -> u8
     }
 }
 
-fn pair_of(ioc: bool, wpen: bool) -> u64
-    ensures { λ r. ⌜ r ≡ num ioc + 2 * num wpen ⌝ }
+// 1 or 0.
+fn bit_of(on: bool) -> u64
+    ensures { λ r. ⌜ (r ≡ num on) × (r ≤ 1) ⌝ }
 {
-    (ioc as u64) + 2 * (wpen as u64)
+    if on { 1 } else { 0 }
 }
 
 fn number_of(w: Work) -> u64
@@ -75,76 +63,66 @@ fn number_of(w: Work) -> u64
         Work::ProgramPage(n) => n as u64,
         Work::ProgramSecurity(n) => n as u64,
         Work::LockSecurity => 0,
-        Work::WriteConfiguration(ioc, wpen) => pair_of(ioc, wpen),
+        Work::WriteConfiguration(ioc, wpen) => {
+            if ioc {
+                if wpen { 3 } else { 1 }
+            } else {
+                if wpen { 2 } else { 0 }
+            }
+        }
         Work::AddPermanent(v) => v,
     }
 }
 
-fn put_work(coded: &mut [u8], at: usize, w: Work)
-    requires { ⌜ at + 9 ≤ length (now coded) ⌝ }
-    ensures { λ _. ⌜ take (at + 9) (now (coded .exit)) ≡ take at (now (coded .entry)) ++ workCode w ⌝ }
+fn flags_number(f: Flags) -> u64
+    ensures { λ r. ⌜ r ≡ flagsNumber f ⌝ }
 {
-    put_byte(coded, at, kind_of(w));
-    put_word(coded, at + 1, number_of(w));
+    bit_of(f.sqi)
+        + 2 * bit_of(f.wel)
+        + 4 * bit_of(f.ioc)
+        + 8 * bit_of(f.wpen)
+        + 16 * bit_of(f.wpld)
+        + 32 * bit_of(f.sec)
+        + 64 * bit_of(f.enable)
 }
 
-fn put_flags(
-    coded: &mut [u8],
-    sqi: bool,
-    wel: bool,
-    ioc: bool,
-    wpen: bool,
-    wpld: bool,
-    sec: bool,
-    enable: bool,
-)
-    requires { ⌜ length (now coded) ≡ 297 ⌝ }
-    ensures { λ _. ⌜ now (coded .exit) ≡ take 290 (now (coded .entry)) ++ flags sqi wel ioc wpen wpld sec enable ⌝ }
+// What stands behind the page becomes the record's.
+pub fn put_rest(coded: &mut [u8], r: Rest)
+    requires { ⌜ length (now coded) ≡ 320 ⌝ }
+    ensures { λ _. ⌜ now (coded .exit) ≡ take 256 (now (coded .entry)) ++ restCode r ⌝ }
 {
-    coded[290] = sqi as u8;
-    coded[291] = wel as u8;
-    coded[292] = ioc as u8;
-    coded[293] = wpen as u8;
-    coded[294] = wpld as u8;
-    coded[295] = sec as u8;
-    coded[296] = enable as u8;
-}
-
-// The bytes become the record's code.
-pub fn encode(c: Chip, coded: &mut [u8])
-    requires { ⌜ length (now coded) ≡ 297 ⌝ }
-    ensures { λ _. ⌜ now (coded .exit) ≡ code c ⌝ }
-{
-    let run = c.running;
-    let aside = c.suspended;
-    put_buffer(coded, &c.buffer);
-    put_word(coded, 256, c.protection);
-    put_word(coded, 264, c.permanent);
-    put_work(coded, 272, run);
-    put_work(coded, 281, aside);
-    put_flags(coded, c.sqi, c.wel, c.ioc, c.wpen, c.wpld, c.sec, c.enable);
+    let works = r.works;
+    let running = works.running;
+    let suspended = works.suspended;
+    let running_number = number_of(running);
+    let suspended_number = number_of(suspended);
+    let running_kind = kind_of(running);
+    let suspended_kind = kind_of(suspended);
+    let flags = flags_number(r.flags);
+    put_number(coded, 256, 8, r.locks.protection);
+    put_number(coded, 264, 8, r.locks.permanent);
+    put_number(coded, 272, 8, running_number);
+    put_number(coded, 280, 8, suspended_number);
+    put_number(coded, 288, 1, running_kind);
+    put_number(coded, 289, 1, suspended_kind);
+    put_number(coded, 290, 1, flags);
+    put_number(coded, 291, 29, 0);
 }
 
 // ---- from bytes to a record
 
-fn wide(b: u8) -> u64
-    ensures { λ r. ⌜ r ≡ b ⌝ }
-{
-    b as u64
-}
-
-// Low byte first. A sum of shifted bytes, which becomes one load.
+// A sum of shifted bytes, which becomes one load.
 fn joined(a: u8, b: u8, c: u8, d: u8, e: u8, f: u8, g: u8, h: u8) -> u64
     ensures { λ r. ⌜ r ≡ a + 256 * (b + 256 * (c + 256 * (d + 256 * (e + 256 * (f + 256 * (g + 256 * (h + 256 * 0))))))) ⌝ }
 {
-    wide(a)
-        + 256 * wide(b)
-        + 65536 * wide(c)
-        + 16777216 * wide(d)
-        + 4294967296 * wide(e)
-        + 1099511627776 * wide(f)
-        + 281474976710656 * wide(g)
-        + 72057594037927936 * wide(h)
+    (a as u64)
+        + 256 * (b as u64)
+        + 65536 * (c as u64)
+        + 16777216 * (d as u64)
+        + 4294967296 * (e as u64)
+        + 1099511627776 * (f as u64)
+        + 281474976710656 * (g as u64)
+        + 72057594037927936 * (h as u64)
 }
 
 fn get_word(coded: &[u8], at: usize) -> u64
@@ -163,110 +141,84 @@ fn get_word(coded: &[u8], at: usize) -> u64
     )
 }
 
-fn get_buffer(coded: &[u8]) -> [u8; 256]
-    requires { ⌜ length (now coded) ≡ 297 ⌝ }
-    ensures { λ r. ⌜ r ≡ take 256 (now (coded .entry)) ⌝ }
-{
-    let mut buffer = [0u8; 256];
-    let mut i: usize = 0;
-    while i < 256 {
-        buffer[i] = coded[i];
-        i += 1;
-    }
-    buffer
-}
-
 fn work_right(kind: u8, n: u64) -> bool
     ensures { λ r. ⌜ r ≡ workRight kind n ⌝ }
 {
-    if (kind == 0) | (kind == 3) | (kind == 6) {
-        return n == 0;
-    }
-    if kind == 7 {
-        return n < 4;
-    }
-    kind < 9
+    (kind < 9) & (!((kind == 0) | (kind == 3) | (kind == 6)) | (n == 0)) & ((kind != 7) | (n < 4))
 }
 
 fn work_of(kind: u8, n: u64) -> Work
     ensures { λ r. ⌜ r ≡ workOf kind n ⌝ }
 {
-    if kind == 1 {
-        return Work::EraseSector(n as usize);
+    match kind {
+        1 => Work::EraseSector(n as usize),
+        2 => Work::EraseBlock(n as usize),
+        3 => Work::EraseArray,
+        4 => Work::ProgramPage(n as usize),
+        5 => Work::ProgramSecurity(n as usize),
+        6 => Work::LockSecurity,
+        7 => Work::WriteConfiguration(n % 2 == 1, n / 2 % 2 == 1),
+        8 => Work::AddPermanent(n),
+        _ => Work::Nothing,
     }
-    if kind == 2 {
-        return Work::EraseBlock(n as usize);
+}
+
+fn flags_of(x: u8) -> Flags
+    ensures { λ r. ⌜ r ≡ flagsIn x ⌝ }
+{
+    Flags {
+        sqi: x % 2 == 1,
+        wel: x / 2 % 2 == 1,
+        ioc: x / 4 % 2 == 1,
+        wpen: x / 8 % 2 == 1,
+        wpld: x / 16 % 2 == 1,
+        sec: x / 32 % 2 == 1,
+        enable: x / 64 % 2 == 1,
     }
-    if kind == 3 {
-        return Work::EraseArray;
+}
+
+// The reserved bytes are all 0. No early exit, so that the loop becomes a few wide instructions.
+fn nothing_reserved(coded: &[u8]) -> bool
+    requires { ⌜ length (now coded) ≡ 320 ⌝ }
+    ensures { λ r. ⌜ r ≡ eqb (numberAt (now (coded .entry)) 291 29) 0 ⌝ }
+{
+    let mut other: u8 = 0;
+    let mut i: usize = 291;
+    while i < 320 {
+        other = other | coded[i];
+        i += 1;
     }
-    if kind == 4 {
-        return Work::ProgramPage(n as usize);
-    }
-    if kind == 5 {
-        return Work::ProgramSecurity(n as usize);
-    }
-    if kind == 6 {
-        return Work::LockSecurity;
-    }
-    if kind == 7 {
-        return Work::WriteConfiguration(n % 2 == 1, n / 2 % 2 == 1);
-    }
-    if kind == 8 {
-        return Work::AddPermanent(n);
-    }
-    Work::Nothing
+    other == 0
 }
 
 // The bytes are some record's code.
 pub fn is_code(coded: &[u8]) -> bool
     ensures { λ r. ⌜ r ≡ isCode (now (coded .entry)) ⌝ }
 {
-    if coded.len() != 297 {
+    if coded.len() != 320 {
         return false;
     }
-    let run = work_right(coded[272], get_word(coded, 273));
-    let aside = work_right(coded[281], get_word(coded, 282));
-    run
-        & aside
-        & (coded[290] < 2)
-        & (coded[291] < 2)
-        & (coded[292] < 2)
-        & (coded[293] < 2)
-        & (coded[294] < 2)
-        & (coded[295] < 2)
-        & (coded[296] < 2)
+    let running = work_right(coded[288], get_word(coded, 272));
+    let suspended = work_right(coded[289], get_word(coded, 280));
+    running & suspended & (coded[290] < 128) & nothing_reserved(coded)
 }
 
-// The record whose code the bytes are. The buffer comes last: the loads before it are then free to be joined.
-pub fn decode(coded: &[u8]) -> Chip
-    requires { ⌜ length (now coded) ≡ 297 ⌝ }
-    ensures { λ r. ⌜ r ≡ chipIn (now (coded .entry)) ⌝ }
+// What the record of the bytes holds behind its page.
+pub fn rest_in(coded: &[u8]) -> Rest
+    requires { ⌜ length (now coded) ≡ 320 ⌝ }
+    ensures { λ r. ⌜ r ≡ restIn (now (coded .entry)) ⌝ }
 {
     let protection = get_word(coded, 256);
     let permanent = get_word(coded, 264);
-    let running = work_of(coded[272], get_word(coded, 273));
-    let suspended = work_of(coded[281], get_word(coded, 282));
-    let sqi = coded[290] == 1;
-    let wel = coded[291] == 1;
-    let ioc = coded[292] == 1;
-    let wpen = coded[293] == 1;
-    let wpld = coded[294] == 1;
-    let sec = coded[295] == 1;
-    let enable = coded[296] == 1;
-    let buffer = get_buffer(coded);
-    Chip {
-        buffer,
-        protection,
-        permanent,
-        running,
-        suspended,
-        sqi,
-        wel,
-        ioc,
-        wpen,
-        wpld,
-        sec,
-        enable,
+    let running = work_of(coded[288], get_word(coded, 272));
+    let suspended = work_of(coded[289], get_word(coded, 280));
+    let flags = flags_of(coded[290]);
+    Rest {
+        locks: Locks {
+            protection,
+            permanent,
+        },
+        works: Works { running, suspended },
+        flags,
     }
 }

@@ -6,15 +6,19 @@ use mathlib.Core.List.{List}
 use native.Mathlib.Omega.{arith}
 use lib.Dec.{ltb}
 use borrow.Author.Tests.{ltb-true, lt-ltb}
+use Rattle.rules.specs.declared.Locks.{Locks}
 use Rattle.rules.specs.declared.Range.{Range}
+use Rattle.rules.specs.declared.Rest.{Rest}
 use Rattle.rules.specs.declared.Work.{Work}
 use Rattle.rules.specs.Words.{overlap}
 use Rattle.rules.specs.Blocks.{unlocked}
-use Rattle.rules.specs.Works.{arrayRange}
-use Rattle.rules.specs.WellFormed.{numbersRight, registersRight, suspendedRight, besideRight, securityRight, bufferRight, worksRight}
+use Rattle.rules.specs.Works.{isNothing, arrayRange}
+use Rattle.rules.specs.Fields.{worksOf, chipOf}
+use Rattle.rules.specs.WellFormed.{numbersRight, locksRight, suspendedRight, besideRight, securityRight, firstFF, bufferRight, worksRight, wellFormed}
 use Rattle.rules.proofs.Bools.{and-split, and-both, same-test}
-use Rattle.rules.proofs.Blocks.{overlap-at}
-use Rattle.rules.proofs.Locks.{registers-of}
+use Rattle.rules.proofs.Blocks.{overlap-at, unlocked-nowhere}
+use Rattle.rules.proofs.LockBits.{registers-of}
+use Rattle.rules.proofs.WellFormed.{nothing}
 use Rattle.rules.proofs.Ranges.{array-inside}
 
 -- two ranges overlap where each start lies before both ends
@@ -51,8 +55,8 @@ overlap-four r s =
 pub found-inside : (w : Work) (r : Range) → numbersRight w ≡ true → r ≡ arrayRange w → r .start + r .size ≤ 2097152
 found-inside w r h e = rw e (array-inside w h)
 
-pub low-register : (p q : ℕ) (x : Bool) → x ≡ registersRight p q → x ≡ true → p < 2 ^ 48
-low-register p q x e t = registers-of p q (sym e ∙ t) .low
+pub low-register : (l : Locks) (x : Bool) → x ≡ locksRight l → x ≡ true → l .protection < 2 ^ 48
+low-register l x e t = registers-of (l .protection) (l .permanent) (sym e ∙ t) .low
 
 pub record Parts (p : ℕ) (sec : Bool) (b : List ℕ) (r s : Work) (kind beside running-open suspended-open security clean : Bool) : Type 0 where
   pub is-kind : kind ≡ suspendedRight s
@@ -64,22 +68,28 @@ pub record Parts (p : ℕ) (sec : Bool) (b : List ℕ) (r s : Work) (kind beside
 
 -- of work with right numbers the rest of the test is its six parts
 pub works-parts : (p : ℕ) (sec : Bool) (b : List ℕ) (r s : Work) (k d o u e f : Bool) → numbersRight r ≡ true → numbersRight s ≡ true → Parts p sec b r s k d o u e f
-    → (k && d && o && u && e && f) ≡ worksRight p sec b r s
+    → (k && d && o && u && e && f) ≡ worksRight p sec b (worksOf r s)
 unfolding worksRight
 works-parts p sec b r s k d o u e f hr hs h =
     rw (h .is-kind, h .is-beside, h .is-running-open, h .is-suspended-open, h .is-security, h .is-clean, hr, hs)
 
-pub not-registers : (x y : Bool) (p q : ℕ) → x ≡ registersRight p q → x ≡ false → false ≡ (registersRight p q && y)
-not-registers x y p q e t = rw (sym e ∙ t)
+pub not-registers : (x y : Bool) (l : Locks) → x ≡ locksRight l → x ≡ false → false ≡ (locksRight l && y)
+not-registers x y l e t = rw (sym e ∙ t)
 
 -- the registers are right, and the rest decides
-pub rest-decides : (x y z : Bool) (p q : ℕ) → x ≡ registersRight p q → x ≡ true → y ≡ z → y ≡ (registersRight p q && z)
-rest-decides x y z p q e t f = f ∙ ap (λ (w : Bool). w && z) (sym t ∙ e)
+pub rest-decides : (x y z : Bool) (l : Locks) → x ≡ locksRight l → x ≡ true → y ≡ z → y ≡ (locksRight l && z)
+rest-decides x y z l e t f = f ∙ ap (λ (w : Bool). w && z) (sym t ∙ e)
 
-pub wrong-running : (p : ℕ) (sec : Bool) (b : List ℕ) (r s : Work) (x : Bool) → x ≡ numbersRight r → x ≡ false → false ≡ worksRight p sec b r s
+pub wrong-running : (p : ℕ) (sec : Bool) (b : List ℕ) (r s : Work) (x : Bool) → x ≡ numbersRight r → x ≡ false → false ≡ worksRight p sec b (worksOf r s)
 unfolding worksRight
 wrong-running p sec b r s x e t = rw (sym e ∙ t)
 
-pub wrong-suspended : (p : ℕ) (sec : Bool) (b : List ℕ) (r s : Work) (x y : Bool) → x ≡ numbersRight r → x ≡ true → y ≡ numbersRight s → y ≡ false → false ≡ worksRight p sec b r s
+pub wrong-suspended : (p : ℕ) (sec : Bool) (b : List ℕ) (r s : Work) (x y : Bool) → x ≡ numbersRight r → x ≡ true → y ≡ numbersRight s → y ≡ false → false ≡ worksRight p sec b (worksOf r s)
 unfolding worksRight
 wrong-suspended p sec b r s x y e t f u = rw (sym e ∙ t, sym f ∙ u)
+
+-- at rest the registers and the buffer decide
+pub at-rest : (r : Rest) (b : List ℕ) → isNothing (r .works .running) ≡ true → isNothing (r .works .suspended) ≡ true
+    → (locksRight (r .locks) && firstFF 256 b) ≡ wellFormed (chipOf b r)
+unfolding wellFormed worksRight
+at-rest r b i j = rw (nothing (r .works .running) i, nothing (r .works .suspended) j, unlocked-nowhere (r .locks .protection))

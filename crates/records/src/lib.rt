@@ -1,76 +1,16 @@
 // The test of a well-formed chip record.
+use rules::Locks;
 use rules::Range;
+use rules::Rest;
 use rules::Work;
+use rules::Works;
 ghost use mathlib.Core.Path.{_≡_};
-ghost use mathlib.Core.Bool.{true, _&&_};
+ghost use mathlib.Core.Bool.{true};
 ghost use Prim.Native.Nat.{_+_, _^_, _≤_, _<_};
+ghost use lib.ListN.{length};
 ghost use Rattle.rules.specs.Words.{overlap};
-ghost use Rattle.rules.specs.Works.{isNothing, isErase, isProgram, canSuspend};
-ghost use Rattle.rules.specs.WellFormed.{numbersRight, registersRight, besideRight, securityRight, bufferRight, worksRight};
-
-pub fn is_nothing(w: Work) -> bool
-    ensures { λ r. ⌜ r ≡ isNothing w ⌝ }
-{
-    match w {
-        Work::Nothing => true,
-        Work::EraseSector(_) => false,
-        Work::EraseBlock(_) => false,
-        Work::EraseArray => false,
-        Work::ProgramPage(_) => false,
-        Work::ProgramSecurity(_) => false,
-        Work::LockSecurity => false,
-        Work::WriteConfiguration(_, _) => false,
-        Work::AddPermanent(_) => false,
-    }
-}
-
-pub fn is_erase(w: Work) -> bool
-    ensures { λ r. ⌜ r ≡ isErase w ⌝ }
-{
-    match w {
-        Work::Nothing => false,
-        Work::EraseSector(_) => true,
-        Work::EraseBlock(_) => true,
-        Work::EraseArray => true,
-        Work::ProgramPage(_) => false,
-        Work::ProgramSecurity(_) => false,
-        Work::LockSecurity => false,
-        Work::WriteConfiguration(_, _) => false,
-        Work::AddPermanent(_) => false,
-    }
-}
-
-pub fn is_program(w: Work) -> bool
-    ensures { λ r. ⌜ r ≡ isProgram w ⌝ }
-{
-    match w {
-        Work::Nothing => false,
-        Work::EraseSector(_) => false,
-        Work::EraseBlock(_) => false,
-        Work::EraseArray => false,
-        Work::ProgramPage(_) => true,
-        Work::ProgramSecurity(_) => true,
-        Work::LockSecurity => false,
-        Work::WriteConfiguration(_, _) => false,
-        Work::AddPermanent(_) => false,
-    }
-}
-
-pub fn can_suspend(w: Work) -> bool
-    ensures { λ r. ⌜ r ≡ canSuspend w ⌝ }
-{
-    match w {
-        Work::Nothing => false,
-        Work::EraseSector(_) => true,
-        Work::EraseBlock(_) => true,
-        Work::EraseArray => false,
-        Work::ProgramPage(_) => true,
-        Work::ProgramSecurity(_) => false,
-        Work::LockSecurity => false,
-        Work::WriteConfiguration(_, _) => false,
-        Work::AddPermanent(_) => false,
-    }
-}
+ghost use Rattle.rules.specs.Fields.{chipOf};
+ghost use Rattle.rules.specs.WellFormed.{numbersRight, locksRight, besideRight, securityRight, bufferRight, worksRight, wellFormed};
 
 fn numbers_right(w: Work) -> bool
     ensures { λ r. ⌜ r ≡ numbersRight w ⌝ }
@@ -88,10 +28,13 @@ fn numbers_right(w: Work) -> bool
     }
 }
 
-fn registers_right(p: u64, q: u64) -> bool
-    ensures { λ r. ⌜ r ≡ registersRight p q ⌝ }
+fn locks_right(l: Locks) -> bool
+    ensures { λ r. ⌜ r ≡ locksRight l ⌝ }
 {
-    (p < 0x1_0000_0000_0000) & (q < 0x1_0000_0000_0000) & (q & 0xaaaa_0000_0000 == 0) & (q & p == q)
+    (l.protection < 0x1_0000_0000_0000)
+        & (l.permanent < 0x1_0000_0000_0000)
+        & (l.permanent & 0xaaaa_0000_0000 == 0)
+        & (l.permanent & l.protection == l.permanent)
 }
 
 // Some place lies in both ranges.
@@ -113,14 +56,16 @@ fn beside_right(r: Work, s: Work) -> bool
 {
     let range = blocks::array_range(r);
     let other = blocks::array_range(s);
-    let none = is_nothing(r) | is_nothing(s);
-    let pair = is_erase(r) & is_program(s) | is_program(r) & is_erase(s);
+    let none = blocks::is_nothing(r) | blocks::is_nothing(s);
+    let pair = blocks::is_erase(r) & blocks::is_program(s)
+        | blocks::is_program(r) & blocks::is_erase(s);
     none | !overlaps(range, other) & pair
 }
 
 // Running Security ID work has SEC 0, and an A5 of page 0 leaves the first eight bytes.
-fn security_right(r: Work, sec: bool, buffer: &[u8; 256]) -> bool
-    ensures { λ b. ⌜ b ≡ securityRight r sec (now (buffer .entry)) ⌝ }
+fn security_right(r: Work, sec: bool, page: &[u8]) -> bool
+    requires { ⌜ length (now page) ≡ 256 ⌝ }
+    ensures { λ b. ⌜ b ≡ securityRight r sec (now (page .entry)) ⌝ }
 {
     match r {
         Work::Nothing => true,
@@ -128,44 +73,65 @@ fn security_right(r: Work, sec: bool, buffer: &[u8; 256]) -> bool
         Work::EraseBlock(_) => true,
         Work::EraseArray => true,
         Work::ProgramPage(_) => true,
-        Work::ProgramSecurity(n) => !sec & ((n != 0) | memory::first_ff(buffer, 8)),
+        Work::ProgramSecurity(n) => !sec & ((n != 0) | memory::first_ff(page, 8)),
         Work::LockSecurity => !sec,
         Work::WriteConfiguration(_, _) => true,
         Work::AddPermanent(_) => true,
     }
 }
 
-fn buffer_right(r: Work, s: Work, buffer: &[u8; 256]) -> bool
-    ensures { λ b. ⌜ b ≡ bufferRight r s (now (buffer .entry)) ⌝ }
+fn buffer_right(r: Work, s: Work, page: &[u8]) -> bool
+    requires { ⌜ length (now page) ≡ 256 ⌝ }
+    ensures { λ b. ⌜ b ≡ bufferRight r s (now (page .entry)) ⌝ }
 {
-    is_program(r) | is_program(s) | memory::first_ff(buffer, 256)
+    blocks::is_program(r) | blocks::is_program(s) | memory::first_ff(page, 256)
 }
 
-fn works_right(p: u64, sec: bool, buffer: &[u8; 256], r: Work, s: Work) -> bool
-    requires { ⌜ (numbersRight r ≡ true) × ((numbersRight s ≡ true) × (p < 2 ^ 48)) ⌝ }
-    ensures { λ b. ⌜ b ≡ worksRight p sec (now (buffer .entry)) r s ⌝ }
+fn works_right(p: u64, sec: bool, page: &[u8], w: Works) -> bool
+    requires { ⌜ (numbersRight (w .running) ≡ true) × ((numbersRight (w .suspended) ≡ true) × ((p < 2 ^ 48) × (length (now page) ≡ 256))) ⌝ }
+    ensures { λ b. ⌜ b ≡ worksRight p sec (now (page .entry)) w ⌝ }
 {
-    let kind = is_nothing(s) | can_suspend(s);
+    let r = w.running;
+    let s = w.suspended;
+    let kind = blocks::is_nothing(s) | blocks::can_suspend(s);
     let beside = beside_right(r, s);
     let run_open = blocks::is_unlocked(p, r);
     let aside_open = blocks::is_unlocked(p, s);
-    let security = security_right(r, sec, buffer);
-    let clean = buffer_right(r, s, buffer);
+    let security = security_right(r, sec, page);
+    let clean = buffer_right(r, s, page);
     kind & beside & run_open & aside_open & security & clean
 }
 
-// The record with these fields is well-formed. They come one by one: a record passed by value would be copied at every event.
-pub fn well_formed(p: u64, q: u64, sec: bool, buffer: &[u8; 256], r: Work, s: Work) -> bool
-    ensures { λ b. ⌜ b ≡ (registersRight p q && worksRight p sec (now (buffer .entry)) r s) ⌝ }
+// With something running or suspended.
+fn well_formed_at_work(r: Rest, page: &[u8]) -> bool
+    requires { ⌜ length (now page) ≡ 256 ⌝ }
+    ensures { λ b. ⌜ b ≡ wellFormed (chipOf (now (page .entry)) r) ⌝ }
 {
-    if !registers_right(p, q) {
+    if !locks_right(r.locks) {
         return false;
     }
-    if !numbers_right(r) {
+    let works = r.works;
+    let run = works.running;
+    let aside = works.suspended;
+    if !numbers_right(run) {
         return false;
     }
-    if !numbers_right(s) {
+    if !numbers_right(aside) {
         return false;
     }
-    works_right(p, sec, buffer, r, s)
+    works_right(r.locks.protection, r.flags.sec, page, works)
+}
+
+// The record with this page buffer and this rest is well-formed. At rest the registers and the buffer decide.
+pub fn well_formed(r: Rest, page: &[u8]) -> bool
+    requires { ⌜ length (now page) ≡ 256 ⌝ }
+    ensures { λ b. ⌜ b ≡ wellFormed (chipOf (now (page .entry)) r) ⌝ }
+{
+    let works = r.works;
+    let run = works.running;
+    let aside = works.suspended;
+    if blocks::is_nothing(run) & blocks::is_nothing(aside) {
+        return locks_right(r.locks) & memory::first_ff(page, 256);
+    }
+    well_formed_at_work(r, page)
 }

@@ -30,6 +30,10 @@ or-right true b e = refl
 or-right false b e = e
 
 -- what holds of an alternative's second part holds where the first does not
+pub or-none : (a : Bool) → (a || false) ≡ a
+or-none true = refl
+or-none false = refl
+
 pub or-map : (a b c : Bool) → (a || b) ≡ true → (b ≡ true → c ≡ true) → (a || c) ≡ true
 or-map true b c e h = refl
 or-map false b c e h = h e

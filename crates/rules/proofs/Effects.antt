@@ -9,9 +9,10 @@ use lib.ListN.{length, getD, set, length-set}
 use lib.Seq.{getD-set-same, getD-set-other}
 use lib.Bits.{bitAnd, bitOr}
 use borrow.Author.Tests.{lt-ltb, le-ltb}
-use Rattle.rules.specs.declared.Chip.{Chip}
 use Rattle.rules.specs.declared.Kind.{Kind}
 use Rattle.rules.specs.declared.Range.{Range}
+use Rattle.rules.specs.declared.Rest.{Rest}
+use Rattle.rules.specs.declared.Short.{Short}
 use Rattle.rules.specs.declared.Work.{Work}
 use Rattle.rules.specs.Words.{bit, pick, holds, Lent}
 use Rattle.rules.specs.Blocks.{readLocked, readLocks, writeLocks, allLocks}
@@ -19,8 +20,8 @@ use Rattle.rules.specs.Works.{isErase, isProgram, finished, finish}
 use Rattle.rules.specs.Frames.{frames, find, formOf, opcode, six}
 use Rattle.rules.specs.Reading.{known, unknown, placeCell}
 use Rattle.rules.specs.Programs.{blank, fill}
-use Rattle.rules.specs.Fields.{chipOf, withBuffer, withProtection, withPermanent, withRunning, withSuspended, withWel, withIoc, withWpen, withSec, withEnable}
-use Rattle.rules.specs.Commands.{powerUpIoc, act, settled, rested}
+use Rattle.rules.specs.Fields.{locksOf, worksOf, flagsOf, restOf, chipOf, withProtection, withPermanent, withRunning, withSuspended, withWel, withIoc, withWpen, withSec, withEnable}
+use Rattle.rules.specs.Commands.{powerUpIoc, act, bufferAfter, settled, rested}
 use Rattle.rules.specs.Numbers.{State, Frame}
 use Rattle.rules.specs.Machine.{Outcome, frame, completion, powerCut}
 use Rattle.rules.proofs.Bools.{upto, upto-at}
@@ -94,32 +95,32 @@ finish-outside w r b k m a h = rw h
 
 -- ---- the record after a completion: BUSY and WEL 0, the buffer FF unless a program is suspended; the rest stays but for what the work sets
 
-pub record Completed (c d : Chip) (w : Work) : Type 0 where
+pub record Completed (r q : Rest) (w : Work) : Type 0 where
   -- 20, D8, C7, 02, 32, A5
-  pub plain : (isErase w || isProgram w) ≡ true → d ≡ c
-  pub of-85 : w ≡ Work.LockSecurity → d ≡ withSec true c
-  pub of-01 : (i p : Bool) → w ≡ Work.WriteConfiguration i p → d ≡ withIoc i (withWpen p c)
+  pub plain : (isErase w || isProgram w) ≡ true → q ≡ r
+  pub of-85 : w ≡ Work.LockSecurity → q ≡ withSec true r
+  pub of-01 : (i p : Bool) → w ≡ Work.WriteConfiguration i p → q ≡ withIoc i (withWpen p r)
   pub of-E8 : (v : ℕ) → w ≡ Work.AddPermanent v
-      → d ≡ withProtection (bitOr (c .protection) (bitAnd v writeLocks)) (withPermanent (bitOr (c .permanent) (bitAnd v writeLocks)) c)
+      → q ≡ withProtection (bitOr (r .locks .protection) (bitAnd v writeLocks)) (withPermanent (bitOr (r .locks .permanent) (bitAnd v writeLocks)) r)
 
 pub completion-leaves : (s : State) → completion s .number ≡ 0
-    → let c = s .chip in
-    Completed (withRunning Work.Nothing (withWel false (withBuffer (pick (isProgram (c .suspended)) (c .buffer) blank) c))) (completion s .chip) (c .running)
+    → let r = s .chip .rest in
+    Completed (withRunning Work.Nothing (withWel false r)) (completion s .chip .rest) (r .works .running)
 completion-leaves s e =
     record {
-      plain = λ p. chip ∙ unset (c .running) p;
-      of-85 = λ q. chip ∙ ap (λ (w : Work). rested (settled w c)) q;
-      of-01 = λ i p q. chip ∙ ap (λ (w : Work). rested (settled w c)) q;
-      of-E8 = λ v q. chip ∙ ap (λ (w : Work). rested (settled w c)) q;
+      plain = λ p. rest ∙ unset (r .works .running) p;
+      of-85 = λ q. rest ∙ ap (λ (w : Work). rested (settled w r)) q;
+      of-01 = λ i p q. rest ∙ ap (λ (w : Work). rested (settled w r)) q;
+      of-E8 = λ v q. rest ∙ ap (λ (w : Work). rested (settled w r)) q;
     }
   where
-    c : Chip
-    c = s .chip
+    r : Rest
+    r = s .chip .rest
 
-    chip : completion s .chip ≡ rested (settled (s .chip .running) (s .chip))
-    chip = ap (λ (o : Outcome). o .chip) (completion-done-whole s e)
+    rest : completion s .chip .rest ≡ rested (settled (s .chip .rest .works .running) (s .chip .rest))
+    rest = ap (λ (o : Outcome). o .chip .rest) (completion-done-whole s e)
 
-    unset : (w : Work) → (isErase w || isProgram w) ≡ true → rested (settled w c) ≡ rested c
+    unset : (w : Work) → (isErase w || isProgram w) ≡ true → rested (settled w r) ≡ rested r
     unset Work.Nothing p = absurd (false≢true p)
     unset (Work.EraseSector n) p = refl
     unset (Work.EraseBlock n) p = refl
@@ -130,20 +131,26 @@ completion-leaves s e =
     unset (Work.WriteConfiguration i w) p = absurd (false≢true p)
     unset (Work.AddPermanent v) p = absurd (false≢true p)
 
+pub completion-buffer : (s : State) → completion s .number ≡ 0
+    → completion s .chip .buffer ≡ pick (isProgram (s .chip .rest .works .suspended)) (s .chip .buffer) blank
+completion-buffer s e = ap (λ (o : Outcome). o .chip .buffer) (completion-done-whole s e)
+
 -- ---- the record after a reset: WPLD, SEC, WPEN and both protection registers stay, and nothing else
 
 pub reset-leaves : (s : State) (f : Frame) → frame s f .number ≡ 0 → opcode (f .sent) ≡ 0x99
-    → frame s f .chip ≡ chipOf blank (s .chip .protection) (s .chip .permanent) Work.Nothing Work.Nothing false false powerUpIoc (s .chip .wpen) (s .chip .wpld) (s .chip .sec) false
+    → let g = s .chip .rest .flags in
+    frame s f .chip ≡ chipOf blank (restOf (s .chip .rest .locks) (worksOf Work.Nothing Work.Nothing) (flagsOf false false powerUpIoc (g .wpen) (g .wpld) (g .sec) false))
 unfolding formOf find frames
 reset-leaves s f e o =
     ap (λ (q : Outcome). q .chip) (frame-done-whole s f e)
-    ∙ ap (λ (x : ℕ). act (formOf x .kind) (f .sent) (withEnable false (s .chip))) o
+    ∙ ap (λ (x : ℕ). chipOf (bufferAfter (formOf x .kind) (f .sent) (s .chip .buffer)) (act (formOf x .kind) (f .sent) (withEnable false (s .chip .rest)))) o
 
 -- ---- the record after a power cut: power-up, but for SEC, WPEN and the permanent register, which stay as the work left them
 
 pub cut-leaves : (s : State) (k : ℕ) → powerCut s k .number ≡ 0
-    → let left = pick (ltb 0 k) (settled (s .chip .running) (s .chip)) (s .chip) in
-    powerCut s k .chip ≡ chipOf blank 0x5555_FFFF_FFFF (left .permanent) Work.Nothing Work.Nothing false false powerUpIoc (left .wpen) false (left .sec) false
+    → let left = pick (ltb 0 k) (settled (s .chip .rest .works .running) (s .chip .rest)) (s .chip .rest) in
+    powerCut s k .chip
+    ≡ chipOf blank (restOf (locksOf 0x5555_FFFF_FFFF (left .locks .permanent)) (worksOf Work.Nothing Work.Nothing) (flagsOf false false powerUpIoc (left .flags .wpen) false (left .flags .sec) false))
 cut-leaves s k e = ap (λ (q : Outcome). q .chip) (cut-done-whole s k e)
 
 -- ---- 42, 98 and E8, bit by bit
@@ -155,33 +162,33 @@ all-bits = refl
 every-bit : (n : ℕ) → n < 48 → bit n allLocks ≡ true
 every-bit n h = upto-at 48 (λ n. bit n allLocks) all-bits n h
 
-pub after-42 : (sent : List ℕ) (c : Chip) (n : ℕ) → n < 48
-    → bit n (act Kind.WriteProtection sent c .protection) ≡ (bit n (six sent) || bit n (c .permanent))
-after-42 sent c n h =
-    bit-or n (bitAnd (six sent) allLocks) (c .permanent)
-    ∙ ap (λ (x : Bool). x || bit n (c .permanent)) (bit-and n (six sent) allLocks ∙ whole (bit n (six sent)) (bit n allLocks) (every-bit n h))
+pub after-42 : (sent : List ℕ) (r : Rest) (n : ℕ) → n < 48
+    → bit n (act (Kind.Do Short.WriteProtection) sent r .locks .protection) ≡ (bit n (six sent) || bit n (r .locks .permanent))
+after-42 sent r n h =
+    bit-or n (bitAnd (six sent) allLocks) (r .locks .permanent)
+    ∙ ap (λ (x : Bool). x || bit n (r .locks .permanent)) (bit-and n (six sent) allLocks ∙ whole (bit n (six sent)) (bit n allLocks) (every-bit n h))
   where
     whole : (x y : Bool) → y ≡ true → (x && y) ≡ x
     whole true y e = e
     whole false y e = refl
 
-pub after-98 : (sent : List ℕ) (c : Chip) (n : ℕ)
-    → bit n (act Kind.ClearLocks sent c .protection) ≡ (bit n (c .protection) && bit n readLocks || bit n (c .permanent))
-after-98 sent c n =
-    bit-or n (bitAnd (c .protection) readLocks) (c .permanent)
-    ∙ ap (λ (x : Bool). x || bit n (c .permanent)) (bit-and n (c .protection) readLocks)
+pub after-98 : (sent : List ℕ) (r : Rest) (n : ℕ)
+    → bit n (act (Kind.Do Short.ClearLocks) sent r .locks .protection) ≡ (bit n (r .locks .protection) && bit n readLocks || bit n (r .locks .permanent))
+after-98 sent r n =
+    bit-or n (bitAnd (r .locks .protection) readLocks) (r .locks .permanent)
+    ∙ ap (λ (x : Bool). x || bit n (r .locks .permanent)) (bit-and n (r .locks .protection) readLocks)
 
-pub after-E8 : (v : ℕ) (c : Chip) (n : ℕ)
-    → (bit n (settled (Work.AddPermanent v) c .permanent) ≡ (bit n (c .permanent) || bit n v && bit n writeLocks))
-    × (bit n (settled (Work.AddPermanent v) c .protection) ≡ (bit n (c .protection) || bit n v && bit n writeLocks))
-after-E8 v c n = (
-  bit-or n (c .permanent) (bitAnd v writeLocks) ∙ ap (λ (x : Bool). bit n (c .permanent) || x) (bit-and n v writeLocks),
-  bit-or n (c .protection) (bitAnd v writeLocks) ∙ ap (λ (x : Bool). bit n (c .protection) || x) (bit-and n v writeLocks),
+pub after-E8 : (v : ℕ) (r : Rest) (n : ℕ)
+    → (bit n (settled (Work.AddPermanent v) r .locks .permanent) ≡ (bit n (r .locks .permanent) || bit n v && bit n writeLocks))
+    × (bit n (settled (Work.AddPermanent v) r .locks .protection) ≡ (bit n (r .locks .protection) || bit n v && bit n writeLocks))
+after-E8 v r n = (
+  bit-or n (r .locks .permanent) (bitAnd v writeLocks) ∙ ap (λ (x : Bool). bit n (r .locks .permanent) || x) (bit-and n v writeLocks),
+  bit-or n (r .locks .protection) (bitAnd v writeLocks) ∙ ap (λ (x : Bool). bit n (r .locks .protection) || x) (bit-and n v writeLocks),
 )
 
 -- ---- suspension
 
 -- what is put aside and run again is what ran: nothing else of the record changes
-pub suspend-resume : (sent sent′ : List ℕ) (c : Chip) → c .suspended ≡ Work.Nothing → act Kind.Resume sent′ (act Kind.Suspend sent c) ≡ c
-suspend-resume sent sent′ c e =
-    ap (λ (w : Work). withSuspended w c) (sym e)
+pub suspend-resume : (sent sent′ : List ℕ) (r : Rest) → r .works .suspended ≡ Work.Nothing → act (Kind.Do Short.Resume) sent′ (act (Kind.Do Short.Suspend) sent r) ≡ r
+suspend-resume sent sent′ r e =
+    ap (λ (w : Work). withSuspended w r) (sym e)

@@ -3,19 +3,24 @@
 use Prim.Native.Nat.{ℕ}
 use mathlib.Core.Path.{_≡_, refl}
 use mathlib.Core.Bool.{Bool}
-use mathlib.Core.List.{List}
-use Rattle.rules.specs.declared.Chip.{Chip}
+use Rattle.rules.specs.declared.Flags.{Flags}
+use Rattle.rules.specs.declared.Rest.{Rest}
 use Rattle.rules.specs.declared.Work.{Work}
-use Rattle.rules.specs.Fields.{withBuffer, withProtection, withPermanent, withRunning, withSuspended, withSqi, withWel, withIoc, withWpen, withWpld, withSec, withEnable}
+use Rattle.rules.specs.Fields.{withProtection, withPermanent, withRunning, withSuspended, withFlags, withSqi, withWel, withIoc, withWpen, withWpld, withSec, withEnable}
 
-module _ (c : Chip) (b : List ℕ) (p q : ℕ) (r s : Work) (sqi wel ioc wpen wpld sec enable : Bool) where
-  -- the record that holds all of these
-  abbrev all : Chip
-  all =
-      record { buffer = b; protection = p; permanent = q; running = r; suspended = s; sqi = sqi; wel = wel; ioc = ioc; wpen = wpen; wpld = wpld; sec = sec; enable = enable }
+module _ (x : Rest) (p q : ℕ) (r s : Work) (sqi wel ioc wpen wpld sec enable : Bool) where
+  abbrev flags : Flags
+  flags = record { sqi = sqi; wel = wel; ioc = ioc; wpen = wpen; wpld = wpld; sec = sec; enable = enable }
 
-  pub first-to-last : withEnable enable (withSec sec (withWpld wpld (withWpen wpen (withIoc ioc (withWel wel (withSqi sqi (withSuspended s (withRunning r (withPermanent q (withProtection p (withBuffer b c))))))))))) ≡ all
+  -- what holds all of these
+  abbrev all : Rest
+  all = record { locks = record { protection = p; permanent = q }; works = record { running = r; suspended = s }; flags = flags }
+
+  pub first-to-last : withEnable enable (withSec sec (withWpld wpld (withWpen wpen (withIoc ioc (withWel wel (withSqi sqi (withSuspended s (withRunning r (withPermanent q (withProtection p x)))))))))) ≡ all
   first-to-last = refl
 
-  pub last-to-first : withBuffer b (withProtection p (withPermanent q (withRunning r (withSuspended s (withSqi sqi (withWel wel (withIoc ioc (withWpen wpen (withWpld wpld (withSec sec (withEnable enable c))))))))))) ≡ all
+  pub last-to-first : withProtection p (withPermanent q (withRunning r (withSuspended s (withSqi sqi (withWel wel (withIoc ioc (withWpen wpen (withWpld wpld (withSec sec (withEnable enable x)))))))))) ≡ all
   last-to-first = refl
+
+  pub at-once : withFlags flags (withSuspended s (withRunning r (withPermanent q (withProtection p x)))) ≡ all
+  at-once = refl

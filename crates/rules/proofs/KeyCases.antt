@@ -12,7 +12,7 @@ use Rattle.rules.specs.Works.{finish}
 use Rattle.rules.specs.Frames.{frames, find, formOf}
 use Rattle.rules.specs.Reading.{placeCell, shown}
 use Rattle.rules.specs.Programs.{blank, fill, pageBuffer, securityBuffer, reaches, reachesFirst}
-use Rattle.rules.specs.WellFormed.{firstFF, registersRight, worksRight, wellFormed}
+use Rattle.rules.specs.WellFormed.{firstFF, locksRight, worksRight, wellFormed}
 use Rattle.rules.specs.Numbers.{commandTests, frameTests, completionTests, cutTests}
 use Rattle.rules.specs.Machine.{frameChip, frameCell, frameReply, frameMarks, frame, workedArray, workedSecurity, completedChip, completion, cutChip, powerCut, step, run}
 use Rattle.rules.specs.Demands.{keyPlace, TwoChips}
@@ -63,19 +63,19 @@ pub two-chips : TwoChips keyPlace true (keyed bothLocks true 0x11) (keyed bothLo
 two-chips = two-keyed keyPlace bothLocks both-read true
 
 pub two-well-formed : wellFormed (keyed bothLocks true 0x11 .chip) ≡ true
-unfolding wellFormed registersRight worksRight firstFF blank unlocked blocks overlap wide
+unfolding wellFormed locksRight worksRight firstFF blank unlocked blocks overlap wide
 two-well-formed = refl
 
 -- whatever the key, the read is done and gives 00 with mark 1 at the key place and FF with mark 1 at the place beside it
 pub read-across : (key : ℕ) → KeyRead (outcomeAfter (keyed bothLocks true key) readAcross)
-unfolding bit holds overlap wide blocks seek blockOf blockAt writeLocked readLocked unlocked frames find formOf placeCell shown blank firstFF registersRight worksRight wellFormed frameTests commandTests frameChip frameCell frameReply frameMarks frame completion completionTests completedChip workedArray workedSecurity finish step run
+unfolding bit holds overlap wide blocks seek blockOf blockAt writeLocked readLocked unlocked frames find formOf placeCell shown blank firstFF locksRight worksRight wellFormed frameTests commandTests frameChip frameCell frameReply frameMarks frame completion completionTests completedChip workedArray workedSecurity finish step run
 read-across key = record { done = refl; locked = refl; locked-mark = refl; beside = refl; beside-mark = refl }
 
 -- ---- with less, it is wrong
 
 -- keys leak after a power cut
 pub power-cut-leaks : WithPowerCuts → ⊥
-unfolding bit holds overlap wide blocks seek blockOf blockAt writeLocked readLocked unlocked finish frames find formOf placeCell shown blank fill pageBuffer securityBuffer reaches reachesFirst firstFF registersRight worksRight wellFormed frameTests commandTests completionTests cutTests frameChip frameCell frameReply frameMarks frame workedArray workedSecurity completedChip completion cutChip powerCut step run
+unfolding bit holds overlap wide blocks seek blockOf blockAt writeLocked readLocked unlocked finish frames find formOf placeCell shown blank fill pageBuffer securityBuffer reaches reachesFirst firstFF locksRight worksRight wellFormed frameTests commandTests completionTests cutTests frameChip frameCell frameReply frameMarks frame workedArray workedSecurity completedChip completion cutChip powerCut step run
 power-cut-leaks h =
     let k = h (keyed bothLocks true 0x11) (keyed bothLocks true 0x22) readAfterCut two-chips tt in
     let e : _≡_ {A = ℕ} 0x11 0x22 = ap (λ (r : Lent). r .byte 0) (k .1 .0 .same-reply) in
@@ -83,7 +83,7 @@ power-cut-leaks h =
 
 -- and where the register is not locked down
 pub no-lock-down-leaks : WithNoLockDown → ⊥
-unfolding bit holds overlap wide blocks seek blockOf blockAt writeLocked readLocked unlocked finish frames find formOf placeCell shown blank fill pageBuffer securityBuffer reaches reachesFirst firstFF registersRight worksRight wellFormed frameTests commandTests completionTests cutTests frameChip frameCell frameReply frameMarks frame workedArray workedSecurity completedChip completion cutChip powerCut step run
+unfolding bit holds overlap wide blocks seek blockOf blockAt writeLocked readLocked unlocked finish frames find formOf placeCell shown blank fill pageBuffer securityBuffer reaches reachesFirst firstFF locksRight worksRight wellFormed frameTests commandTests completionTests cutTests frameChip frameCell frameReply frameMarks frame workedArray workedSecurity completedChip completion cutChip powerCut step run
 no-lock-down-leaks h =
     let k = h (keyed bothLocks false 0x11) (keyed bothLocks false 0x22) readAfterWrite (two-keyed keyPlace bothLocks both-read false) tt in
     let e : _≡_ {A = ℕ} 0x11 0x22 = ap (λ (r : Lent). r .byte 0) (k .1 .1 .0 .same-reply) in
@@ -91,7 +91,7 @@ no-lock-down-leaks h =
 
 -- and where only the write lock is set
 pub write-lock-only-leaks : WithWriteLockOnly → ⊥
-unfolding bit holds overlap wide blocks seek blockOf blockAt writeLocked readLocked unlocked finish frames find formOf placeCell shown blank fill pageBuffer securityBuffer reaches reachesFirst firstFF registersRight worksRight wellFormed frameTests commandTests completionTests cutTests frameChip frameCell frameReply frameMarks frame workedArray workedSecurity completedChip completion cutChip powerCut step run
+unfolding bit holds overlap wide blocks seek blockOf blockAt writeLocked readLocked unlocked finish frames find formOf placeCell shown blank fill pageBuffer securityBuffer reaches reachesFirst firstFF locksRight worksRight wellFormed frameTests commandTests completionTests cutTests frameChip frameCell frameReply frameMarks frame workedArray workedSecurity completedChip completion cutChip powerCut step run
 write-lock-only-leaks h =
     let k = h (keyed writeLockOnly true 0x11) (keyed writeLockOnly true 0x22) readAcross (two-keyed writeLocked writeLockOnly write-only true) tt in
     let e : _≡_ {A = ℕ} 0x11 0x22 = ap (λ (r : Lent). r .byte 0) (k .0 .same-reply) in
@@ -99,7 +99,7 @@ write-lock-only-leaks h =
 
 -- where only the read lock is set, keys change
 pub read-lock-only-changes : WithReadLockOnly → ⊥
-unfolding bit holds overlap wide blocks seek blockOf blockAt writeLocked readLocked unlocked finish frames find formOf placeCell shown blank fill pageBuffer securityBuffer reaches reachesFirst firstFF registersRight worksRight wellFormed frameTests commandTests completionTests cutTests frameChip frameCell frameReply frameMarks frame workedArray workedSecurity completedChip completion cutChip powerCut step run
+unfolding bit holds overlap wide blocks seek blockOf blockAt writeLocked readLocked unlocked finish frames find formOf placeCell shown blank fill pageBuffer securityBuffer reaches reachesFirst firstFF locksRight worksRight wellFormed frameTests commandTests completionTests cutTests frameChip frameCell frameReply frameMarks frame workedArray workedSecurity completedChip completion cutChip powerCut step run
 read-lock-only-changes h =
     let k = h (keyed readLockOnly true 0x11) (keyed readLockOnly true 0x22) erasedKeys (two-keyed readLocked readLockOnly read-only true) tt in
     let e : _≡_ {A = ℕ} 0xFF 0x11 = k .1 .1 .0 .first-keys 0 (omega arith) refl in

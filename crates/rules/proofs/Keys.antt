@@ -12,160 +12,87 @@ use Rattle.rules.specs.declared.Cell.{Cell}
 use Rattle.rules.specs.declared.Chip.{Chip}
 use Rattle.rules.specs.declared.Kind.{Kind}
 use Rattle.rules.specs.declared.Range.{Range}
+use Rattle.rules.specs.declared.Rest.{Rest}
+use Rattle.rules.specs.declared.Short.{Short}
 use Rattle.rules.specs.declared.Source.{Source}
 use Rattle.rules.specs.declared.Work.{Work}
 use Rattle.rules.specs.declared.Work.the-variants.{Nothing, EraseSector, EraseBlock, EraseArray, ProgramPage, ProgramSecurity, LockSecurity, WriteConfiguration, AddPermanent}
-use Rattle.rules.specs.Words.{bit, pick, oneOf, holds, written}
+use Rattle.rules.specs.Words.{bit, pick, oneOf, Each, end, _next_, holds, written}
 use Rattle.rules.specs.Blocks.{arraySize, blockOf, blockAt, readLocked, writeLocked, writeLocks}
 use Rattle.rules.specs.Works.{arrayRange, finished, finish}
-use Rattle.rules.specs.Frames.{frames, formOf, opcode, address}
+use Rattle.rules.specs.Frames.{formOf, opcode, address}
 use Rattle.rules.specs.Reading.{known, unknown, silent, placeCell, shown, reply}
-use Rattle.rules.specs.Fields.{withEnable}
-use Rattle.rules.specs.Commands.{act, settled, rested}
+use Rattle.rules.specs.Fields.{chipOf, withEnable}
+use Rattle.rules.specs.Commands.{act, bufferAfter, settled, rested, bufferRested}
 use Rattle.rules.specs.WellFormed.{wellFormed}
 use Rattle.rules.specs.Numbers.{State, Frame, stateRight, first, frameTests, completionTests}
 use Rattle.rules.specs.Machine.{Outcome, frameChip, frameCell, frameReply, frameMarks, frame, workedArray, workedSecurity, completedChip, completion, Event, sends, completes, cuts, step, run}
-use Rattle.rules.specs.Demands.{stateOf, eventsOf, outcomesOf, keyPlace, Uncut, Kept, AllKept, Demand3, Demand3OfCode}
+use Rattle.rules.specs.Promises.{stateOf}
+use Rattle.rules.specs.Demands.{eventsOf, outcomesOf, keyPlace, Uncut, Kept, AllKept, Demand3, Demand3OfCode}
 use Rattle.rules.proofs.Bools.{and-split, never}
 use Rattle.rules.proofs.Bits.{bit-or}
 use Rattle.rules.proofs.Blocks.{unlocked-place}
 use Rattle.rules.proofs.Effects.{finish-outside}
 use Rattle.rules.proofs.Numbers.{Accepted, accepted, completion-given}
-use Rattle.rules.proofs.Rows.{EachRow, by-rows}
+use Rattle.rules.proofs.Rows.{opcodesOf, by-kind, at-each, at-one}
 use Rattle.rules.proofs.Runs.{demand-2}
 use Rattle.rules.proofs.WellFormed.{well-of}
 
 -- ---- the locks of the key blocks of the start, under the record of now
 
-pub record Locked (p₀ : ℕ) (c : Chip) : Type 0 where
-  pub down : c .wpld ≡ true
-  pub held : (a : ℕ) → keyPlace p₀ a ≡ true → (readLocked (c .protection) a ≡ true) × (writeLocked (c .protection) a ≡ true)
-
--- a done frame under the lock-down leaves it and the protection register
-Stands : ℕ → Kind → Type 0
-Stands o k = (c : Chip) (sent : List ℕ) → Accepted c o sent → c .wpld ≡ true → (act k sent (withEnable false c) .wpld ≡ true) × (act k sent (withEnable false c) .protection ≡ c .protection)
+pub record Locked (p₀ : ℕ) (r : Rest) : Type 0 where
+  pub down : r .flags .wpld ≡ true
+  pub held : (a : ℕ) → keyPlace p₀ a ≡ true → (readLocked (r .locks .protection) a ≡ true) × (writeLocked (r .locks .protection) a ≡ true)
 
 -- 42 and 98 are refused under the lock-down
 refused : (w : Bool) → w ≡ true → (w || false || false) ≡ false → ⊥
 refused true e h = true≢false h
 refused false e h = true≢false (sym e)
 
-rows-stand : EachRow Stands frames
-unfolding Stands frames
-rows-stand = (
-  λ c sent a d. (d, refl),
-  (
-    λ c sent a d. (d, refl),
-    (
-      λ c sent a d. (d, refl),
-      (
-        λ c sent a d. (d, refl),
-        (
-          λ c sent a d. (d, refl),
-          (
-            λ c sent a d. (d, refl),
-            (
-              λ c sent a d. (d, refl),
-              (
-                λ c sent a d. (d, refl),
-                (
-                  λ c sent a d. (d, refl),
-                  (
-                    λ c sent a d. (d, refl),
-                    (
-                      λ c sent a d. (d, refl),
-                      (
-                        λ c sent a d. (d, refl),
-                        (
-                          λ c sent a d. (d, refl),
-                          (
-                            λ c sent a d. (d, refl),
-                            (
-                              λ c sent a d. (d, refl),
-                              (
-                                λ c sent a d. (d, refl),
-                                (
-                                  λ c sent a d. (d, refl),
-                                  (
-                                    λ c sent a d. (d, refl),
-                                    (
-                                      λ c sent a d. (d, refl),
-                                      (
-                                        λ c sent a d. (d, refl),
-                                        (
-                                          λ c sent a d. (d, refl),
-                                          (
-                                            λ c sent a d. (d, refl),
-                                            (
-                                              λ c sent a d. (d, refl),
-                                              (
-                                                λ c sent a d. (d, refl),
-                                                (
-                                                  λ c sent a d. absurd (refused (c .wpld) d (a .opened)),
-                                                  (
-                                                    λ c sent a d. (d, refl),
-                                                    (
-                                                      λ c sent a d. (refl, refl),
-                                                      (
-                                                        λ c sent a d. absurd (refused (c .wpld) d (a .opened)),
-                                                        (
-                                                          λ c sent a d. (d, refl),
-                                                          (
-                                                            λ c sent a d. (d, refl),
-                                                            tt,
-                                                          ),
-                                                        ),
-                                                      ),
-                                                    ),
-                                                  ),
-                                                ),
-                                              ),
-                                            ),
-                                          ),
-                                        ),
-                                      ),
-                                    ),
-                                  ),
-                                ),
-                              ),
-                            ),
-                          ),
-                        ),
-                      ),
-                    ),
-                  ),
-                ),
-              ),
-            ),
-          ),
-        ),
-      ),
-    ),
-  ),
-)
+-- a done frame under the lock-down leaves it and the protection register
+abbrev Stands : Rest → Rest → Type 0
+Stands r q = (q .flags .wpld ≡ true) × (q .locks .protection ≡ r .locks .protection)
 
-stands : (c : Chip) (sent : List ℕ) → Accepted c (opcode sent) sent → c .wpld ≡ true
-    → (act (formOf (opcode sent) .kind) sent (withEnable false c) .wpld ≡ true) × (act (formOf (opcode sent) .kind) sent (withEnable false c) .protection ≡ c .protection)
-unfolding Stands
-stands c sent a d = by-rows Stands rows-stand (c .sqi) (opcode sent) (a .is-listed) c sent a d
+module _ (r : Rest) (sent : List ℕ) (d : r .flags .wpld ≡ true) where
+  kind-stands : (k : Kind) → Each (λ o. Accepted r o sent → Stands r (act k sent (withEnable false r))) (opcodesOf k)
+  kind-stands (Kind.Show s) = at-each (λ o a. (d, refl)) (opcodesOf (Kind.Show s))
+  kind-stands (Kind.Begin l) = at-each (λ o a. (d, refl)) (opcodesOf (Kind.Begin l))
+  kind-stands (Kind.Do Short.Nothing) = (λ a. (d, refl)) next end
+  kind-stands (Kind.Do Short.EnableReset) = (λ a. (d, refl)) next end
+  kind-stands (Kind.Do Short.Reset) = (λ a. (d, refl)) next end
+  kind-stands (Kind.Do Short.ToSqi) = (λ a. (d, refl)) next end
+  kind-stands (Kind.Do Short.ToSpi) = (λ a. (d, refl)) next end
+  kind-stands (Kind.Do Short.SetWel) = (λ a. (d, refl)) next end
+  kind-stands (Kind.Do Short.ClearWel) = (λ a. (d, refl)) next end
+  kind-stands (Kind.Do Short.WriteProtection) = (λ a. absurd (refused (r .flags .wpld) d (a .opened))) next end
+  kind-stands (Kind.Do Short.LockDown) = (λ a. (refl, refl)) next end
+  kind-stands (Kind.Do Short.ClearLocks) = (λ a. absurd (refused (r .flags .wpld) d (a .opened))) next end
+  kind-stands (Kind.Do Short.Suspend) = (λ a. (d, refl)) next end
+  kind-stands (Kind.Do Short.Resume) = (λ a. (d, refl)) next end
+
+  stands : Accepted r (opcode sent) sent → Stands r (act (formOf (opcode sent) .kind) sent (withEnable false r))
+  stands a =
+      let k = formOf (opcode sent) .kind in
+      at-one (λ o. Accepted r o sent → Stands r (act k sent (withEnable false r))) (opcodesOf k) (opcode sent) (by-kind (r .flags .sqi) (opcode sent) (a .is-listed)) (kind-stands k) a
 
 module _ (p₀ : ℕ) where
-  same-locks : (c d : Chip) → Locked p₀ c → d .wpld ≡ true → d .protection ≡ c .protection → Locked p₀ d
-  same-locks c d l down e =
+  same-locks : (r q : Rest) → Locked p₀ r → q .flags .wpld ≡ true → q .locks .protection ≡ r .locks .protection → Locked p₀ q
+  same-locks r q l down e =
       record {
         down = down;
         held = λ a k. let h = l .held a k in (ap (λ (p : ℕ). readLocked p a) e ∙ h .0, ap (λ (p : ℕ). writeLocked p a) e ∙ h .1);
       }
 
-  frame-locked : (n : ℕ) (c : Chip) (sent : List ℕ) → Locked p₀ c → (n ≡ 0 → Accepted c (opcode sent) sent) → Locked p₀ (frameChip n c sent)
+  frame-locked : (n : ℕ) (c : Chip) (sent : List ℕ) → Locked p₀ (c .rest) → (n ≡ 0 → Accepted (c .rest) (opcode sent) sent) → Locked p₀ (frameChip n c sent .rest)
   unfolding frameChip
   frame-locked n c sent l a = go (eqb n 0) refl (oneOf n (1 ∷ 2 ∷ []))
     where
       go : (x : Bool) → eqb n 0 ≡ x → (y : Bool)
-          → Locked p₀ (pick x (act (formOf (opcode sent) .kind) sent (withEnable false c)) (pick y c (withEnable false c)))
-      go true e y = let h = stands c sent (a (eqb-true n 0 e)) (l .down) in same-locks c _ l (h .0) (h .1)
+          → Locked p₀
+          (pick x (chipOf (bufferAfter (formOf (opcode sent) .kind) sent (c .buffer)) (act (formOf (opcode sent) .kind) sent (withEnable false (c .rest)))) (pick y c (chipOf (c .buffer) (withEnable false (c .rest)))) .rest)
+      go true e y = let h = stands (c .rest) sent (l .down) (a (eqb-true n 0 e)) in same-locks (c .rest) _ l (h .0) (h .1)
       go false e true = l
-      go false e false = same-locks c _ l (l .down) refl
+      go false e false = same-locks (c .rest) _ l (l .down) refl
 
   -- E8 adds locks and takes none
   more-read : (p v a : ℕ) → readLocked p a ≡ true → readLocked (bitOr p v) a ≡ true
@@ -181,27 +108,27 @@ module _ (p₀ : ℕ) where
   unfolding writeLocked
   more-write p v a e = bit-or (blockAt (blockOf a) .write) p v ∙ ap (λ (x : Bool). x || bit (blockAt (blockOf a) .write) v) e
 
-  settled-locked : (w : Work) (c : Chip) → Locked p₀ c → Locked p₀ (rested (settled w c))
-  settled-locked Nothing c l = same-locks c _ l (l .down) refl
-  settled-locked (EraseSector n) c l = same-locks c _ l (l .down) refl
-  settled-locked (EraseBlock n) c l = same-locks c _ l (l .down) refl
-  settled-locked EraseArray c l = same-locks c _ l (l .down) refl
-  settled-locked (ProgramPage n) c l = same-locks c _ l (l .down) refl
-  settled-locked (ProgramSecurity n) c l = same-locks c _ l (l .down) refl
-  settled-locked LockSecurity c l = same-locks c _ l (l .down) refl
-  settled-locked (WriteConfiguration i w) c l = same-locks c _ l (l .down) refl
-  settled-locked (AddPermanent v) c l =
+  settled-locked : (w : Work) (r : Rest) → Locked p₀ r → Locked p₀ (rested (settled w r))
+  settled-locked Nothing r l = same-locks r _ l (l .down) refl
+  settled-locked (EraseSector n) r l = same-locks r _ l (l .down) refl
+  settled-locked (EraseBlock n) r l = same-locks r _ l (l .down) refl
+  settled-locked EraseArray r l = same-locks r _ l (l .down) refl
+  settled-locked (ProgramPage n) r l = same-locks r _ l (l .down) refl
+  settled-locked (ProgramSecurity n) r l = same-locks r _ l (l .down) refl
+  settled-locked LockSecurity r l = same-locks r _ l (l .down) refl
+  settled-locked (WriteConfiguration i w) r l = same-locks r _ l (l .down) refl
+  settled-locked (AddPermanent v) r l =
       record {
         down = l .down;
-        held = λ a k. let h = l .held a k in (more-read (c .protection) (bitAnd v writeLocks) a (h .0), more-write (c .protection) (bitAnd v writeLocks) a (h .1));
+        held = λ a k. let h = l .held a k in (more-read (r .locks .protection) (bitAnd v writeLocks) a (h .0), more-write (r .locks .protection) (bitAnd v writeLocks) a (h .1));
       }
 
-  completed-locked : (n : ℕ) (c : Chip) → Locked p₀ c → Locked p₀ (completedChip n c)
+  completed-locked : (n : ℕ) (c : Chip) → Locked p₀ (c .rest) → Locked p₀ (completedChip n c .rest)
   unfolding completedChip
   completed-locked n c l = go (eqb n 0)
     where
-      go : (b : Bool) → Locked p₀ (pick b (rested (settled (c .running) c)) c)
-      go true = settled-locked (c .running) c l
+      go : (b : Bool) → Locked p₀ (pick b (chipOf (bufferRested (c .rest .works .suspended) (c .buffer)) (rested (settled (c .rest .works .running) (c .rest)))) c .rest)
+      go true = settled-locked (c .rest .works .running) (c .rest) l
       go false = l
 
   -- ---- what is seen of a frame
@@ -210,42 +137,31 @@ module _ (p₀ : ℕ) where
   with-bytes : State → (ℕ → ℕ) → State
   with-bytes s g = record { chip = s .chip; array = record { size = s .array .size; byte = g }; security = s .security }
 
-  module _ (s : State) (g : ℕ → ℕ) (l : Locked p₀ (s .chip)) (agree : (a : ℕ) → a < arraySize → keyPlace p₀ a ≡ false → s .array .byte a ≡ g a) where
-    cell-same : (r : Range) (a : ℕ) → a < arraySize → placeCell (s .chip .protection) r (s .array) a ≡ placeCell (s .chip .protection) r (with-bytes s g .array) a
+  module _ (s : State) (g : ℕ → ℕ) (l : Locked p₀ (s .chip .rest)) (agree : (a : ℕ) → a < arraySize → keyPlace p₀ a ≡ false → s .array .byte a ≡ g a) where
+    cell-same : (r : Range) (a : ℕ) → a < arraySize → placeCell (s .chip .rest .locks .protection) r (s .array) a ≡ placeCell (s .chip .rest .locks .protection) r (with-bytes s g .array) a
     unfolding placeCell with-bytes
-    cell-same r a below = go (readLocked (s .chip .protection) a) refl
+    cell-same r a below = go (readLocked (s .chip .rest .locks .protection) a) refl
       where
-        go : (x : Bool) → readLocked (s .chip .protection) a ≡ x
+        go : (x : Bool) → readLocked (s .chip .rest .locks .protection) a ≡ x
             → pick x (known 0) (pick (holds r a) unknown (known (s .array .byte a))) ≡ pick x (known 0) (pick (holds r a) unknown (known (g a)))
         go true e = refl
         go false e =
             ap (λ (b : ℕ). pick (holds r a) unknown (known b))
             (agree a below (never (keyPlace p₀ a) (λ k. true≢false (sym (l .held a k .0) ∙ e))))
 
-    shown-same : (x : Source) (sent : List ℕ) (i : ℕ) → shown x (s .chip) (s .array) (s .security) sent i ≡ shown x (s .chip) (with-bytes s g .array) (s .security) sent i
+    shown-same : (x : Source) (sent : List ℕ) (i : ℕ) → shown x (s .chip .rest) (s .array) (s .security) sent i ≡ shown x (s .chip .rest) (with-bytes s g .array) (s .security) sent i
     unfolding shown
     shown-same Source.Status sent i = refl
     shown-same Source.Configuration sent i = refl
     shown-same Source.Protection sent i = refl
     shown-same Source.Identity sent i = refl
-    shown-same Source.Array sent i = cell-same (arrayRange (s .chip .suspended)) ((address sent + i) % arraySize) (omega arith)
+    shown-same Source.Array sent i = cell-same (arrayRange (s .chip .rest .works .suspended)) ((address sent + i) % arraySize) (omega arith)
     shown-same Source.Security sent i = refl
 
-    reply-same : (k : Kind) (sent : List ℕ) (i : ℕ) → reply k (s .chip) (s .array) (s .security) sent i ≡ reply k (s .chip) (with-bytes s g .array) (s .security) sent i
-    reply-same Kind.Nothing sent i = refl
-    reply-same Kind.EnableReset sent i = refl
-    reply-same Kind.Reset sent i = refl
-    reply-same Kind.ToSqi sent i = refl
-    reply-same Kind.ToSpi sent i = refl
+    reply-same : (k : Kind) (sent : List ℕ) (i : ℕ) → reply k (s .chip .rest) (s .array) (s .security) sent i ≡ reply k (s .chip .rest) (with-bytes s g .array) (s .security) sent i
     reply-same (Kind.Show x) sent i = shown-same x sent i
-    reply-same Kind.SetWel sent i = refl
-    reply-same Kind.ClearWel sent i = refl
     reply-same (Kind.Begin x) sent i = refl
-    reply-same Kind.WriteProtection sent i = refl
-    reply-same Kind.LockDown sent i = refl
-    reply-same Kind.ClearLocks sent i = refl
-    reply-same Kind.Suspend sent i = refl
-    reply-same Kind.Resume sent i = refl
+    reply-same (Kind.Do x) sent i = refl
 
     frameCell-same : (n : ℕ) (sent : List ℕ) (i : ℕ) → frameCell n s sent i ≡ frameCell n (with-bytes s g) sent i
     unfolding frameCell with-bytes
@@ -266,7 +182,7 @@ module _ (p₀ : ℕ) where
   worked-alike n s g a e = go (eqb n 0)
     where
       w : Work
-      w = s .chip .running
+      w = s .chip .rest .works .running
 
       go : (x : Bool)
           → pick x (finish w (arrayRange w) (s .chip .buffer) arraySize (s .array)) (s .array) .byte a
@@ -278,7 +194,7 @@ module _ (p₀ : ℕ) where
   unfolding workedArray finish
   worked-size n s = go (eqb n 0)
     where
-      go : (x : Bool) → pick x (finish (s .chip .running) (arrayRange (s .chip .running)) (s .chip .buffer) arraySize (s .array)) (s .array) .size ≡ s .array .size
+      go : (x : Bool) → pick x (finish (s .chip .rest .works .running) (arrayRange (s .chip .rest .works .running)) (s .chip .buffer) arraySize (s .array)) (s .array) .size ≡ s .array .size
       go true = refl
       go false = refl
 
@@ -287,12 +203,12 @@ module _ (p₀ : ℕ) where
   worked-security n s g = refl
 
   -- a key byte lies in no range that runs
-  worked-key : (n : ℕ) (s : State) (a : ℕ) → Locked p₀ (s .chip) → (n ≡ 0 → stateRight s ≡ true) → a < arraySize → keyPlace p₀ a ≡ true → workedArray n arraySize s .byte a ≡ s .array .byte a
+  worked-key : (n : ℕ) (s : State) (a : ℕ) → Locked p₀ (s .chip .rest) → (n ≡ 0 → stateRight s ≡ true) → a < arraySize → keyPlace p₀ a ≡ true → workedArray n arraySize s .byte a ≡ s .array .byte a
   unfolding workedArray
   worked-key n s a l r below k = go (eqb n 0) refl
     where
       w : Work
-      w = s .chip .running
+      w = s .chip .rest .works .running
 
       formed : stateRight s ≡ true → wellFormed (s .chip) ≡ true
       formed e = and-split (wellFormed (s .chip)) _ (and-split _ _ e .0) .0
@@ -301,7 +217,7 @@ module _ (p₀ : ℕ) where
       go true e =
           finish-outside w (arrayRange w) (s .chip .buffer) arraySize (s .array) a
           (never (holds (arrayRange w) a)
-          (λ h. true≢false (sym (l .held a k .1) ∙ unlocked-place (s .chip .protection) (arrayRange w) a (well-of (s .chip) (formed (r (eqb-true n 0 e))) .works .running-open) below h)))
+          (λ h. true≢false (sym (l .held a k .1) ∙ unlocked-place (s .chip .rest .locks .protection) (arrayRange w) a (well-of (s .chip) (formed (r (eqb-true n 0 e))) .works .running-open) below h)))
       go false e = refl
 
   -- ---- two states on the way
@@ -310,7 +226,7 @@ module _ (p₀ : ℕ) where
     chip : s .chip ≡ t .chip
     security : s .security ≡ t .security
     size : s .array .size ≡ t .array .size
-    locked : Locked p₀ (s .chip)
+    locked : Locked p₀ (s .chip .rest)
     alike : (a : ℕ) → a < arraySize → keyPlace p₀ a ≡ false → s .array .byte a ≡ t .array .byte a
     first-keys : (a : ℕ) → a < arraySize → keyPlace p₀ a ≡ true → s .array .byte a ≡ s₀ .array .byte a
     second-keys : (a : ℕ) → a < arraySize → keyPlace p₀ a ≡ true → t .array .byte a ≡ t₀ .array .byte a
@@ -376,9 +292,9 @@ module _ (p₀ : ℕ) where
   step-after s₀ t₀ s t completes n w = subst (λ (t : State). Follows s₀ t₀ (completion s) (completion t)) (other-bytes s₀ t₀ s t w) (completion-after s₀ t₀ s t w)
   step-after s₀ t₀ s t (cuts k) n w = absurd n
 
-  kept : (s₀ t₀ : State) (o q : Outcome) → s₀ .chip .protection ≡ p₀ → Follows s₀ t₀ o q → Kept keyPlace s₀ t₀ o q
+  kept : (s₀ t₀ : State) (o q : Outcome) → s₀ .chip .rest .locks .protection ≡ p₀ → Follows s₀ t₀ o q → Kept keyPlace s₀ t₀ o q
   kept s₀ t₀ o q e w =
-      let back : (a : ℕ) → keyPlace p₀ a ≡ keyPlace (s₀ .chip .protection) a = λ a. ap (λ (p : ℕ). keyPlace p a) (sym e) in
+      let back : (a : ℕ) → keyPlace p₀ a ≡ keyPlace (s₀ .chip .rest .locks .protection) a = λ a. ap (λ (p : ℕ). keyPlace p a) (sym e) in
       record {
         same-number = w .number;
         same-reply = w .reply;
@@ -391,7 +307,7 @@ module _ (p₀ : ℕ) where
         second-keys = λ a below k. w .twins .second-keys a below (back a ∙ k);
       }
 
-  kept-run : (s₀ t₀ s t : State) (es : List Event) → s₀ .chip .protection ≡ p₀ → Uncut es → Twins s₀ t₀ s t → AllKept keyPlace s₀ t₀ (run s es) (run t es)
+  kept-run : (s₀ t₀ s t : State) (es : List Event) → s₀ .chip .rest .locks .protection ≡ p₀ → Uncut es → Twins s₀ t₀ s t → AllKept keyPlace s₀ t₀ (run s es) (run t es)
   unfolding run
   kept-run s₀ t₀ s t [] p u w = tt
   kept-run s₀ t₀ s t (sends f ∷ es) p u w =
@@ -405,12 +321,12 @@ module _ (p₀ : ℕ) where
 -- ---- the demand
 
 -- at the start both locks stand
-start-locked : (s : State) → s .chip .wpld ≡ true → Locked (s .chip .protection) (s .chip)
-start-locked s d = record { down = d; held = λ a k. and-split (readLocked (s .chip .protection) a) (writeLocked (s .chip .protection) a) k }
+start-locked : (s : State) → s .chip .rest .flags .wpld ≡ true → Locked (s .chip .rest .locks .protection) (s .chip .rest)
+start-locked s d = record { down = d; held = λ a k. and-split (readLocked (s .chip .rest .locks .protection) a) (writeLocked (s .chip .rest .locks .protection) a) k }
 
 pub demand-3 : Demand3
 demand-3 s t es c u =
-    kept-run (s .chip .protection) s t s t es refl u
+    kept-run (s .chip .rest .locks .protection) s t s t es refl u
     (record {
       chip = c .same-record;
       security = c .same-security;

@@ -1,12 +1,13 @@
 -- The laws of the rules.
 pub mod Bools
+pub mod Arms
 pub mod Bits
 pub mod Blocks
 pub mod Fields
 pub mod Registers
 pub mod Numbers
 pub mod Rows
-pub mod Locks
+pub mod LockBits
 pub mod WellFormed
 pub mod Refusals
 pub mod Effects

@@ -9,7 +9,7 @@ use native.Mathlib.Omega.{arith}
 use lib.Dec.{eqb, ltb, leb}
 use lib.ListN.{length}
 use borrow.Author.Tests.{eqb-true, eqb-false, eq-eqb, ltb-true, leb-true, le-leb, not-true, not-false}
-use Rattle.rules.specs.declared.Chip.{Chip}
+use Rattle.rules.specs.declared.Rest.{Rest}
 use Rattle.rules.specs.Words.{pick, oneOf, every}
 use Rattle.rules.specs.Blocks.{arraySize, securitySize}
 use Rattle.rules.specs.WellFormed.{wellFormed}
@@ -247,18 +247,18 @@ completion-lowest s n c = first-lowest 0 (completionTests s) refl n c
 
 -- ---- what is known of a done frame
 
-pub record Accepted (c : Chip) (o : ℕ) (sent : List ℕ) : Type 0 where
-  pub is-listed : listed (c .sqi) (formOf o) ≡ true
-  pub sized : lengthRight (c .sqi) (formOf o) (length sent) ≡ true
-  pub calm : whileBusy c o ≡ false
-  pub enabled : noEnable c o ≡ false
-  pub wired : noIoc c o ≡ false
-  pub apart : suspension c o sent ≡ false
-  pub latched : noWel c o ≡ false
-  pub opened : closed c o sent ≡ false
-  pub bare : lockedTarget c o sent ≡ false
+pub record Accepted (r : Rest) (o : ℕ) (sent : List ℕ) : Type 0 where
+  pub is-listed : listed (r .flags .sqi) (formOf o) ≡ true
+  pub sized : lengthRight (r .flags .sqi) (formOf o) (length sent) ≡ true
+  pub calm : whileBusy r o ≡ false
+  pub enabled : noEnable r o ≡ false
+  pub wired : noIoc r o ≡ false
+  pub apart : suspension r o sent ≡ false
+  pub latched : noWel r o ≡ false
+  pub opened : closed r o sent ≡ false
+  pub bare : lockedTarget r o sent ≡ false
 
-pub accepted : (s : State) (f : Frame) → frame s f .number ≡ 0 → Accepted (s .chip) (opcode (f .sent)) (f .sent)
+pub accepted : (s : State) (f : Frame) → frame s f .number ≡ 0 → Accepted (s .chip .rest) (opcode (f .sent)) (f .sent)
 unfolding frameTests commandTests
 accepted s f e =
     let c = frame-given s f .is-0 .0 e in

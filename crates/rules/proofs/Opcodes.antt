@@ -38,7 +38,7 @@ unfolding formOf find frames
 or-more = refl
 
 pub listed-opcodes : ListedOpcodes
-listed-opcodes = record { in-protocol = λ c o h. ap not (by (c .sqi) o h); or-more = agree-at _ _ or-more }
+listed-opcodes = record { in-protocol = λ r o h. ap not (by (r .flags .sqi) o h); or-more = agree-at _ _ or-more }
   where
     by : (q : Bool) (o : ℕ) → o < 256 → listed q (formOf o) ≡ oneOf o (pick q sqiOpcodes spiOpcodes)
     by true = agree-at (λ o. listed true (formOf o)) (λ o. oneOf o sqiOpcodes) in-sqi

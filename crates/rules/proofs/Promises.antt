@@ -2,21 +2,19 @@
 use Prim.Native.Nat.{ℕ, _<_}
 use mathlib.Core.Path.{_≡_, refl, sym, ap, _∙_, fun-ext}
 use mathlib.Core.Bool.{Bool, true, false}
-use mathlib.Core.List.{List, []}
+use mathlib.Core.List.{List}
 use native.Mathlib.Omega.{arith}
 use lib.Dec.{eqb, ltb}
 use lib.ListN.{length, getD, List·getD-eq-default}
 use lib.Seq.{ext-getD}
 use borrow.Author.Tests.{eqb-true, ltb-true, ltb-false}
 use Rattle.rules.proofs.Bools.{every-of}
-use Rattle.rules.specs.declared.After.{After}
 use Rattle.rules.specs.declared.Answer.{Answer}
-use Rattle.rules.specs.declared.Chip.{Chip}
 use Rattle.rules.specs.declared.Refusal.{Refusal}
 use Rattle.rules.specs.Words.{pick, oneOf, every, Lent, lent, written}
 use Rattle.rules.specs.Numbers.{answerNumber}
 use Rattle.rules.specs.Machine.{Outcome}
-use Rattle.rules.specs.Promises.{came, FramePromise, CompletionPromise, CutPromise}
+use Rattle.rules.specs.Promises.{Bench, Carried, Returned, outcomeOf, FramePromise, CompletionPromise, CutPromise}
 
 -- ---- lent memory
 
@@ -76,41 +74,25 @@ answer-one a b e = sym (answer-back a) ∙ ap answerOf e ∙ answer-back b
 
 -- ---- no second outcome
 
-pub record Same (r r′ : After) (array array′ security security′ reply reply′ marks marks′ : List ℕ) : Type 0 where
-  pub result : r ≡ r′
-  pub array-same : array ≡ array′
-  pub security-same : security ≡ security′
-  pub reply-same : reply ≡ reply′
-  pub marks-same : marks ≡ marks′
+-- what came is known by its outcome
+pub returned-one : (g k : Returned) → outcomeOf g ≡ outcomeOf k → g ≡ k
+returned-one g k e =
+    let n = answer-one (g .after .answer) (k .after .answer) (ap (λ (o : Outcome). o .number) e) in
+    let c : g .after .chip ≡ k .after .chip = ap (λ (o : Outcome). o .chip) e in
+    let a = lent-one (g .array) (k .array) (ap (λ (o : Outcome). o .array) e) in
+    let s = lent-one (g .security) (k .security) (ap (λ (o : Outcome). o .security) e) in
+    let y = lent-one (g .reply) (k .reply) (ap (λ (o : Outcome). o .reply) e) in
+    let m = lent-one (g .marks) (k .marks) (ap (λ (o : Outcome). o .marks) e) in
+    λ i. record { after = record { answer = n i; chip = c i }; array = a i; security = s i; reply = y i; marks = m i }
 
-pub came-one : (r r′ : After) (array array′ security security′ reply reply′ marks marks′ : List ℕ)
-    → came r array security reply marks ≡ came r′ array′ security′ reply′ marks′
-    → Same r r′ array array′ security security′ reply reply′ marks marks′
-came-one r r′ array array′ security security′ reply reply′ marks marks′ e =
-    let a = answer-one (r .answer) (r′ .answer) (ap (λ (o : Outcome). o .number) e) in
-    let c : r .chip ≡ r′ .chip = ap (λ (o : Outcome). o .chip) e in
-    record {
-      result = λ i. record { answer = a i; chip = c i };
-      array-same = lent-one array array′ (ap (λ (o : Outcome). o .array) e);
-      security-same = lent-one security security′ (ap (λ (o : Outcome). o .security) e);
-      reply-same = lent-one reply reply′ (ap (λ (o : Outcome). o .reply) e);
-      marks-same = lent-one marks marks′ (ap (λ (o : Outcome). o .marks) e);
-    }
+pub frame-one : (b : Bench) (f : Carried) (g k : Returned) → FramePromise b f g → FramePromise b f k → g ≡ k
+frame-one b f g k p q = returned-one g k (p .outcome ∙ sym (q .outcome))
 
-pub frame-one : (c : Chip) (array security sent reply marks : List ℕ) (r₁ r₂ : After) (a₁ a₂ s₁ s₂ y₁ y₂ m₁ m₂ : List ℕ)
-    → FramePromise c array security sent reply marks r₁ a₁ s₁ y₁ m₁ → FramePromise c array security sent reply marks r₂ a₂ s₂ y₂ m₂
-    → Same r₁ r₂ a₁ a₂ s₁ s₂ y₁ y₂ m₁ m₂
-frame-one c array security sent reply marks r₁ r₂ a₁ a₂ s₁ s₂ y₁ y₂ m₁ m₂ p q = came-one r₁ r₂ a₁ a₂ s₁ s₂ y₁ y₂ m₁ m₂ (p .outcome ∙ sym (q .outcome))
+pub completion-one : (b : Bench) (g k : Returned) → CompletionPromise b g → CompletionPromise b k → g ≡ k
+completion-one b g k p q = returned-one g k (p .outcome ∙ sym (q .outcome))
 
-pub completion-one : (c : Chip) (array security : List ℕ) (r₁ r₂ : After) (a₁ a₂ s₁ s₂ : List ℕ)
-    → CompletionPromise c array security r₁ a₁ s₁ → CompletionPromise c array security r₂ a₂ s₂
-    → Same r₁ r₂ a₁ a₂ s₁ s₂ [] [] [] []
-completion-one c array security r₁ r₂ a₁ a₂ s₁ s₂ p q = came-one r₁ r₂ a₁ a₂ s₁ s₂ [] [] [] [] (p .outcome ∙ sym (q .outcome))
-
-pub cut-one : (c : Chip) (array security : List ℕ) (k : ℕ) (r₁ r₂ : After) (a₁ a₂ s₁ s₂ : List ℕ)
-    → CutPromise c array security k r₁ a₁ s₁ → CutPromise c array security k r₂ a₂ s₂
-    → Same r₁ r₂ a₁ a₂ s₁ s₂ [] [] [] []
-cut-one c array security k r₁ r₂ a₁ a₂ s₁ s₂ p q = came-one r₁ r₂ a₁ a₂ s₁ s₂ [] [] [] [] (p .outcome ∙ sym (q .outcome))
+pub cut-one : (b : Bench) (n : ℕ) (g k : Returned) → CutPromise b n g → CutPromise b n k → g ≡ k
+cut-one b n g k p q = returned-one g k (p .outcome ∙ sym (q .outcome))
 
 -- an equation leaves no second value
 pub one : {A : Type 0} {x y v : A} → x ≡ v → y ≡ v → x ≡ y

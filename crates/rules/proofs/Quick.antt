@@ -10,7 +10,7 @@ use Rattle.rules.specs.declared.Work.{Work}
 use Rattle.rules.specs.Words.{pick, every, Lent}
 use Rattle.rules.specs.Blocks.{arraySize, securitySize}
 use Rattle.rules.specs.Works.{finish}
-use Rattle.rules.specs.Fields.{chipOf}
+use Rattle.rules.specs.Fields.{locksOf, worksOf, flagsOf, restOf, chipOf}
 use Rattle.rules.specs.WellFormed.{wellFormed}
 use Rattle.rules.specs.Numbers.{State, stateRight, frameRight, emptyFrame, nothingRuns, test, first, commandTests, frameTests, completionTests, cutTests}
 use Rattle.rules.specs.Machine.{Outcome, frame, completion, powerCut, workedArray, workedSecurity, Event, sends, completes, cuts, step, left, run}
@@ -47,9 +47,9 @@ readWork (Work.AddPermanent v) k = readNumber v (λ m. k (Work.AddPermanent m))
 
 unfoldable pub readChip : {A : Type 0} → Chip → (Chip → A) → A
 readChip c k =
-    readBytes (c .buffer) (λ b. readNumber (c .protection) (λ p. readNumber (c .permanent) (λ q. readWork (c .running) (λ r. readWork (c .suspended) (λ s.
-    readFlag (c .sqi) (λ sqi. readFlag (c .wel) (λ wel. readFlag (c .ioc) (λ ioc. readFlag (c .wpen) (λ wpen. readFlag (c .wpld) (λ wpld.
-    readFlag (c .sec) (λ sec. readFlag (c .enable) (λ enable. k (chipOf b p q r s sqi wel ioc wpen wpld sec enable)))))))))))))
+    readBytes (c .buffer) (λ b. readNumber (c .rest .locks .protection) (λ p. readNumber (c .rest .locks .permanent) (λ q. readWork (c .rest .works .running) (λ r. readWork (c .rest .works .suspended) (λ s.
+    readFlag (c .rest .flags .sqi) (λ sqi. readFlag (c .rest .flags .wel) (λ wel. readFlag (c .rest .flags .ioc) (λ ioc. readFlag (c .rest .flags .wpen) (λ wpen. readFlag (c .rest .flags .wpld) (λ wpld.
+    readFlag (c .rest .flags .sec) (λ sec. readFlag (c .rest .flags .enable) (λ enable. k (chipOf b (restOf (locksOf p q) (worksOf r s) (flagsOf sqi wel ioc wpen wpld sec enable)))))))))))))))
 
 readFlag-is : {A : Type 0} (b : Bool) (k : Bool → A) → readFlag b k ≡ k b
 readFlag-is true k = refl
@@ -77,14 +77,14 @@ readWork-is (Work.AddPermanent v) k = readNumber-is v _
 readChip-is : {A : Type 0} (c : Chip) (k : Chip → A) → readChip c k ≡ k c
 unfolding readChip
 readChip-is c k =
-    readBytes-is (c .buffer) _ ∙ readNumber-is (c .protection) _ ∙ readNumber-is (c .permanent) _ ∙ readWork-is (c .running) _ ∙ readWork-is (c .suspended) _
-    ∙ readFlag-is (c .sqi) _ ∙ readFlag-is (c .wel) _ ∙ readFlag-is (c .ioc) _ ∙ readFlag-is (c .wpen) _ ∙ readFlag-is (c .wpld) _ ∙ readFlag-is (c .sec) _ ∙ readFlag-is (c .enable) _
+    readBytes-is (c .buffer) _ ∙ readNumber-is (c .rest .locks .protection) _ ∙ readNumber-is (c .rest .locks .permanent) _ ∙ readWork-is (c .rest .works .running) _ ∙ readWork-is (c .rest .works .suspended) _
+    ∙ readFlag-is (c .rest .flags .sqi) _ ∙ readFlag-is (c .rest .flags .wel) _ ∙ readFlag-is (c .rest .flags .ioc) _ ∙ readFlag-is (c .rest .flags .wpen) _ ∙ readFlag-is (c .rest .flags .wpld) _ ∙ readFlag-is (c .rest .flags .sec) _ ∙ readFlag-is (c .rest .flags .enable) _
 
 -- ---- the machine where record and lengths are right
 
 unfoldable pub quick : {A : Type 0} → State → Event → (Outcome → A) → A
-quick s (sends f) k = readNumber (first (test 2 (emptyFrame (f .sent)) ∷ commandTests (s .chip) (f .sent))) (λ n. k (framed s f n))
-quick s completes k = readNumber (first (test 12 (nothingRuns (s .chip)) ∷ [])) (λ n. k (completed s n))
+quick s (sends f) k = readNumber (first (test 2 (emptyFrame (f .sent)) ∷ commandTests (s .chip .rest) (f .sent))) (λ n. k (framed s f n))
+quick s completes k = readNumber (first (test 12 (nothingRuns (s .chip .rest)) ∷ [])) (λ n. k (completed s n))
 quick s (cuts m) k = k (cut s m 0)
 
 abbrev pub fits : Event → Bool
@@ -95,11 +95,11 @@ fits (cuts k) = true
 pub quick-is : {A : Type 0} (s : State) (e : Event) (k : Outcome → A) → stateRight s ≡ true → fits e ≡ true → quick s e k ≡ k (step s e)
 unfolding quick step frame completion powerCut framed completed cut frameTests completionTests cutTests
 quick-is s (sends f) k r h =
-    readNumber-is (first (test 2 (emptyFrame (f .sent)) ∷ commandTests (s .chip) (f .sent))) _
-    ∙ sym (ap (λ (b : Bool). k (framed s f (first (test 1 (not b) ∷ test 2 (emptyFrame (f .sent)) ∷ commandTests (s .chip) (f .sent))))) (and-both r h))
+    readNumber-is (first (test 2 (emptyFrame (f .sent)) ∷ commandTests (s .chip .rest) (f .sent))) _
+    ∙ sym (ap (λ (b : Bool). k (framed s f (first (test 1 (not b) ∷ test 2 (emptyFrame (f .sent)) ∷ commandTests (s .chip .rest) (f .sent))))) (and-both r h))
 quick-is s completes k r h =
-    readNumber-is (first (test 12 (nothingRuns (s .chip)) ∷ [])) _
-    ∙ sym (ap (λ (b : Bool). k (completed s (first (test 1 (not b) ∷ test 12 (nothingRuns (s .chip)) ∷ [])))) r)
+    readNumber-is (first (test 12 (nothingRuns (s .chip .rest)) ∷ [])) _
+    ∙ sym (ap (λ (b : Bool). k (completed s (first (test 1 (not b) ∷ test 12 (nothingRuns (s .chip .rest)) ∷ [])))) r)
 quick-is s (cuts m) k r h = sym (ap (λ (b : Bool). k (cut s m (first (test 1 (not b) ∷ [])))) r)
 
 -- ---- an event keeps them right

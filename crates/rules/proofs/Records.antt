@@ -6,7 +6,7 @@ use mathlib.Core.List.{List, [], _∷_}
 use Rattle.rules.specs.Words.{bit, pick, Each, end, _next_, holds, overlap}
 use Rattle.rules.specs.Blocks.{wide, blocks, blockAt, unlocked}
 use Rattle.rules.specs.Programs.{blank}
-use Rattle.rules.specs.WellFormed.{firstFF, registersRight, worksRight, wellFormed}
+use Rattle.rules.specs.WellFormed.{firstFF, locksRight, worksRight, wellFormed}
 use Rattle.rules.specs.CasesOfRecords.{RecordCase, records, RecordsHold}
 use Rattle.rules.proofs.Bools.{same-flag}
 use Rattle.rules.proofs.Cases.{none-in-front}
@@ -17,7 +17,7 @@ failingRecords [] = []
 failingRecords (r ∷ rs) = let rest = failingRecords rs in pick (Bool·beq (wellFormed (r .chip)) (r .formed)) rest (r .sentence ∷ rest)
 
 none-fails : failingRecords records ≡ []
-unfolding failingRecords records bit holds overlap wide blocks blockAt unlocked blank firstFF registersRight worksRight wellFormed
+unfolding failingRecords records bit holds overlap wide blocks blockAt unlocked blank firstFF locksRight worksRight wellFormed
 none-fails = refl
 
 records-hold-of : (rs : List RecordCase) → failingRecords rs ≡ [] → Each (λ r. wellFormed (r .chip) ≡ r .formed) rs

@@ -10,9 +10,10 @@ use Rattle.rules.specs.Words.{pick, written, unlent}
 use Rattle.rules.specs.Blocks.{arraySize}
 use Rattle.rules.specs.Works.{arrayRange, securityRange, finish}
 use Rattle.rules.specs.Frames.{formOf, opcode}
+use Rattle.rules.specs.Programs.{blank}
 use Rattle.rules.specs.Reading.{silent, reply}
-use Rattle.rules.specs.Fields.{withEnable}
-use Rattle.rules.specs.Commands.{act, settled, rested, afterCut}
+use Rattle.rules.specs.Fields.{chipOf, withEnable}
+use Rattle.rules.specs.Commands.{act, bufferAfter, settled, rested, bufferRested, afterCut}
 use Rattle.rules.specs.Numbers.{State, Frame}
 use Rattle.rules.specs.Machine.{Outcome, frameChip, frameCell, frameReply, frameMarks, frame, workedArray, workedSecurity, completedChip, completion, cutChip, powerCut}
 
@@ -80,7 +81,7 @@ pub frame-refused-more : (s : State) (f : Frame) (n : ℕ) → 3 ≤ n → frame
     → frame s f
     ≡ record {
       number = n;
-      chip = withEnable false (s .chip);
+      chip = chipOf (s .chip .buffer) (withEnable false (s .chip .rest));
       array = s .array;
       security = s .security;
       reply = written (f .reply .size) (λ i. 0xFF);
@@ -103,11 +104,11 @@ frame-refused-more s f n h e = ap (framed s f) e ∙ (λ i. by (none i) (one i) 
     by is-0 is-1 is-2 =
         record {
           number = n;
-          chip = pick is-0 (act (formOf (opcode (f .sent)) .kind) (f .sent) (withEnable false (s .chip))) (pick (is-1 || (is-2 || false)) (s .chip) (withEnable false (s .chip)));
+          chip = pick is-0 (chipOf (bufferAfter (formOf (opcode (f .sent)) .kind) (f .sent) (s .chip .buffer)) (act (formOf (opcode (f .sent)) .kind) (f .sent) (withEnable false (s .chip .rest)))) (pick (is-1 || (is-2 || false)) (s .chip) (chipOf (s .chip .buffer) (withEnable false (s .chip .rest))));
           array = s .array;
           security = s .security;
-          reply = pick is-1 (f .reply) (written (f .reply .size) (λ i. pick is-0 (reply (formOf (opcode (f .sent)) .kind) (s .chip) (s .array) (s .security) (f .sent) i) silent .byte));
-          marks = pick is-1 (f .marks) (written (f .marks .size) (λ i. pick is-0 (reply (formOf (opcode (f .sent)) .kind) (s .chip) (s .array) (s .security) (f .sent) i) silent .mark));
+          reply = pick is-1 (f .reply) (written (f .reply .size) (λ i. pick is-0 (reply (formOf (opcode (f .sent)) .kind) (s .chip .rest) (s .array) (s .security) (f .sent) i) silent .byte));
+          marks = pick is-1 (f .marks) (written (f .marks .size) (λ i. pick is-0 (reply (formOf (opcode (f .sent)) .kind) (s .chip .rest) (s .array) (s .security) (f .sent) i) silent .mark));
         }
 
 -- a completion refused with 1 or 12
@@ -128,11 +129,11 @@ pub frame-done-whole : (s : State) (f : Frame) → frame s f .number ≡ 0
     → frame s f
     ≡ record {
       number = 0;
-      chip = act (formOf (opcode (f .sent)) .kind) (f .sent) (withEnable false (s .chip));
+      chip = chipOf (bufferAfter (formOf (opcode (f .sent)) .kind) (f .sent) (s .chip .buffer)) (act (formOf (opcode (f .sent)) .kind) (f .sent) (withEnable false (s .chip .rest)));
       array = s .array;
       security = s .security;
-      reply = written (f .reply .size) (λ i. reply (formOf (opcode (f .sent)) .kind) (s .chip) (s .array) (s .security) (f .sent) i .byte);
-      marks = written (f .marks .size) (λ i. reply (formOf (opcode (f .sent)) .kind) (s .chip) (s .array) (s .security) (f .sent) i .mark);
+      reply = written (f .reply .size) (λ i. reply (formOf (opcode (f .sent)) .kind) (s .chip .rest) (s .array) (s .security) (f .sent) i .byte);
+      marks = written (f .marks .size) (λ i. reply (formOf (opcode (f .sent)) .kind) (s .chip .rest) (s .array) (s .security) (f .sent) i .mark);
     }
 unfolding frame framed frameChip frameReply frameMarks frameCell
 frame-done-whole s f e = ap (framed s f) e
@@ -141,9 +142,9 @@ pub completion-done-whole : (s : State) → completion s .number ≡ 0
     → completion s
     ≡ record {
       number = 0;
-      chip = rested (settled (s .chip .running) (s .chip));
-      array = finish (s .chip .running) (arrayRange (s .chip .running)) (s .chip .buffer) arraySize (s .array);
-      security = finish (s .chip .running) (securityRange (s .chip .running)) (s .chip .buffer) arraySize (s .security);
+      chip = chipOf (bufferRested (s .chip .rest .works .suspended) (s .chip .buffer)) (rested (settled (s .chip .rest .works .running) (s .chip .rest)));
+      array = finish (s .chip .rest .works .running) (arrayRange (s .chip .rest .works .running)) (s .chip .buffer) arraySize (s .array);
+      security = finish (s .chip .rest .works .running) (securityRange (s .chip .rest .works .running)) (s .chip .buffer) arraySize (s .security);
       reply = unlent;
       marks = unlent;
     }
@@ -154,9 +155,9 @@ pub cut-done-whole : (s : State) (k : ℕ) → powerCut s k .number ≡ 0
     → powerCut s k
     ≡ record {
       number = 0;
-      chip = afterCut (pick (ltb 0 k) (settled (s .chip .running) (s .chip)) (s .chip));
-      array = finish (s .chip .running) (arrayRange (s .chip .running)) (s .chip .buffer) k (s .array);
-      security = finish (s .chip .running) (securityRange (s .chip .running)) (s .chip .buffer) k (s .security);
+      chip = chipOf blank (afterCut (pick (ltb 0 k) (settled (s .chip .rest .works .running) (s .chip .rest)) (s .chip .rest)));
+      array = finish (s .chip .rest .works .running) (arrayRange (s .chip .rest .works .running)) (s .chip .buffer) k (s .array);
+      security = finish (s .chip .rest .works .running) (securityRange (s .chip .rest .works .running)) (s .chip .buffer) k (s .security);
       reply = unlent;
       marks = unlent;
     }

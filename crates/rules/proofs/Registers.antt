@@ -5,7 +5,7 @@ use mathlib.Core.Bool.{Bool, true, false, _&&_, Bool·beq}
 use mathlib.Core.List.{List, [], _∷_}
 use native.Mathlib.Omega.{arith}
 use lib.Dec.{ltb}
-use Rattle.rules.specs.declared.Chip.{Chip}
+use Rattle.rules.specs.declared.Rest.{Rest}
 use Rattle.rules.specs.declared.Source.{Source}
 use Rattle.rules.specs.Words.{bit, num, Lent}
 use Rattle.rules.specs.Registers.{busy, wse, wsp, bpnv, status, configuration}
@@ -37,14 +37,14 @@ abbrev statusRight : Bool → Bool → Bool → Bool → Bool → Bool → Bool
 statusRight b w e p d s = hasBits (num b + 2 * num w + 4 * num e + 8 * num p + 16 * num d + 32 * num s + 128 * num b) b w e p d s false b
 
 -- bit 0 BUSY, 1 WEL, 2 WSE, 3 WSP, 4 WPLD, 5 SEC, 6 zero, 7 BUSY again
-pub status-bits : (c : Chip) → hasBits (status c) (busy c) (c .wel) (wse c) (wsp c) (c .wpld) (c .sec) false (busy c) ≡ true
+pub status-bits : (r : Rest) → hasBits (status r) (busy r) (r .flags .wel) (wse r) (wsp r) (r .flags .wpld) (r .flags .sec) false (busy r) ≡ true
 unfolding bit
-status-bits c = eight-at (statusRight (busy c) (c .wel) (wse c)) (eight-at (λ b w e. eight (statusRight b w e)) refl (busy c) (c .wel) (wse c)) (wsp c) (c .wpld) (c .sec)
+status-bits r = eight-at (statusRight (busy r) (r .flags .wel) (wse r)) (eight-at (λ b w e. eight (statusRight b w e)) refl (busy r) (r .flags .wel) (wse r)) (wsp r) (r .flags .wpld) (r .flags .sec)
 
 -- bit 1 IOC, bit 3 BPNV, bit 7 WPEN, others zero
-pub configuration-bits : (c : Chip) → hasBits (configuration c) false (c .ioc) false (bpnv c) false false false (c .wpen) ≡ true
+pub configuration-bits : (r : Rest) → hasBits (configuration r) false (r .flags .ioc) false (bpnv r) false false false (r .flags .wpen) ≡ true
 unfolding bit
-configuration-bits c = eight-at (λ i n w. hasBits (2 * num i + 8 * num n + 128 * num w) false i false n false false false w) refl (c .ioc) (bpnv c) (c .wpen)
+configuration-bits r = eight-at (λ i n w. hasBits (2 * num i + 8 * num n + 128 * num w) false i false n false false false w) refl (r .flags .ioc) (bpnv r) (r .flags .wpen)
 
 -- a number of six digits to the base 256
 digits : (p q₁ q₂ q₃ q₄ q₅ r₀ r₁ r₂ r₃ r₄ r₅ : ℕ) → p ≡ q₁ * 256 + r₀ → q₁ ≡ q₂ * 256 + r₁ → q₂ ≡ q₃ * 256 + r₂ → q₃ ≡ q₄ * 256 + r₃ → q₄ ≡ q₅ * 256 + r₄ → q₅ ≡ r₅
@@ -52,12 +52,12 @@ digits : (p q₁ q₂ q₃ q₄ q₅ r₀ r₁ r₂ r₃ r₄ r₅ : ℕ) → p 
 digits p q₁ q₂ q₃ q₄ q₅ r₀ r₁ r₂ r₃ r₄ r₅ e₀ e₁ e₂ e₃ e₄ e₅ = omega arith
 
 -- 42 with the six bytes that 72 gave has the same register
-pub register-travels : (c : Chip) (array security : Lent) (sent : List ℕ) → c .protection < 2 ^ 48
-    → let b : ℕ → ℕ = λ i. shown Source.Protection c array security sent i .byte in
-    six (0x42 ∷ b 0 ∷ b 1 ∷ b 2 ∷ b 3 ∷ b 4 ∷ b 5 ∷ []) ≡ c .protection
+pub register-travels : (r : Rest) (array security : Lent) (sent : List ℕ) → r .locks .protection < 2 ^ 48
+    → let b : ℕ → ℕ = λ i. shown Source.Protection r array security sent i .byte in
+    six (0x42 ∷ b 0 ∷ b 1 ∷ b 2 ∷ b 3 ∷ b 4 ∷ b 5 ∷ []) ≡ r .locks .protection
 unfolding shown
-register-travels c array security sent h =
-    let p = c .protection in
+register-travels r array security sent h =
+    let p = r .locks .protection in
     digits p (p / 2 ^ 8) (p / 2 ^ 16) (p / 2 ^ 24) (p / 2 ^ 32) (p / 2 ^ 40)
     (p / 2 ^ 0 % 256) (p / 2 ^ 8 % 256) (p / 2 ^ 16 % 256) (p / 2 ^ 24 % 256) (p / 2 ^ 32 % 256) (p / 2 ^ 40 % 256)
     (omega arith) (omega arith) (omega arith) (omega arith) (omega arith) (omega arith)

@@ -16,23 +16,23 @@ use Rattle.rules.specs.WellFormed.{numbersRight, wellFormed}
 use Rattle.rules.specs.Numbers.{answerNumber, State, stateRight, first, frameTests, completionTests, cutTests}
 use Rattle.rules.specs.Machine.{Outcome, frameReply, frameMarks, frame, workedArray, workedSecurity, completion, powerCut, step, run}
 use Rattle.rules.specs.Given.{frameNumbers, completionNumbers, cutNumbers}
-use Rattle.rules.specs.Promises.{carried, came}
-use Rattle.rules.specs.Demands.{Bench, stateOf, Call, frameCall, completionCall, cutCall, Returned, Meets, benchAfter, Chain, eventOf, outcomeOf, eventsOf, outcomesOf, AllWellFormed, Demand2}
+use Rattle.rules.specs.Promises.{Bench, Carried, Returned, stateOf, frameOf, outcomeOf}
+use Rattle.rules.specs.Demands.{Call, frameCall, completionCall, cutCall, Meets, benchAfter, Chain, eventOf, eventsOf, outcomesOf, AllWellFormed, Demand2}
 use Rattle.rules.proofs.Bools.{and-split, never}
 use Rattle.rules.proofs.Blocks.{holds-at}
 use Rattle.rules.proofs.Ranges.{array-inside, security-inside}
 use Rattle.rules.proofs.Effects.{finish-outside}
 use Rattle.rules.proofs.Numbers.{frame-given, completion-given, cut-given}
-use Rattle.rules.proofs.Promises.{lent-ext, refusalOf, answerOf, answer-number, frame-one, completion-one, cut-one}
+use Rattle.rules.proofs.Promises.{lent-ext, refusalOf, answerOf, answer-number, returned-one}
 use Rattle.rules.proofs.WellFormed.{well-of, step-well-formed}
 
 -- ---- each outcome is the machine's
 
 meets-machine : (b : Bench) (e : Call) (g : Returned) → Meets b e g → outcomeOf g ≡ step (stateOf b) (eventOf e)
 unfolding step
-meets-machine b (frameCall sent y m) g h = h .outcome
-meets-machine b completionCall g h = ap₂ (λ (y m : List ℕ). came (g .after) (g .array) (g .security) y m) (h .1) (h .2) ∙ h .0 .outcome
-meets-machine b (cutCall k) g h = ap₂ (λ (y m : List ℕ). came (g .after) (g .array) (g .security) y m) (h .1) (h .2) ∙ h .0 .outcome
+meets-machine b (frameCall f) g h = h .outcome
+meets-machine b completionCall g h = h .outcome
+meets-machine b (cutCall k) g h = h .outcome
 
 chain-machine : (b : Bench) (es : List Call) (gs : List Returned) → Chain b es gs → outcomesOf gs ≡ run (stateOf b) (eventsOf es)
 unfolding run
@@ -57,19 +57,8 @@ demand-2 b es gs h = record { machine = chain-machine b es gs h; formed = chain-
 
 -- ---- there is one chain only
 
-returned-ext : {g k : Returned} → g .after ≡ k .after → g .array ≡ k .array → g .security ≡ k .security → g .reply ≡ k .reply → g .marks ≡ k .marks → g ≡ k
-returned-ext r a s y m = λ i. record { after = r i; array = a i; security = s i; reply = y i; marks = m i }
-
 meets-one : (b : Bench) (e : Call) (g k : Returned) → Meets b e g → Meets b e k → g ≡ k
-meets-one b (frameCall sent y m) g k p q =
-    let s = frame-one (b .chip) (b .array) (b .security) sent y m (g .after) (k .after) (g .array) (k .array) (g .security) (k .security) (g .reply) (k .reply) (g .marks) (k .marks) p q in
-    returned-ext (s .result) (s .array-same) (s .security-same) (s .reply-same) (s .marks-same)
-meets-one b completionCall g k p q =
-    let s = completion-one (b .chip) (b .array) (b .security) (g .after) (k .after) (g .array) (k .array) (g .security) (k .security) (p .0) (q .0) in
-    returned-ext (s .result) (s .array-same) (s .security-same) (p .1 ∙ sym (q .1)) (p .2 ∙ sym (q .2))
-meets-one b (cutCall n) g k p q =
-    let s = cut-one (b .chip) (b .array) (b .security) n (g .after) (k .after) (g .array) (k .array) (g .security) (k .security) (p .0) (q .0) in
-    returned-ext (s .result) (s .array-same) (s .security-same) (p .1 ∙ sym (q .1)) (p .2 ∙ sym (q .2))
+meets-one b e g k p q = returned-one g k (meets-machine b e g p ∙ sym (meets-machine b e k q))
 
 pub chain-one : (b : Bench) (es : List Call) (gs ks : List Returned) → Chain b es gs → Chain b es ks → gs ≡ ks
 chain-one b [] [] [] p q = refl
@@ -129,7 +118,7 @@ tame-finish : (w : Work) (r : Range) (b : List ℕ) (k : ℕ) (m : Lent) → Tam
 unfolding Tame finish
 tame-finish w r b k m t fits i h = finish-outside w r b k m i (never (holds r i) (λ e. let g = holds-at r i e in omega arith)) ∙ t i h
 
-right-parts : (b : Bench) → stateRight (stateOf b) ≡ true → (numbersRight (b .chip .running) ≡ true) × (length (b .array) ≡ arraySize) × (length (b .security) ≡ securitySize)
+right-parts : (b : Bench) → stateRight (stateOf b) ≡ true → (numbersRight (b .chip .rest .works .running) ≡ true) × (length (b .array) ≡ arraySize) × (length (b .security) ≡ securitySize)
 right-parts b e =
     let h₂ = and-split (wellFormed (b .chip) && eqb (length (b .array)) arraySize) (eqb (length (b .security)) securitySize) e in
     let h₁ = and-split (wellFormed (b .chip)) (eqb (length (b .array)) arraySize) (h₂ .0) in
@@ -140,24 +129,24 @@ module _ (b : Bench) (k : ℕ) where
   unfolding workedArray
   tame-array n h = go (eqb n 0) refl
     where
-      go : (x : Bool) → eqb n 0 ≡ x → Tame (pick x (finish (b .chip .running) (arrayRange (b .chip .running)) (b .chip .buffer) k (lent (b .array))) (lent (b .array)))
+      go : (x : Bool) → eqb n 0 ≡ x → Tame (pick x (finish (b .chip .rest .works .running) (arrayRange (b .chip .rest .works .running)) (b .chip .buffer) k (lent (b .array))) (lent (b .array)))
       go true e =
           let p = right-parts b (h (eqb-true n 0 e)) in
-          let i = array-inside (b .chip .running) (p .0) in
+          let i = array-inside (b .chip .rest .works .running) (p .0) in
           let z = p .1 in
-          tame-finish (b .chip .running) (arrayRange (b .chip .running)) (b .chip .buffer) k (lent (b .array)) (tame-lent (b .array)) (omega arith)
+          tame-finish (b .chip .rest .works .running) (arrayRange (b .chip .rest .works .running)) (b .chip .buffer) k (lent (b .array)) (tame-lent (b .array)) (omega arith)
       go false e = tame-lent (b .array)
 
   tame-security : (n : ℕ) → (n ≡ 0 → stateRight (stateOf b) ≡ true) → Tame (workedSecurity n k (stateOf b))
   unfolding workedSecurity
   tame-security n h = go (eqb n 0) refl
     where
-      go : (x : Bool) → eqb n 0 ≡ x → Tame (pick x (finish (b .chip .running) (securityRange (b .chip .running)) (b .chip .buffer) k (lent (b .security))) (lent (b .security)))
+      go : (x : Bool) → eqb n 0 ≡ x → Tame (pick x (finish (b .chip .rest .works .running) (securityRange (b .chip .rest .works .running)) (b .chip .buffer) k (lent (b .security))) (lent (b .security)))
       go true e =
           let p = right-parts b (h (eqb-true n 0 e)) in
-          let i = security-inside (b .chip .running) (p .0) in
+          let i = security-inside (b .chip .rest .works .running) (p .0) in
           let z = p .2 in
-          tame-finish (b .chip .running) (securityRange (b .chip .running)) (b .chip .buffer) k (lent (b .security)) (tame-lent (b .security)) (omega arith)
+          tame-finish (b .chip .rest .works .running) (securityRange (b .chip .rest .works .running)) (b .chip .buffer) k (lent (b .security)) (tame-lent (b .security)) (omega arith)
       go false e = tame-lent (b .security)
 
 -- a memory written, or left as it was lent
@@ -165,21 +154,21 @@ tame-either : (x : Bool) (l : List ℕ) (f : ℕ → ℕ) → Tame (pick x (lent
 tame-either true l f = tame-lent l
 tame-either false l f = tame-written (length l) f
 
-tame-reply : (n : ℕ) (s : State) (sent y m : List ℕ) → Tame (frameReply n s (carried sent y m))
+tame-reply : (n : ℕ) (s : State) (f : Carried) → Tame (frameReply n s (frameOf f))
 unfolding frameReply
-tame-reply n s sent y m = tame-either (eqb n 1) y _
+tame-reply n s f = tame-either (eqb n 1) (f .reply) _
 
-tame-marks : (n : ℕ) (s : State) (sent y m : List ℕ) → Tame (frameMarks n s (carried sent y m))
+tame-marks : (n : ℕ) (s : State) (f : Carried) → Tame (frameMarks n s (frameOf f))
 unfolding frameMarks
-tame-marks n s sent y m = tame-either (eqb n 1) m _
+tame-marks n s f = tame-either (eqb n 1) (f .marks) _
 
 -- what a call gives, made of the machine's outcome
-returnedOf : Outcome → Returned
-returnedOf o =
+returnedBy : Outcome → Returned
+returnedBy o =
     record { after = record { answer = answerOf (o .number); chip = o .chip }; array = listOf (o .array); security = listOf (o .security); reply = listOf (o .reply); marks = listOf (o .marks) }
 
-returned-back : (o : Outcome) (ns : List ℕ) → every (λ n. eqb (answerNumber (answerOf n)) n) ns ≡ true → oneOf (o .number) ns ≡ true → Tame (o .array) → Tame (o .security) → Tame (o .reply) → Tame (o .marks) → outcomeOf (returnedOf o) ≡ o
-unfolding returnedOf
+returned-back : (o : Outcome) (ns : List ℕ) → every (λ n. eqb (answerNumber (answerOf n)) n) ns ≡ true → oneOf (o .number) ns ≡ true → Tame (o .array) → Tame (o .security) → Tame (o .reply) → Tame (o .marks) → outcomeOf (returnedBy o) ≡ o
+unfolding returnedBy
 returned-back o ns e n a s y m =
     let p = answer-number ns e (o .number) n in
     let q = list-back (o .array) a in
@@ -189,36 +178,24 @@ returned-back o ns e n a s y m =
     λ i. record { number = p i; chip = o .chip; array = q i; security = r i; reply = t i; marks = u i }
 
 pub meets-some : (b : Bench) (e : Call) → (g : Returned) × Meets b e g
-unfolding frame completion powerCut returnedOf listOf bytes answerOf refusalOf
-meets-some b (frameCall sent y m) =
+unfolding frame completion powerCut returnedBy listOf bytes answerOf refusalOf
+meets-some b (frameCall c) =
     let s = stateOf b in
-    let f = carried sent y m in
+    let f = frameOf c in
     let o = frame s f in
-    (returnedOf o, record { outcome = returned-back o frameNumbers refl (frame-given s f .no-other) (tame-lent (b .array)) (tame-lent (b .security)) (tame-reply (first (frameTests s f)) s sent y m) (tame-marks (first (frameTests s f)) s sent y m) })
+    (returnedBy o, record { outcome = returned-back o frameNumbers refl (frame-given s f .no-other) (tame-lent (b .array)) (tame-lent (b .security)) (tame-reply (first (frameTests s f)) s c) (tame-marks (first (frameTests s f)) s c) })
 meets-some b completionCall =
     let s = stateOf b in
     let o = completion s in
     let g = completion-given s in
-    let right : first (completionTests s) ≡ 0 → stateRight s ≡ true = λ z. g .is-0 .0 z .0 in (
-      returnedOf o,
-      (
-        record { outcome = returned-back o completionNumbers refl (g .no-other) (tame-array b arraySize (first (completionTests s)) right) (tame-security b arraySize (first (completionTests s)) right) (tame-lent []) (tame-lent []) },
-        refl,
-        refl,
-      ),
-    )
+    let right : first (completionTests s) ≡ 0 → stateRight s ≡ true = λ z. g .is-0 .0 z .0 in
+    (returnedBy o, record { outcome = returned-back o completionNumbers refl (g .no-other) (tame-array b arraySize (first (completionTests s)) right) (tame-security b arraySize (first (completionTests s)) right) (tame-lent []) (tame-lent []) })
 meets-some b (cutCall k) =
     let s = stateOf b in
     let o = powerCut s k in
     let g = cut-given s k in
-    let right : first (cutTests s) ≡ 0 → stateRight s ≡ true = g .is-0 .0 in (
-      returnedOf o,
-      (
-        record { outcome = returned-back o cutNumbers refl (g .no-other) (tame-array b k (first (cutTests s)) right) (tame-security b k (first (cutTests s)) right) (tame-lent []) (tame-lent []) },
-        refl,
-        refl,
-      ),
-    )
+    let right : first (cutTests s) ≡ 0 → stateRight s ≡ true = g .is-0 .0 in
+    (returnedBy o, record { outcome = returned-back o cutNumbers refl (g .no-other) (tame-array b k (first (cutTests s)) right) (tame-security b k (first (cutTests s)) right) (tame-lent []) (tame-lent []) })
 
 pub chain-some : (b : Bench) (es : List Call) → (gs : List Returned) × Chain b es gs
 chain-some b [] = ([], tt)

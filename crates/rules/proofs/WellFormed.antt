@@ -10,25 +10,29 @@ use lib.Seq.{getD-set-other}
 use lib.Bits.{bitAnd, bitOr}
 use borrow.Author.Tests.{eqb-true, ltb-true, ltb-false, lt-ltb, not-false}
 use Rattle.rules.specs.declared.Chip.{Chip}
+use Rattle.rules.specs.declared.Flags.{Flags}
 use Rattle.rules.specs.declared.Kind.{Kind}
+use Rattle.rules.specs.declared.Long.{Long}
 use Rattle.rules.specs.declared.Range.{Range}
+use Rattle.rules.specs.declared.Rest.{Rest}
+use Rattle.rules.specs.declared.Short.{Short}
 use Rattle.rules.specs.declared.Work.{Work}
 use Rattle.rules.specs.declared.Work.the-variants.{Nothing, EraseSector, EraseBlock, EraseArray, ProgramPage, ProgramSecurity, LockSecurity, WriteConfiguration, AddPermanent}
-use Rattle.rules.specs.Words.{pick, oneOf, range, holds, overlap}
+use Rattle.rules.specs.Words.{pick, oneOf, Each, end, _next_, range, holds, overlap}
 use Rattle.rules.specs.Blocks.{arraySize, blockOf, blockAt, writeLocked, unlocked, writeLocks, powerUpLocks}
 use Rattle.rules.specs.Works.{isNothing, isErase, isProgram, canSuspend, arrayRange}
-use Rattle.rules.specs.Frames.{frames, formOf, opcode, address, securityAddress, six}
+use Rattle.rules.specs.Frames.{formOf, opcode, address, securityAddress, six}
 use Rattle.rules.specs.Programs.{blank, fill, securityBuffer, reaches, reachesFirst}
-use Rattle.rules.specs.Fields.{withEnable}
-use Rattle.rules.specs.Commands.{newChip, act, settled, rested, afterCut}
-use Rattle.rules.specs.WellFormed.{numbersRight, registersRight, suspendedRight, besideRight, firstFF, securityRight, bufferRight, worksRight, wellFormed}
+use Rattle.rules.specs.Fields.{locksOf, worksOf, chipOf, withProtection, withRunning, withFlags, withWel, withEnable}
+use Rattle.rules.specs.Commands.{newChip, act, bufferAfter, settled, rested, bufferRested, afterCut}
+use Rattle.rules.specs.WellFormed.{numbersRight, locksRight, suspendedRight, besideRight, firstFF, securityRight, bufferRight, worksRight, wellFormed}
 use Rattle.rules.specs.Numbers.{State, first, frameTests, completionTests, cutTests}
 use Rattle.rules.specs.Machine.{frameChip, frame, completedChip, completion, cutChip, powerCut, Event, sends, completes, cuts, step}
 use Rattle.rules.proofs.Bools.{and-split, and-both, or-split, or-left, or-right, not-intro, never}
 use Rattle.rules.proofs.Blocks.{blockOf-lt, block-placed, holds-at, holds-intro, overlap-at, unlocked-inside, sector-inside, page-inside, block-inside, array-unlocked, unlocked-nowhere}
-use Rattle.rules.proofs.Locks.{Registers, registers-of, registers-right, registers-or, masked-low, read-locks-low, registers-more, registers-powered}
+use Rattle.rules.proofs.LockBits.{Registers, registers-of, registers-right, registers-or, masked-low, read-locks-low, registers-more, registers-powered}
 use Rattle.rules.proofs.Numbers.{Accepted, accepted}
-use Rattle.rules.proofs.Rows.{EachRow, by-rows}
+use Rattle.rules.proofs.Rows.{opcodesOf, by-kind, at-each, at-one}
 
 -- ---- the test taken apart
 
@@ -42,7 +46,7 @@ pub record Works (p : ℕ) (sec : Bool) (b : List ℕ) (r s : Work) : Type 0 whe
   pub security : securityRight r sec b ≡ true
   pub clean : bufferRight r s b ≡ true
 
-pub works-of : (p : ℕ) (sec : Bool) (b : List ℕ) (r s : Work) → worksRight p sec b r s ≡ true → Works p sec b r s
+pub works-of : (p : ℕ) (sec : Bool) (b : List ℕ) (r s : Work) → worksRight p sec b (worksOf r s) ≡ true → Works p sec b r s
 unfolding worksRight
 works-of p sec b r s e =
     let h₇ = and-split _ (bufferRight r s b) e in
@@ -54,18 +58,18 @@ works-of p sec b r s e =
     let h₁ = and-split (numbersRight r) (numbersRight s) (h₂ .0) in
     record { running = h₁ .0; suspended = h₁ .1; kind = h₂ .1; beside = h₃ .1; running-open = h₄ .1; suspended-open = h₅ .1; security = h₆ .1; clean = h₇ .1 }
 
-pub works-right : {p : ℕ} {sec : Bool} {b : List ℕ} {r s : Work} → Works p sec b r s → worksRight p sec b r s ≡ true
+pub works-right : {p : ℕ} {sec : Bool} {b : List ℕ} {r s : Work} → Works p sec b r s → worksRight p sec b (worksOf r s) ≡ true
 unfolding worksRight
 works-right w = rw (w .running, w .suspended, w .kind, w .beside, w .running-open, w .suspended-open, w .security, w .clean)
 
 pub record Well (c : Chip) : Type 0 where
-  pub registers : Registers (c .protection) (c .permanent)
-  pub works : Works (c .protection) (c .sec) (c .buffer) (c .running) (c .suspended)
+  pub registers : Registers (c .rest .locks .protection) (c .rest .locks .permanent)
+  pub works : Works (c .rest .locks .protection) (c .rest .flags .sec) (c .buffer) (c .rest .works .running) (c .rest .works .suspended)
 
 pub well-of : (c : Chip) → wellFormed c ≡ true → Well c
 unfolding wellFormed
 well-of c e =
-    let h = and-split (registersRight (c .protection) (c .permanent)) (worksRight (c .protection) (c .sec) (c .buffer) (c .running) (c .suspended)) e in
+    let h = and-split (locksRight (c .rest .locks)) (worksRight (c .rest .locks .protection) (c .rest .flags .sec) (c .buffer) (c .rest .works)) e in
     record { registers = registers-of _ _ (h .0); works = works-of _ _ _ _ _ (h .1) }
 
 pub well-right : (c : Chip) → Well c → wellFormed c ≡ true
@@ -218,17 +222,17 @@ security-start sent sec e = and-both (ap not (h .0)) (go (eqb (securityAddress s
 -- ---- the chip after a done frame
 
 -- the buffer where nothing runs
-still-clean : (c : Chip) → Well c → isNothing (c .running) ≡ true → (isProgram (c .suspended) || firstFF 256 (c .buffer)) ≡ true
-still-clean c h i = subst (λ (r : Work). bufferRight r (c .suspended) (c .buffer) ≡ true) (nothing (c .running) i) (h .works .clean)
+still-clean : (c : Chip) → Well c → isNothing (c .rest .works .running) ≡ true → (isProgram (c .rest .works .suspended) || firstFF 256 (c .buffer)) ≡ true
+still-clean c h i = subst (λ (r : Work). bufferRight r (c .rest .works .suspended) (c .buffer) ≡ true) (nothing (c .rest .works .running) i) (h .works .clean)
 
 record Starts (c : Chip) (w : Work) (b : List ℕ) : Type 0 where
   numbers : numbersRight w ≡ true
-  beside : besideRight w (c .suspended) ≡ true
-  bare : unlocked (c .protection) (arrayRange w) ≡ true
-  security : securityRight w (c .sec) b ≡ true
-  clean : bufferRight w (c .suspended) b ≡ true
+  beside : besideRight w (c .rest .works .suspended) ≡ true
+  bare : unlocked (c .rest .locks .protection) (arrayRange w) ≡ true
+  security : securityRight w (c .rest .flags .sec) b ≡ true
+  clean : bufferRight w (c .rest .works .suspended) b ≡ true
 
-started : (c : Chip) (w : Work) (b : List ℕ) → Well c → Starts c w b → Works (c .protection) (c .sec) b w (c .suspended)
+started : (c : Chip) (w : Work) (b : List ℕ) → Well c → Starts c w b → Works (c .rest .locks .protection) (c .rest .flags .sec) b w (c .rest .works .suspended)
 started c w b h s =
     record {
       running = s .numbers;
@@ -245,20 +249,20 @@ started c w b h s =
 beside-nothing : (w s : Work) → isNothing s ≡ true → besideRight w s ≡ true
 beside-nothing w s e = or-left (isNothing w || isNothing s) _ (or-right (isNothing w) (isNothing s) e)
 
-sector-starts : (c : Chip) (sent : List ℕ) → Well c → Accepted c 0x20 sent → Starts c (EraseSector (address sent / 4096)) (c .buffer)
+sector-starts : (c : Chip) (sent : List ℕ) → Well c → Accepted (c .rest) 0x20 sent → Starts c (EraseSector (address sent / 4096)) (c .buffer)
 unfolding writeLocked
 sector-starts c sent h a =
     let below : address sent < arraySize = omega arith in
     record {
       numbers = lt-ltb (address sent / 4096) 512 (omega arith);
-      beside = erase-beside (address sent / 4096 * 4096) 4096 (c .suspended) (omega arith) refl (h .works .kind) (no-more (isErase (c .suspended) && true) (isProgram (c .suspended)) _ (a .apart));
-      bare = unlocked-inside (c .protection) (blockOf (address sent)) _ (blockOf-lt (address sent) below) (sector-inside (address sent) below) (omega arith)
-          ∙ not-intro (writeLocked (c .protection) (address sent)) (or-split (writeLocked (c .protection) (address sent)) false (a .bare) .0);
+      beside = erase-beside (address sent / 4096 * 4096) 4096 (c .rest .works .suspended) (omega arith) refl (h .works .kind) (no-more (isErase (c .rest .works .suspended) && true) (isProgram (c .rest .works .suspended)) _ (a .apart));
+      bare = unlocked-inside (c .rest .locks .protection) (blockOf (address sent)) _ (blockOf-lt (address sent) below) (sector-inside (address sent) below) (omega arith)
+          ∙ not-intro (writeLocked (c .rest .locks .protection) (address sent)) (or-split (writeLocked (c .rest .locks .protection) (address sent)) false (a .bare) .0);
       security = refl;
-      clean = still-clean c h (idle (isNothing (c .running)) (a .calm));
+      clean = still-clean c h (idle (isNothing (c .rest .works .running)) (a .calm));
     }
 
-block-starts : (c : Chip) (sent : List ℕ) → Well c → Accepted c 0xD8 sent → Starts c (EraseBlock (blockOf (address sent))) (c .buffer)
+block-starts : (c : Chip) (sent : List ℕ) → Well c → Accepted (c .rest) 0xD8 sent → Starts c (EraseBlock (blockOf (address sent))) (c .buffer)
 unfolding writeLocked
 block-starts c sent h a =
     let below : address sent < arraySize = omega arith in
@@ -268,73 +272,73 @@ block-starts c sent h a =
     let hz = f .size-aligned in
     record {
       numbers = lt-ltb (blockOf (address sent)) 40 n;
-      beside = erase-beside (blockAt (blockOf (address sent)) .start) (blockAt (blockOf (address sent)) .size) (c .suspended) (omega arith) (omega arith) (h .works .kind) (a .apart);
-      bare = unlocked-inside (c .protection) (blockOf (address sent)) _ n (block-inside (blockOf (address sent))) (f .some)
-          ∙ not-intro (writeLocked (c .protection) (address sent)) (or-split (writeLocked (c .protection) (address sent)) false (a .bare) .0);
+      beside = erase-beside (blockAt (blockOf (address sent)) .start) (blockAt (blockOf (address sent)) .size) (c .rest .works .suspended) (omega arith) (omega arith) (h .works .kind) (a .apart);
+      bare = unlocked-inside (c .rest .locks .protection) (blockOf (address sent)) _ n (block-inside (blockOf (address sent))) (f .some)
+          ∙ not-intro (writeLocked (c .rest .locks .protection) (address sent)) (or-split (writeLocked (c .rest .locks .protection) (address sent)) false (a .bare) .0);
       security = refl;
-      clean = still-clean c h (idle (isNothing (c .running)) (a .calm));
+      clean = still-clean c h (idle (isNothing (c .rest .works .running)) (a .calm));
     }
 
-array-starts : (c : Chip) (sent : List ℕ) → Well c → Accepted c 0xC7 sent → Starts c EraseArray (c .buffer)
+array-starts : (c : Chip) (sent : List ℕ) → Well c → Accepted (c .rest) 0xC7 sent → Starts c EraseArray (c .buffer)
 array-starts c sent h a =
     record {
       numbers = refl;
-      beside = beside-nothing EraseArray (c .suspended) (alone (isNothing (c .suspended)) _ _ (a .apart));
-      bare = array-unlocked (c .protection) (h .registers .low) ∙ not-false _ (a .bare);
+      beside = beside-nothing EraseArray (c .rest .works .suspended) (alone (isNothing (c .rest .works .suspended)) _ _ (a .apart));
+      bare = array-unlocked (c .rest .locks .protection) (h .registers .low) ∙ not-false _ (a .bare);
       security = refl;
-      clean = still-clean c h (idle (isNothing (c .running)) (a .calm));
+      clean = still-clean c h (idle (isNothing (c .rest .works .running)) (a .calm));
     }
 
 -- 02 and 32
 page-starts : (c : Chip) (sent b : List ℕ) → Well c
-    → (isErase (c .suspended) && holds (arrayRange (c .suspended)) (address sent) || isProgram (c .suspended) && true) ≡ false
-    → writeLocked (c .protection) (address sent) ≡ false
+    → (isErase (c .rest .works .suspended) && holds (arrayRange (c .rest .works .suspended)) (address sent) || isProgram (c .rest .works .suspended) && true) ≡ false
+    → writeLocked (c .rest .locks .protection) (address sent) ≡ false
     → Starts c (ProgramPage (address sent / 256)) b
 unfolding writeLocked
 page-starts c sent b h apart bare =
     let below : address sent < arraySize = omega arith in
     record {
       numbers = lt-ltb (address sent / 256) 8192 (omega arith);
-      beside = program-beside (address sent) (c .suspended) (h .works .suspended) (h .works .kind) apart;
-      bare = unlocked-inside (c .protection) (blockOf (address sent)) _ (blockOf-lt (address sent) below) (page-inside (address sent) below) (omega arith)
+      beside = program-beside (address sent) (c .rest .works .suspended) (h .works .suspended) (h .works .kind) apart;
+      bare = unlocked-inside (c .rest .locks .protection) (blockOf (address sent)) _ (blockOf-lt (address sent) below) (page-inside (address sent) below) (omega arith)
           ∙ not-intro _ bare;
       security = refl;
       clean = refl;
     }
 
-security-starts : (c : Chip) (sent : List ℕ) → Well c → Accepted c 0xA5 sent → Starts c (ProgramSecurity (securityAddress sent / 256)) (securityBuffer sent)
+security-starts : (c : Chip) (sent : List ℕ) → Well c → Accepted (c .rest) 0xA5 sent → Starts c (ProgramSecurity (securityAddress sent / 256)) (securityBuffer sent)
 security-starts c sent h a =
     record {
       numbers = lt-ltb (securityAddress sent / 256) 8 (omega arith);
-      beside = beside-nothing (ProgramSecurity (securityAddress sent / 256)) (c .suspended) (alone (isNothing (c .suspended)) _ _ (a .apart));
-      bare = unlocked-nowhere (c .protection);
-      security = security-start sent (c .sec) (a .opened);
+      beside = beside-nothing (ProgramSecurity (securityAddress sent / 256)) (c .rest .works .suspended) (alone (isNothing (c .rest .works .suspended)) _ _ (a .apart));
+      bare = unlocked-nowhere (c .rest .locks .protection);
+      security = security-start sent (c .rest .flags .sec) (a .opened);
       clean = refl;
     }
 
 -- 85, 01, E8: no range in the array
-lone-starts : (c : Chip) (w : Work) → Well c → isNothing (c .running) ≡ true → isNothing (c .suspended) ≡ true
-    → numbersRight w ≡ true → unlocked (c .protection) (arrayRange w) ≡ true → securityRight w (c .sec) (c .buffer) ≡ true → isProgram w ≡ false
+lone-starts : (c : Chip) (w : Work) → Well c → isNothing (c .rest .works .running) ≡ true → isNothing (c .rest .works .suspended) ≡ true
+    → numbersRight w ≡ true → unlocked (c .rest .locks .protection) (arrayRange w) ≡ true → securityRight w (c .rest .flags .sec) (c .buffer) ≡ true → isProgram w ≡ false
     → Starts c w (c .buffer)
 lone-starts c w h i j numbers bare security p =
     record {
       numbers = numbers;
-      beside = beside-nothing w (c .suspended) j;
+      beside = beside-nothing w (c .rest .works .suspended) j;
       bare = bare;
       security = security;
-      clean = subst (λ (x : Bool). (x || isProgram (c .suspended) || firstFF 256 (c .buffer)) ≡ true) (sym p) (still-clean c h i);
+      clean = subst (λ (x : Bool). (x || isProgram (c .rest .works .suspended) || firstFF 256 (c .buffer)) ≡ true) (sym p) (still-clean c h i);
     }
 
 -- 42, 98: the protection register changes where nothing runs or is suspended
-relocked : (p : ℕ) (c : Chip) → Well c → isNothing (c .running) ≡ true → isNothing (c .suspended) ≡ true → Works p (c .sec) (c .buffer) (c .running) (c .suspended)
+relocked : (p : ℕ) (c : Chip) → Well c → isNothing (c .rest .works .running) ≡ true → isNothing (c .rest .works .suspended) ≡ true → Works p (c .rest .flags .sec) (c .buffer) (c .rest .works .running) (c .rest .works .suspended)
 relocked p c h i j =
     record {
       running = h .works .running;
       suspended = h .works .suspended;
       kind = h .works .kind;
       beside = h .works .beside;
-      running-open = ap (λ (w : Work). unlocked p (arrayRange w)) (nothing (c .running) i) ∙ unlocked-nowhere p;
-      suspended-open = ap (λ (w : Work). unlocked p (arrayRange w)) (nothing (c .suspended) j) ∙ unlocked-nowhere p;
+      running-open = ap (λ (w : Work). unlocked p (arrayRange w)) (nothing (c .rest .works .running) i) ∙ unlocked-nowhere p;
+      suspended-open = ap (λ (w : Work). unlocked p (arrayRange w)) (nothing (c .rest .works .suspended) j) ∙ unlocked-nowhere p;
       security = h .works .security;
       clean = h .works .clean;
     }
@@ -374,131 +378,81 @@ run-again p sec b r s h i =
     longer true y e = refl
     longer false y e = e
 
-StaysWell : ℕ → Kind → Type 0
-StaysWell o k = (c : Chip) (sent : List ℕ) → Well c → Accepted c o sent → Well (act k sent (withEnable false c))
+-- the chip after a done frame of a kind
+abbrev after : Kind → List ℕ → Chip → Chip
+after k sent c = chipOf (bufferAfter k sent (c .buffer)) (act k sent (withEnable false (c .rest)))
 
-rows-well : EachRow StaysWell frames
-unfolding StaysWell frames
-rows-well = (
-  λ c sent h a. record { registers = h .registers; works = h .works },
-  (
-    λ c sent h a. record { registers = h .registers; works = h .works },
-    (
-      λ c sent h a. record { registers = h .registers; works = at-rest (c .protection) (c .sec) blank blank-clean },
-      (
-        λ c sent h a. record { registers = h .registers; works = h .works },
-        (
-          λ c sent h a. record { registers = h .registers; works = h .works },
-          (
-            λ c sent h a. record { registers = h .registers; works = h .works },
-            (
-              λ c sent h a. record { registers = h .registers; works = h .works },
-              (
-                λ c sent h a. record { registers = h .registers; works = h .works },
-                (
-                  λ c sent h a. record { registers = h .registers; works = h .works },
-                  (
-                    λ c sent h a. record { registers = h .registers; works = h .works },
-                    (
-                      λ c sent h a. record { registers = h .registers; works = h .works },
-                      (
-                        λ c sent h a. record { registers = h .registers; works = h .works },
-                        (
-                          λ c sent h a. record { registers = h .registers; works = h .works },
-                          (
-                            λ c sent h a. record { registers = h .registers; works = h .works },
-                            (
-                              λ c sent h a. record { registers = h .registers; works = h .works },
-                              (
-                                λ c sent h a. record { registers = h .registers; works = h .works },
-                                (
-                                  λ c sent h a. record { registers = h .registers; works = started c _ _ h (sector-starts c sent h a) },
-                                  (
-                                    λ c sent h a. record { registers = h .registers; works = started c _ _ h (block-starts c sent h a) },
-                                    (
-                                      λ c sent h a. record { registers = h .registers; works = started c _ _ h (array-starts c sent h a) },
-                                      (
-                                        λ c sent h a. record { registers = h .registers; works = started c _ _ h (page-starts c sent _ h (a .apart) (or-split (writeLocked (c .protection) (address sent)) false (a .bare) .0)) },
-                                        (
-                                          λ c sent h a. record { registers = h .registers; works = started c _ _ h (page-starts c sent _ h (a .apart) (or-split (writeLocked (c .protection) (address sent)) false (a .bare) .0)) },
-                                          (
-                                            λ c sent h a. record { registers = h .registers; works = started c _ _ h (security-starts c sent h a) },
-                                            (
-                                              λ c sent h a. record { registers = h .registers; works = started c _ _ h (lone-starts c LockSecurity h (idle (isNothing (c .running)) (a .calm)) (alone (isNothing (c .suspended)) _ _ (a .apart)) refl (unlocked-nowhere (c .protection)) (ap not (or-split (c .sec) false (a .opened) .0)) refl) },
-                                              (
-                                                λ c sent h a. record { registers = h .registers; works = started c _ _ h (lone-starts c _ h (idle (isNothing (c .running)) (a .calm)) (alone (isNothing (c .suspended)) _ _ (a .apart)) refl (unlocked-nowhere (c .protection)) refl refl) },
-                                                (
-                                                  λ c sent h a. record {
-                                                    registers = registers-or (c .protection) (c .permanent) _ (h .registers) (masked-low (six sent));
-                                                    works = relocked _ c h (idle (isNothing (c .running)) (a .calm)) (alone (isNothing (c .suspended)) _ _ (a .apart));
-                                                  },
-                                                  (
-                                                    λ c sent h a. record { registers = h .registers; works = started c _ _ h (lone-starts c _ h (idle (isNothing (c .running)) (a .calm)) (alone (isNothing (c .suspended)) _ _ (a .apart)) refl (unlocked-nowhere (c .protection)) refl refl) },
-                                                    (
-                                                      λ c sent h a. record { registers = h .registers; works = h .works },
-                                                      (
-                                                        λ c sent h a. record {
-                                                          registers = registers-or (c .protection) (c .permanent) _ (h .registers) (read-locks-low (c .protection) (c .permanent) (h .registers));
-                                                          works = relocked _ c h (idle (isNothing (c .running)) (a .calm)) (alone (isNothing (c .suspended)) _ _ (a .apart));
-                                                        },
-                                                        (
-                                                          λ c sent h a.
-                                                              let k = and-split (canSuspend (c .running)) (isNothing (c .suspended)) (not-false _ (first-of _ _ _ _ _ (a .apart))) in
-                                                              record { registers = h .registers; works = put-aside (c .protection) (c .sec) (c .buffer) (c .running) (c .suspended) (h .works) (k .0) (k .1) },
-                                                          (
-                                                            λ c sent h a. record { registers = h .registers; works = run-again (c .protection) (c .sec) (c .buffer) (c .running) (c .suspended) (h .works) (idle (isNothing (c .running)) (a .calm)) },
-                                                            tt,
-                                                          ),
-                                                        ),
-                                                      ),
-                                                    ),
-                                                  ),
-                                                ),
-                                              ),
-                                            ),
-                                          ),
-                                        ),
-                                      ),
-                                    ),
-                                  ),
-                                ),
-                              ),
-                            ),
-                          ),
-                        ),
-                      ),
-                    ),
-                  ),
-                ),
-              ),
-            ),
-          ),
-        ),
-      ),
-    ),
-  ),
-)
-  where
-    first-of : (a b c d e : Bool) → (a || b || c || d || e) ≡ false → a ≡ false
-    first-of true b c d e q = absurd (true≢false q)
-    first-of false b c d e q = refl
+first-of : (a b c d e : Bool) → (a || b || c || d || e) ≡ false → a ≡ false
+first-of true b c d e q = absurd (true≢false q)
+first-of false b c d e q = refl
 
-done-well : (c : Chip) (sent : List ℕ) → Well c → Accepted c (opcode sent) sent → Well (act (formOf (opcode sent) .kind) sent (withEnable false c))
-unfolding StaysWell
-done-well c sent h a = by-rows StaysWell rows-well (c .sqi) (opcode sent) (a .is-listed) c sent h a
+module _ (c : Chip) (sent : List ℕ) (h : Well c) where
+  -- only flags change
+  same : (f : Flags) → f .sec ≡ c .rest .flags .sec → Well (chipOf (c .buffer) (withFlags f (c .rest)))
+  same f e = record { registers = h .registers; works = subst (λ (x : Bool). Works (c .rest .locks .protection) x (c .buffer) (c .rest .works .running) (c .rest .works .suspended)) (sym e) (h .works) }
 
-frame-well : (n : ℕ) (c : Chip) (sent : List ℕ) → Well c → (n ≡ 0 → Accepted c (opcode sent) sent) → Well (frameChip n c sent)
+  -- work is started
+  starting : {w : Work} {b : List ℕ} → Starts c w b → Well (chipOf b (withRunning w (withEnable false (c .rest))))
+  starting {w} {b} s = record { registers = h .registers; works = started c w b h s }
+
+  -- the protection register changes
+  relocking : (wel : Bool) {p : ℕ} → Registers p (c .rest .locks .permanent) → isNothing (c .rest .works .running) ≡ true → isNothing (c .rest .works .suspended) ≡ true
+      → Well (chipOf (c .buffer) (withWel wel (withProtection p (withEnable false (c .rest)))))
+  relocking wel {p} r i j = record { registers = r; works = relocked p c h i j }
+
+  kind-well : (k : Kind) → Each (λ o. Accepted (c .rest) o sent → Well (after k sent c)) (opcodesOf k)
+  kind-well (Kind.Show s) = at-each (λ o a. same _ refl) (opcodesOf (Kind.Show s))
+  kind-well (Kind.Begin Long.Sector) = (λ a. starting (sector-starts c sent h a)) next end
+  kind-well (Kind.Begin Long.Block) = (λ a. starting (block-starts c sent h a)) next end
+  kind-well (Kind.Begin Long.Array) = (λ a. starting (array-starts c sent h a)) next end
+  kind-well (Kind.Begin Long.Page) =
+      (λ a. starting (page-starts c sent _ h (a .apart) (or-split (writeLocked (c .rest .locks .protection) (address sent)) false (a .bare) .0)))
+      next (λ a. starting (page-starts c sent _ h (a .apart) (or-split (writeLocked (c .rest .locks .protection) (address sent)) false (a .bare) .0)))
+      next end
+  kind-well (Kind.Begin Long.SecurityPage) = (λ a. starting (security-starts c sent h a)) next end
+  kind-well (Kind.Begin Long.SecurityLock) =
+      (λ a. starting (lone-starts c LockSecurity h (idle _ (a .calm)) (alone _ _ _ (a .apart)) refl (unlocked-nowhere (c .rest .locks .protection)) (ap not (or-split (c .rest .flags .sec) false (a .opened) .0)) refl))
+      next end
+  kind-well (Kind.Begin Long.Configuration) =
+      (λ a. starting (lone-starts c _ h (idle _ (a .calm)) (alone _ _ _ (a .apart)) refl (unlocked-nowhere (c .rest .locks .protection)) refl refl)) next end
+  kind-well (Kind.Begin Long.Permanent) =
+      (λ a. starting (lone-starts c _ h (idle _ (a .calm)) (alone _ _ _ (a .apart)) refl (unlocked-nowhere (c .rest .locks .protection)) refl refl)) next end
+  kind-well (Kind.Do Short.Nothing) = (λ a. same _ refl) next end
+  kind-well (Kind.Do Short.EnableReset) = (λ a. same _ refl) next end
+  kind-well (Kind.Do Short.Reset) = (λ a. record { registers = h .registers; works = at-rest (c .rest .locks .protection) (c .rest .flags .sec) blank blank-clean }) next end
+  kind-well (Kind.Do Short.ToSqi) = (λ a. same _ refl) next end
+  kind-well (Kind.Do Short.ToSpi) = (λ a. same _ refl) next end
+  kind-well (Kind.Do Short.SetWel) = (λ a. same _ refl) next end
+  kind-well (Kind.Do Short.ClearWel) = (λ a. same _ refl) next end
+  kind-well (Kind.Do Short.WriteProtection) =
+      (λ a. relocking false (registers-or (c .rest .locks .protection) (c .rest .locks .permanent) _ (h .registers) (masked-low (six sent))) (idle _ (a .calm)) (alone _ _ _ (a .apart))) next end
+  kind-well (Kind.Do Short.LockDown) = (λ a. same _ refl) next end
+  kind-well (Kind.Do Short.ClearLocks) =
+      (λ a. relocking false (registers-or (c .rest .locks .protection) (c .rest .locks .permanent) _ (h .registers) (read-locks-low (c .rest .locks .protection) (c .rest .locks .permanent) (h .registers))) (idle _ (a .calm)) (alone _ _ _ (a .apart)))
+      next end
+  kind-well (Kind.Do Short.Suspend) =
+      (λ a.
+      let k = and-split (canSuspend (c .rest .works .running)) (isNothing (c .rest .works .suspended)) (not-false _ (first-of _ _ _ _ _ (a .apart))) in
+      record { registers = h .registers; works = put-aside (c .rest .locks .protection) (c .rest .flags .sec) (c .buffer) (c .rest .works .running) (c .rest .works .suspended) (h .works) (k .0) (k .1) })
+      next end
+  kind-well (Kind.Do Short.Resume) =
+      (λ a. record { registers = h .registers; works = run-again (c .rest .locks .protection) (c .rest .flags .sec) (c .buffer) (c .rest .works .running) (c .rest .works .suspended) (h .works) (idle _ (a .calm)) })
+      next end
+
+  done-well : Accepted (c .rest) (opcode sent) sent → Well (after (formOf (opcode sent) .kind) sent c)
+  done-well a =
+      let k = formOf (opcode sent) .kind in
+      at-one (λ o. Accepted (c .rest) o sent → Well (after k sent c)) (opcodesOf k) (opcode sent) (by-kind (c .rest .flags .sqi) (opcode sent) (a .is-listed)) (kind-well k) a
+
+frame-well : (n : ℕ) (c : Chip) (sent : List ℕ) → Well c → (n ≡ 0 → Accepted (c .rest) (opcode sent) sent) → Well (frameChip n c sent)
 unfolding frameChip
 frame-well n c sent h a = go (eqb n 0) refl (oneOf n (1 ∷ 2 ∷ []))
   where
-    used : Well (withEnable false c)
-    used = record { registers = h .registers; works = h .works }
-
     go : (x : Bool) → eqb n 0 ≡ x → (y : Bool)
-        → Well (pick x (act (formOf (opcode sent) .kind) sent (withEnable false c)) (pick y c (withEnable false c)))
+        → Well (pick x (after (formOf (opcode sent) .kind) sent c) (pick y c (chipOf (c .buffer) (withEnable false (c .rest)))))
     go true e y = done-well c sent h (a (eqb-true n 0 e))
     go false e true = h
-    go false e false = used
+    go false e false = record { registers = h .registers; works = h .works }
 
 -- ---- completion and power cut
 
@@ -530,28 +484,35 @@ lone-permanent v s e = go (isNothing s) (not (overlap (range 0 0) (arrayRange s)
     go false false q = q
 
 module _ (c : Chip) (h : Well c) where
-  ends : (w : Work) → c .running ≡ w → Well (rested (settled w c))
-  ends Nothing e = record { registers = h .registers; works = ended (c .protection) (c .sec) _ (c .buffer) (c .running) (c .suspended) (h .works) }
-  ends (EraseSector n) e = record { registers = h .registers; works = ended (c .protection) (c .sec) _ (c .buffer) (c .running) (c .suspended) (h .works) }
-  ends (EraseBlock n) e = record { registers = h .registers; works = ended (c .protection) (c .sec) _ (c .buffer) (c .running) (c .suspended) (h .works) }
-  ends EraseArray e = record { registers = h .registers; works = ended (c .protection) (c .sec) _ (c .buffer) (c .running) (c .suspended) (h .works) }
-  ends (ProgramPage n) e = record { registers = h .registers; works = ended (c .protection) (c .sec) _ (c .buffer) (c .running) (c .suspended) (h .works) }
-  ends (ProgramSecurity n) e = record { registers = h .registers; works = ended (c .protection) (c .sec) _ (c .buffer) (c .running) (c .suspended) (h .works) }
-  ends LockSecurity e = record { registers = h .registers; works = ended (c .protection) (c .sec) _ (c .buffer) (c .running) (c .suspended) (h .works) }
-  ends (WriteConfiguration i w) e = record { registers = h .registers; works = ended (c .protection) (c .sec) _ (c .buffer) (c .running) (c .suspended) (h .works) }
+  -- the chip when the work w has ended
+  abbrev over : Work → Chip
+  over w = chipOf (bufferRested (c .rest .works .suspended) (c .buffer)) (rested (settled w (c .rest)))
+
+  works-ended : (sec : Bool) → Works (c .rest .locks .protection) sec (bufferRested (c .rest .works .suspended) (c .buffer)) Nothing (c .rest .works .suspended)
+  works-ended sec = ended (c .rest .locks .protection) (c .rest .flags .sec) sec (c .buffer) (c .rest .works .running) (c .rest .works .suspended) (h .works)
+
+  ends : (w : Work) → c .rest .works .running ≡ w → Well (over w)
+  ends Nothing e = record { registers = h .registers; works = works-ended _ }
+  ends (EraseSector n) e = record { registers = h .registers; works = works-ended _ }
+  ends (EraseBlock n) e = record { registers = h .registers; works = works-ended _ }
+  ends EraseArray e = record { registers = h .registers; works = works-ended _ }
+  ends (ProgramPage n) e = record { registers = h .registers; works = works-ended _ }
+  ends (ProgramSecurity n) e = record { registers = h .registers; works = works-ended _ }
+  ends LockSecurity e = record { registers = h .registers; works = works-ended _ }
+  ends (WriteConfiguration i w) e = record { registers = h .registers; works = works-ended _ }
   ends (AddPermanent v) e =
-      let j = lone-permanent v (c .suspended) (subst (λ (w : Work). besideRight w (c .suspended) ≡ true) e (h .works .beside)) in
-      let p : ℕ = bitOr (c .protection) (bitAnd v writeLocks) in
-      let w = ended (c .protection) (c .sec) (c .sec) (c .buffer) (c .running) (c .suspended) (h .works) in
+      let j = lone-permanent v (c .rest .works .suspended) (subst (λ (w : Work). besideRight w (c .rest .works .suspended) ≡ true) e (h .works .beside)) in
+      let p : ℕ = bitOr (c .rest .locks .protection) (bitAnd v writeLocks) in
+      let w = works-ended (c .rest .flags .sec) in
       record {
-        registers = registers-more (c .protection) (c .permanent) v (h .registers);
+        registers = registers-more (c .rest .locks .protection) (c .rest .locks .permanent) v (h .registers);
         works = record {
           running = refl;
           suspended = w .suspended;
           kind = w .kind;
           beside = refl;
           running-open = unlocked-nowhere p;
-          suspended-open = ap (λ (w : Work). unlocked p (arrayRange w)) (nothing (c .suspended) j) ∙ unlocked-nowhere p;
+          suspended-open = ap (λ (w : Work). unlocked p (arrayRange w)) (nothing (c .rest .works .suspended) j) ∙ unlocked-nowhere p;
           security = refl;
           clean = w .clean;
         };
@@ -561,20 +522,20 @@ module _ (c : Chip) (h : Well c) where
   unfolding completedChip
   completed-well n = go (eqb n 0)
     where
-      go : (b : Bool) → Well (pick b (rested (settled (c .running) c)) c)
-      go true = ends (c .running) refl
+      go : (b : Bool) → Well (pick b (over (c .rest .works .running)) c)
+      go true = ends (c .rest .works .running) refl
       go false = h
 
-  powered-well : (d : Chip) → Registers (d .protection) (d .permanent) → Well (afterCut d)
-  powered-well d r = record { registers = registers-powered (d .protection) (d .permanent) r; works = at-rest powerUpLocks (d .sec) blank blank-clean }
+  powered-well : (r : Rest) → Registers (r .locks .protection) (r .locks .permanent) → Well (chipOf blank (afterCut r))
+  powered-well r g = record { registers = registers-powered (r .locks .protection) (r .locks .permanent) g; works = at-rest powerUpLocks (r .flags .sec) blank blank-clean }
 
   cut-well : (n k : ℕ) → Well (cutChip n k c)
   unfolding cutChip
   cut-well n k = go (eqb n 0) (ltb 0 k)
     where
-      go : (x y : Bool) → Well (pick x (afterCut (pick y (settled (c .running) c) c)) c)
-      go true true = powered-well (settled (c .running) c) (ends (c .running) refl .registers)
-      go true false = powered-well c (h .registers)
+      go : (x y : Bool) → Well (pick x (chipOf blank (afterCut (pick y (settled (c .rest .works .running) (c .rest)) (c .rest)))) c)
+      go true true = powered-well (settled (c .rest .works .running) (c .rest)) (ends (c .rest .works .running) refl .registers)
+      go true false = powered-well (c .rest) (h .registers)
       go false y = h
 
 -- ---- the law
@@ -587,8 +548,8 @@ step-well-formed s (cuts k) h = well-right _ (cut-well (s .chip) (well-of (s .ch
 
 -- a new chip is well-formed
 pub new-well-formed : wellFormed newChip ≡ true
-unfolding registersRight
+unfolding locksRight
 new-well-formed = well-right newChip record { registers = registers-of powerUpLocks 0 start; works = at-rest powerUpLocks false blank blank-clean }
   where
-    start : registersRight powerUpLocks 0 ≡ true
+    start : locksRight (locksOf powerUpLocks 0) ≡ true
     start = refl

@@ -6,7 +6,7 @@ use mathlib.Core.Path.{_≡_}
 use mathlib.Core.List.{List, [], _∷_, _++_}
 use lib.Dec.{eqb, ltb}
 use lib.ListN.{length, getD, replicate}
-use Rattle.rules.specs.declared.Chip.{Chip}
+use Rattle.rules.specs.declared.Flags.{Flags}
 use Rattle.rules.specs.declared.Work.{Work}
 use Rattle.rules.specs.declared.Work.the-variants.{Nothing, EraseSector, EraseBlock, EraseArray, ProgramPage, ProgramSecurity, LockSecurity, WriteConfiguration, AddPermanent}
 use Rattle.rules.specs.Words.{num, pick, Each, written}
@@ -120,10 +120,10 @@ SEC = 32
 abbrev pub ENABLE : ℕ
 ENABLE = 64
 
-abbrev pub flagsOf : Chip → ℕ
-flagsOf c =
-    SQI * num (c .sqi) + WEL * num (c .wel) + IOC * num (c .ioc) + WPEN * num (c .wpen) + WPLD * num (c .wpld) + SEC * num (c .sec)
-    + ENABLE * num (c .enable)
+abbrev pub flagsSum : Flags → ℕ
+flagsSum f =
+    SQI * num (f .sqi) + WEL * num (f .wel) + IOC * num (f .ioc) + WPEN * num (f .wpen) + WPLD * num (f .wpld) + SEC * num (f .sec)
+    + ENABLE * num (f .enable)
 
 -- 32 runs as 02 does
 abbrev pub opcodeOf : Work → ℕ
@@ -143,13 +143,13 @@ seenIn o (byte i) = o .reply .byte i
 seenIn o (mark i) = o .marks .byte i
 seenIn o (place a) = o .array .byte a
 seenIn o (secured a) = o .security .byte a
-seenIn o from = arrayRange (o .chip .running) .start
-seenIn o to = arrayRange (o .chip .running) .start + arrayRange (o .chip .running) .size - 1
-seenIn o flags = flagsOf (o .chip)
-seenIn o protected = o .chip .protection
-seenIn o permanent = o .chip .permanent
-seenIn o runs = opcodeOf (o .chip .running)
-seenIn o aside = opcodeOf (o .chip .suspended)
+seenIn o from = arrayRange (o .chip .rest .works .running) .start
+seenIn o to = arrayRange (o .chip .rest .works .running) .start + arrayRange (o .chip .rest .works .running) .size - 1
+seenIn o flags = flagsSum (o .chip .rest .flags)
+seenIn o protected = o .chip .rest .locks .protection
+seenIn o permanent = o .chip .rest .locks .permanent
+seenIn o runs = opcodeOf (o .chip .rest .works .running)
+seenIn o aside = opcodeOf (o .chip .rest .works .suspended)
 seenIn o (buffered i) = getD (o .chip .buffer) i 0
 
 pub record Seen : Type 0 where

@@ -6,7 +6,7 @@ use mathlib.Core.Path.{_≡_}
 use mathlib.Core.Bool.{not}
 use mathlib.Core.List.{List, [], _∷_, _++_, map}
 use lib.ListN.{length, take}
-use Rattle.rules.specs.declared.Chip.{Chip}
+use Rattle.rules.specs.declared.Rest.{Rest}
 use Rattle.rules.specs.Words.{pick, oneOf, Each}
 use Rattle.rules.specs.Frames.{formOf}
 use Rattle.rules.specs.Numbers.{State, notListed}
@@ -23,7 +23,7 @@ sqiOpcodes = bytesOf (words (letters "00 66 99 FF 05 35 72 AF 0B 88 06 04 20 D8 
 
 -- 3: opcode not listed, or not in this protocol; 4: "or more" stands at 02, 32 and A5
 pub record ListedOpcodes : Type 0 where
-  pub in-protocol : (c : Chip) (o : ℕ) → o < 256 → notListed c o ≡ not (oneOf o (pick (c .sqi) sqiOpcodes spiOpcodes))
+  pub in-protocol : (r : Rest) (o : ℕ) → o < 256 → notListed r o ≡ not (oneOf o (pick (r .flags .sqi) sqiOpcodes spiOpcodes))
   pub or-more : (o : ℕ) → o < 256 → formOf o .more ≡ oneOf o (0x02 ∷ 0x32 ∷ 0xA5 ∷ [])
 
 -- ---- a frame of each opcode, as long as it should be

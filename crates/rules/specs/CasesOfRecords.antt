@@ -8,10 +8,11 @@ use mathlib.Core.List.{List, [], _∷_}
 use lib.Dec.{eqb}
 use lib.ListN.{length, getD, set}
 use Rattle.rules.specs.declared.Chip.{Chip}
+use Rattle.rules.specs.declared.Flags.{Flags}
 use Rattle.rules.specs.declared.Work.{Work}
 use Rattle.rules.specs.Words.{bit, pick, Each}
 use Rattle.rules.specs.Programs.{blank}
-use Rattle.rules.specs.Fields.{chipOf, withBuffer, withProtection, withPermanent, withRunning, withSuspended}
+use Rattle.rules.specs.Fields.{flagsOf, chipOf, withFlags, withProtection, withPermanent, withRunning, withSuspended}
 use Rattle.rules.specs.Commands.{newChip}
 use Rattle.rules.specs.WellFormed.{wellFormed}
 use Rattle.rules.specs.Cases.{letters, split, words, numeral}
@@ -31,9 +32,8 @@ workNamed o n =
     (pick (eqb o 0x01) (Work.WriteConfiguration (bit 0 n) (bit 1 n))
     (pick (eqb o 0xE8) (Work.AddPermanent n) Work.Nothing)))))))
 
-abbrev pub withFlags : ℕ → Chip → Chip
-withFlags f c =
-    chipOf (c .buffer) (c .protection) (c .permanent) (c .running) (c .suspended) (bit 0 f) (bit 1 f) (bit 2 f) (bit 3 f) (bit 4 f) (bit 5 f) (bit 6 f)
+abbrev pub flagsNamed : ℕ → Flags
+flagsNamed f = flagsOf (bit 0 f) (bit 1 f) (bit 2 f) (bit 3 f) (bit 4 f) (bit 5 f) (bit 6 f)
 
 -- one part of the text, by the first letters of its first word
 abbrev pub withPart : List (List ℕ) → Chip → Chip
@@ -43,18 +43,18 @@ withPart (w ∷ ws) c =
     let decimal = numeral 10 0 (getD ws 0 []) in
     let named = workNamed hex (numeral 10 0 (getD ws 1 [])) in
     pick (eqb (getD w 0 0) (code "n")) newChip
-    (pick (eqb (getD w 0 0) (code "r")) (withRunning named c)
-    (pick (eqb (getD w 0 0) (code "a")) (withSuspended named c)
-    (pick (eqb (getD w 0 0) (code "b")) (withBuffer (set blank decimal 0x00) c)
-    (pick (eqb (getD w 0 0) (code "f")) (withFlags hex c)
-    (pick (eqb (getD w 1 0) (code "r")) (withProtection hex c) (withPermanent hex c))))))
+    (pick (eqb (getD w 0 0) (code "r")) (chipOf (c .buffer) (withRunning named (c .rest)))
+    (pick (eqb (getD w 0 0) (code "a")) (chipOf (c .buffer) (withSuspended named (c .rest)))
+    (pick (eqb (getD w 0 0) (code "b")) (chipOf (set blank decimal 0x00) (c .rest))
+    (pick (eqb (getD w 0 0) (code "f")) (chipOf (c .buffer) (withFlags (flagsNamed hex) (c .rest)))
+    (pick (eqb (getD w 1 0) (code "r")) (chipOf (c .buffer) (withProtection hex (c .rest))) (chipOf (c .buffer) (withPermanent hex (c .rest))))))))
 
 abbrev pub withParts : List (List ℕ) → Chip → Chip
 withParts [] c = c
 withParts (t ∷ ts) c = withParts ts (withPart (words t) c)
 
 abbrev pub recordOf : String → Chip
-recordOf t = withParts (split (code ",") (letters t)) (withProtection 0 newChip)
+recordOf t = withParts (split (code ",") (letters t)) (chipOf blank (withProtection 0 (newChip .rest)))
 
 -- ---- how a row is written
 

@@ -1,10 +1,12 @@
--- 01, Long and short; 42, 98, E8; Suspension; Reset; power-up: the chip after a command, and after work ends.
+-- 01, Long and short; 42, 98, E8; Suspension; Reset; power-up: the record after a command, and after work ends.
 use Prim.Native.Nat.{ℕ, _/_}
 use mathlib.Core.Bool.{Bool, true, false}
 use mathlib.Core.List.{List}
 use lib.Dec.{ltb}
 use lib.Bits.{bitAnd, bitOr}
 use Rattle.rules.specs.declared.Chip.{Chip}
+use Rattle.rules.specs.declared.Rest.{Rest}
+use Rattle.rules.specs.declared.Short.{Short}
 use Rattle.rules.specs.declared.Work.{Work}
 use Rattle.rules.specs.declared.Long.{Long}
 use Rattle.rules.specs.declared.Kind.{Kind}
@@ -12,7 +14,7 @@ use Rattle.rules.specs.Words.{bit, pick}
 use Rattle.rules.specs.Blocks.{blockOf, writeLocks, readLocks, allLocks, powerUpLocks}
 use Rattle.rules.specs.Works.{isProgram}
 use Rattle.rules.specs.Frames.{sentByte, address, securityAddress, six}
-use Rattle.rules.specs.Fields.{withBuffer, withProtection, withPermanent, withRunning, withSuspended, withSqi, withWel, withIoc, withWpen, withWpld, withSec, withEnable}
+use Rattle.rules.specs.Fields.{locksOf, worksOf, flagsOf, restOf, chipOf, withProtection, withPermanent, withRunning, withSuspended, withSqi, withWel, withIoc, withWpen, withWpld, withSec, withEnable}
 use Rattle.rules.specs.Programs.{blank, pageBuffer, securityBuffer}
 
 -- ---- power-up and reset
@@ -21,30 +23,16 @@ abbrev pub powerUpIoc : Bool
 powerUpIoc = false
 
 -- the power-up state; SEC, WPEN and the permanent register are what they were
-abbrev pub poweredUp : Bool → Bool → ℕ → Chip
+abbrev pub poweredUp : Bool → Bool → ℕ → Rest
 poweredUp sec wpen permanent =
-    record {
-      buffer = blank;
-      protection = powerUpLocks;
-      permanent = permanent;
-      running = Work.Nothing;
-      suspended = Work.Nothing;
-      sqi = false;
-      wel = false;
-      ioc = powerUpIoc;
-      wpen = wpen;
-      wpld = false;
-      sec = sec;
-      enable = false;
-    }
+    restOf (locksOf powerUpLocks permanent) (worksOf Work.Nothing Work.Nothing) (flagsOf false false powerUpIoc wpen false sec false)
 
 abbrev pub newChip : Chip
-newChip = poweredUp false false 0
+newChip = chipOf blank (poweredUp false false 0)
 
 -- running and suspended work dropped; WPLD, SEC, WPEN and both protection registers stay
-abbrev pub afterReset : Chip → Chip
-afterReset c =
-    withBuffer blank (withRunning Work.Nothing (withSuspended Work.Nothing (withSqi false (withWel false (withIoc powerUpIoc c)))))
+abbrev pub afterReset : Rest → Rest
+afterReset r = withRunning Work.Nothing (withSuspended Work.Nothing (withSqi false (withWel false (withIoc powerUpIoc r))))
 
 -- ---- long commands
 
@@ -70,47 +58,74 @@ bufferOf Long.SecurityLock sent b = b
 bufferOf Long.Configuration sent b = b
 bufferOf Long.Permanent sent b = b
 
--- ---- the chip after a done frame, whose enable is used up
+-- ---- the record after a done frame, whose enable is used up
 
-abbrev pub act : Kind → List ℕ → Chip → Chip
-act Kind.Nothing sent c = c
-act Kind.EnableReset sent c = withEnable true c
-act Kind.Reset sent c = afterReset c
-act Kind.ToSqi sent c = withSqi true c
-act Kind.ToSpi sent c = withSqi false c
-act (Kind.Show s) sent c = c
-act Kind.SetWel sent c = withWel true c
-act Kind.ClearWel sent c = withWel false c
-act (Kind.Begin l) sent c = withRunning (workOf l sent) (withBuffer (bufferOf l sent (c .buffer)) c)
-act Kind.WriteProtection sent c = withWel false (withProtection (bitOr (bitAnd (six sent) allLocks) (c .permanent)) c)
-act Kind.LockDown sent c = withWel false (withWpld true c)
-act Kind.ClearLocks sent c = withWel false (withProtection (bitOr (bitAnd (c .protection) readLocks) (c .permanent)) c)
-act Kind.Suspend sent c = withSuspended (c .running) (withRunning Work.Nothing c)
-act Kind.Resume sent c = withRunning (c .suspended) (withSuspended Work.Nothing c)
+abbrev pub atOnce : Short → List ℕ → Rest → Rest
+atOnce Short.Nothing sent r = r
+atOnce Short.EnableReset sent r = withEnable true r
+atOnce Short.Reset sent r = afterReset r
+atOnce Short.ToSqi sent r = withSqi true r
+atOnce Short.ToSpi sent r = withSqi false r
+atOnce Short.SetWel sent r = withWel true r
+atOnce Short.ClearWel sent r = withWel false r
+atOnce Short.WriteProtection sent r = withWel false (withProtection (bitOr (bitAnd (six sent) allLocks) (r .locks .permanent)) r)
+atOnce Short.LockDown sent r = withWel false (withWpld true r)
+atOnce Short.ClearLocks sent r = withWel false (withProtection (bitOr (bitAnd (r .locks .protection) readLocks) (r .locks .permanent)) r)
+atOnce Short.Suspend sent r = withSuspended (r .works .running) (withRunning Work.Nothing r)
+atOnce Short.Resume sent r = withRunning (r .works .suspended) (withSuspended Work.Nothing r)
 
--- ---- the chip when work ends
+abbrev pub act : Kind → List ℕ → Rest → Rest
+act (Kind.Show s) sent r = r
+act (Kind.Begin l) sent r = withRunning (workOf l sent) r
+act (Kind.Do s) sent r = atOnce s sent r
+
+-- its buffer: a reset drops it with the work
+abbrev pub bufferAtOnce : Short → List ℕ → List ℕ
+bufferAtOnce Short.Nothing b = b
+bufferAtOnce Short.EnableReset b = b
+bufferAtOnce Short.Reset b = blank
+bufferAtOnce Short.ToSqi b = b
+bufferAtOnce Short.ToSpi b = b
+bufferAtOnce Short.SetWel b = b
+bufferAtOnce Short.ClearWel b = b
+bufferAtOnce Short.WriteProtection b = b
+bufferAtOnce Short.LockDown b = b
+bufferAtOnce Short.ClearLocks b = b
+bufferAtOnce Short.Suspend b = b
+bufferAtOnce Short.Resume b = b
+
+abbrev pub bufferAfter : Kind → List ℕ → List ℕ → List ℕ
+bufferAfter (Kind.Show s) sent b = b
+bufferAfter (Kind.Begin l) sent b = bufferOf l sent b
+bufferAfter (Kind.Do s) sent b = bufferAtOnce s b
+
+-- ---- the record when work ends
 
 -- the registers that finished work sets
-abbrev pub settled : Work → Chip → Chip
-settled Work.Nothing c = c
-settled (Work.EraseSector n) c = c
-settled (Work.EraseBlock n) c = c
-settled Work.EraseArray c = c
-settled (Work.ProgramPage n) c = c
-settled (Work.ProgramSecurity n) c = c
-settled Work.LockSecurity c = withSec true c
-settled (Work.WriteConfiguration i w) c = withIoc i (withWpen w c)
-settled (Work.AddPermanent v) c =
-    withProtection (bitOr (c .protection) (bitAnd v writeLocks)) (withPermanent (bitOr (c .permanent) (bitAnd v writeLocks)) c)
+abbrev pub settled : Work → Rest → Rest
+settled Work.Nothing r = r
+settled (Work.EraseSector n) r = r
+settled (Work.EraseBlock n) r = r
+settled Work.EraseArray r = r
+settled (Work.ProgramPage n) r = r
+settled (Work.ProgramSecurity n) r = r
+settled Work.LockSecurity r = withSec true r
+settled (Work.WriteConfiguration i w) r = withIoc i (withWpen w r)
+settled (Work.AddPermanent v) r =
+    withProtection (bitOr (r .locks .protection) (bitAnd v writeLocks)) (withPermanent (bitOr (r .locks .permanent) (bitAnd v writeLocks)) r)
 
 -- the registers once the first k bytes are finished: 85, 01 and E8 act fully if k is 1 or more, else not
-abbrev pub settledFirst : ℕ → Chip → Chip
-settledFirst k c = pick (ltb 0 k) (settled (c .running) c) c
+abbrev pub settledFirst : ℕ → Rest → Rest
+settledFirst k r = pick (ltb 0 k) (settled (r .works .running) r) r
 
--- completion: BUSY and WEL 0; the buffer stays only for a suspended program
-abbrev pub rested : Chip → Chip
-rested c = withRunning Work.Nothing (withWel false (withBuffer (pick (isProgram (c .suspended)) (c .buffer) blank) c))
+-- completion: BUSY and WEL 0
+abbrev pub rested : Rest → Rest
+rested r = withRunning Work.Nothing (withWel false r)
+
+-- the buffer stays only for a suspended program
+abbrev pub bufferRested : Work → List ℕ → List ℕ
+bufferRested suspended b = pick (isProgram suspended) b blank
 
 -- power-up after a cut
-abbrev pub afterCut : Chip → Chip
-afterCut c = poweredUp (c .sec) (c .wpen) (c .permanent)
+abbrev pub afterCut : Rest → Rest
+afterCut r = poweredUp (r .flags .sec) (r .flags .wpen) (r .locks .permanent)

@@ -3,50 +3,30 @@ use Prim.Native.Nat.{ℕ, _<_}
 use mathlib.Core.Path.{_≡_}
 use mathlib.Core.Bool.{Bool, true, false, _&&_}
 use mathlib.Core.List.{List, [], _∷_}
-use Rattle.rules.specs.declared.After.{After}
-use Rattle.rules.specs.declared.Chip.{Chip}
 use Rattle.rules.specs.declared.Work.{Work}
 use Rattle.rules.specs.Blocks.{arraySize, readLocked, writeLocked}
 use Rattle.rules.specs.WellFormed.{wellFormed}
 use Rattle.rules.specs.Numbers.{State}
 use Rattle.rules.specs.Machine.{Outcome, Event, sends, completes, cuts, run}
-use Rattle.rules.specs.Promises.{state, carried, came, FramePromise, CompletionPromise, CutPromise}
+use Rattle.rules.specs.Promises.{Bench, Carried, Returned, benchOf, stateOf, frameOf, outcomeOf, FramePromise, CompletionPromise, CutPromise}
 
 -- ---- Demand 2: it is the rule book, over every run of events
 
--- a chip with the bytes of its array and its Security ID
-pub record Bench : Type 0 where
-  pub chip : Chip
-  pub array : List ℕ
-  pub security : List ℕ
-
-abbrev pub stateOf : Bench → State
-stateOf b = state (b .chip) (b .array) (b .security)
-
--- a call of a public function, with all that it carries: the bytes sent and the lent reply and marks as they are; a count
+-- a call of a public function, with all that it carries
 pub data Call : Type 0 where
-  frameCall : List ℕ → List ℕ → List ℕ → Call
+  frameCall : Carried → Call
   completionCall : Call
   cutCall : ℕ → Call
 
--- what a call gives back, and what all lent memory holds then
-pub record Returned : Type 0 where
-  pub after : After
-  pub array : List ℕ
-  pub security : List ℕ
-  pub reply : List ℕ
-  pub marks : List ℕ
-
 -- the guarantee of the public function, at the state that it finds
 abbrev pub Meets : Bench → Call → Returned → Type 0
-Meets b (frameCall sent reply marks) g =
-    FramePromise (b .chip) (b .array) (b .security) sent reply marks (g .after) (g .array) (g .security) (g .reply) (g .marks)
-Meets b completionCall g = CompletionPromise (b .chip) (b .array) (b .security) (g .after) (g .array) (g .security) × (g .reply ≡ []) × (g .marks ≡ [])
-Meets b (cutCall k) g = CutPromise (b .chip) (b .array) (b .security) k (g .after) (g .array) (g .security) × (g .reply ≡ []) × (g .marks ≡ [])
+Meets b (frameCall f) g = FramePromise b f g
+Meets b completionCall g = CompletionPromise b g
+Meets b (cutCall k) g = CutPromise b k g
 
 -- the state that it leaves to the next call
 abbrev pub benchAfter : Returned → Bench
-benchAfter g = record { chip = g .after .chip; array = g .array; security = g .security }
+benchAfter g = benchOf (g .after .chip) (g .array) (g .security)
 
 -- each call's guarantee holds at the state that the call before it left
 abbrev pub Chain : Bench → List Call → List Returned → Type 0
@@ -55,14 +35,11 @@ Chain b [] (g ∷ gs) = ⊥
 Chain b (e ∷ es) [] = ⊥
 Chain b (e ∷ es) (g ∷ gs) = Meets b e g × Chain (benchAfter g) es gs
 
--- the machine's event and outcome
+-- the machine's event
 abbrev pub eventOf : Call → Event
-eventOf (frameCall sent reply marks) = sends (carried sent reply marks)
+eventOf (frameCall f) = sends (frameOf f)
 eventOf completionCall = completes
 eventOf (cutCall k) = cuts k
-
-abbrev pub outcomeOf : Returned → Outcome
-outcomeOf g = came (g .after) (g .array) (g .security) (g .reply) (g .marks)
 
 abbrev pub eventsOf : List Call → List Event
 eventsOf [] = []
@@ -93,12 +70,12 @@ keyPlace p a = readLocked p a && writeLocked p a
 -- two such chips, idle, nothing suspended, the register locked down or not, alike in everything but those blocks
 pub record TwoChips (key : ℕ → ℕ → Bool) (down : Bool) (s t : State) : Type 0 where
   pub same-record : s .chip ≡ t .chip
-  pub locked-down : s .chip .wpld ≡ down
-  pub idle : s .chip .running ≡ Work.Nothing
-  pub nothing-suspended : s .chip .suspended ≡ Work.Nothing
+  pub locked-down : s .chip .rest .flags .wpld ≡ down
+  pub idle : s .chip .rest .works .running ≡ Work.Nothing
+  pub nothing-suspended : s .chip .rest .works .suspended ≡ Work.Nothing
   pub same-security : s .security ≡ t .security
   pub same-size : s .array .size ≡ t .array .size
-  pub alike : (a : ℕ) → a < arraySize → key (s .chip .protection) a ≡ false → s .array .byte a ≡ t .array .byte a
+  pub alike : (a : ℕ) → a < arraySize → key (s .chip .rest .locks .protection) a ≡ false → s .array .byte a ≡ t .array .byte a
 
 -- frames and completions, no power cut
 abbrev pub Uncut : List Event → Type 0
@@ -116,9 +93,9 @@ pub record Kept (key : ℕ → ℕ → Bool) (s t : State) (o q : Outcome) : Typ
   pub same-record : o .chip ≡ q .chip
   pub same-security : o .security ≡ q .security
   pub same-size : o .array .size ≡ q .array .size
-  pub alike : (a : ℕ) → a < arraySize → key (s .chip .protection) a ≡ false → o .array .byte a ≡ q .array .byte a
-  pub first-keys : (a : ℕ) → a < arraySize → key (s .chip .protection) a ≡ true → o .array .byte a ≡ s .array .byte a
-  pub second-keys : (a : ℕ) → a < arraySize → key (s .chip .protection) a ≡ true → q .array .byte a ≡ t .array .byte a
+  pub alike : (a : ℕ) → a < arraySize → key (s .chip .rest .locks .protection) a ≡ false → o .array .byte a ≡ q .array .byte a
+  pub first-keys : (a : ℕ) → a < arraySize → key (s .chip .rest .locks .protection) a ≡ true → o .array .byte a ≡ s .array .byte a
+  pub second-keys : (a : ℕ) → a < arraySize → key (s .chip .rest .locks .protection) a ≡ true → q .array .byte a ≡ t .array .byte a
 
 -- after every event of two runs
 abbrev pub AllKept : (ℕ → ℕ → Bool) → State → State → List Outcome → List Outcome → Type 0

@@ -1,47 +1,65 @@
--- The chip record with one field set: antt has no record update.
+-- The chip record from its parts, and with one field set: antt has no record update.
 use Prim.Native.Nat.{ℕ}
 use mathlib.Core.Bool.{Bool}
 use mathlib.Core.List.{List}
 use Rattle.rules.specs.declared.Chip.{Chip}
+use Rattle.rules.specs.declared.Flags.{Flags}
+use Rattle.rules.specs.declared.Locks.{Locks}
+use Rattle.rules.specs.declared.Rest.{Rest}
 use Rattle.rules.specs.declared.Work.{Work}
+use Rattle.rules.specs.declared.Works.{Works}
 
--- the record of its fields, in their order
-abbrev pub chipOf : List ℕ → ℕ → ℕ → Work → Work → Bool → Bool → Bool → Bool → Bool → Bool → Bool → Chip
-chipOf b p q r s sqi wel ioc wpen wpld sec enable =
-    record { buffer = b; protection = p; permanent = q; running = r; suspended = s; sqi = sqi; wel = wel; ioc = ioc; wpen = wpen; wpld = wpld; sec = sec; enable = enable }
+-- ---- from the parts, in their order
 
-abbrev pub withBuffer : List ℕ → Chip → Chip
-withBuffer b c = chipOf b (c .protection) (c .permanent) (c .running) (c .suspended) (c .sqi) (c .wel) (c .ioc) (c .wpen) (c .wpld) (c .sec) (c .enable)
+abbrev pub locksOf : ℕ → ℕ → Locks
+locksOf p q = record { protection = p; permanent = q }
 
-abbrev pub withProtection : ℕ → Chip → Chip
-withProtection p c = chipOf (c .buffer) p (c .permanent) (c .running) (c .suspended) (c .sqi) (c .wel) (c .ioc) (c .wpen) (c .wpld) (c .sec) (c .enable)
+abbrev pub worksOf : Work → Work → Works
+worksOf r s = record { running = r; suspended = s }
 
-abbrev pub withPermanent : ℕ → Chip → Chip
-withPermanent p c = chipOf (c .buffer) (c .protection) p (c .running) (c .suspended) (c .sqi) (c .wel) (c .ioc) (c .wpen) (c .wpld) (c .sec) (c .enable)
+abbrev pub flagsOf : Bool → Bool → Bool → Bool → Bool → Bool → Bool → Flags
+flagsOf sqi wel ioc wpen wpld sec enable = record { sqi = sqi; wel = wel; ioc = ioc; wpen = wpen; wpld = wpld; sec = sec; enable = enable }
 
-abbrev pub withRunning : Work → Chip → Chip
-withRunning w c = chipOf (c .buffer) (c .protection) (c .permanent) w (c .suspended) (c .sqi) (c .wel) (c .ioc) (c .wpen) (c .wpld) (c .sec) (c .enable)
+abbrev pub restOf : Locks → Works → Flags → Rest
+restOf l w f = record { locks = l; works = w; flags = f }
 
-abbrev pub withSuspended : Work → Chip → Chip
-withSuspended w c = chipOf (c .buffer) (c .protection) (c .permanent) (c .running) w (c .sqi) (c .wel) (c .ioc) (c .wpen) (c .wpld) (c .sec) (c .enable)
+abbrev pub chipOf : List ℕ → Rest → Chip
+chipOf b r = record { buffer = b; rest = r }
 
-abbrev pub withSqi : Bool → Chip → Chip
-withSqi b c = chipOf (c .buffer) (c .protection) (c .permanent) (c .running) (c .suspended) b (c .wel) (c .ioc) (c .wpen) (c .wpld) (c .sec) (c .enable)
+-- ---- with one field set
 
-abbrev pub withWel : Bool → Chip → Chip
-withWel b c = chipOf (c .buffer) (c .protection) (c .permanent) (c .running) (c .suspended) (c .sqi) b (c .ioc) (c .wpen) (c .wpld) (c .sec) (c .enable)
+abbrev pub withProtection : ℕ → Rest → Rest
+withProtection p r = restOf (locksOf p (r .locks .permanent)) (r .works) (r .flags)
 
-abbrev pub withIoc : Bool → Chip → Chip
-withIoc b c = chipOf (c .buffer) (c .protection) (c .permanent) (c .running) (c .suspended) (c .sqi) (c .wel) b (c .wpen) (c .wpld) (c .sec) (c .enable)
+abbrev pub withPermanent : ℕ → Rest → Rest
+withPermanent q r = restOf (locksOf (r .locks .protection) q) (r .works) (r .flags)
 
-abbrev pub withWpen : Bool → Chip → Chip
-withWpen b c = chipOf (c .buffer) (c .protection) (c .permanent) (c .running) (c .suspended) (c .sqi) (c .wel) (c .ioc) b (c .wpld) (c .sec) (c .enable)
+abbrev pub withRunning : Work → Rest → Rest
+withRunning w r = restOf (r .locks) (worksOf w (r .works .suspended)) (r .flags)
 
-abbrev pub withWpld : Bool → Chip → Chip
-withWpld b c = chipOf (c .buffer) (c .protection) (c .permanent) (c .running) (c .suspended) (c .sqi) (c .wel) (c .ioc) (c .wpen) b (c .sec) (c .enable)
+abbrev pub withSuspended : Work → Rest → Rest
+withSuspended w r = restOf (r .locks) (worksOf (r .works .running) w) (r .flags)
 
-abbrev pub withSec : Bool → Chip → Chip
-withSec b c = chipOf (c .buffer) (c .protection) (c .permanent) (c .running) (c .suspended) (c .sqi) (c .wel) (c .ioc) (c .wpen) (c .wpld) b (c .enable)
+abbrev pub withFlags : Flags → Rest → Rest
+withFlags f r = restOf (r .locks) (r .works) f
 
-abbrev pub withEnable : Bool → Chip → Chip
-withEnable b c = chipOf (c .buffer) (c .protection) (c .permanent) (c .running) (c .suspended) (c .sqi) (c .wel) (c .ioc) (c .wpen) (c .wpld) (c .sec) b
+abbrev pub withSqi : Bool → Rest → Rest
+withSqi b r = withFlags (flagsOf b (r .flags .wel) (r .flags .ioc) (r .flags .wpen) (r .flags .wpld) (r .flags .sec) (r .flags .enable)) r
+
+abbrev pub withWel : Bool → Rest → Rest
+withWel b r = withFlags (flagsOf (r .flags .sqi) b (r .flags .ioc) (r .flags .wpen) (r .flags .wpld) (r .flags .sec) (r .flags .enable)) r
+
+abbrev pub withIoc : Bool → Rest → Rest
+withIoc b r = withFlags (flagsOf (r .flags .sqi) (r .flags .wel) b (r .flags .wpen) (r .flags .wpld) (r .flags .sec) (r .flags .enable)) r
+
+abbrev pub withWpen : Bool → Rest → Rest
+withWpen b r = withFlags (flagsOf (r .flags .sqi) (r .flags .wel) (r .flags .ioc) b (r .flags .wpld) (r .flags .sec) (r .flags .enable)) r
+
+abbrev pub withWpld : Bool → Rest → Rest
+withWpld b r = withFlags (flagsOf (r .flags .sqi) (r .flags .wel) (r .flags .ioc) (r .flags .wpen) b (r .flags .sec) (r .flags .enable)) r
+
+abbrev pub withSec : Bool → Rest → Rest
+withSec b r = withFlags (flagsOf (r .flags .sqi) (r .flags .wel) (r .flags .ioc) (r .flags .wpen) (r .flags .wpld) b (r .flags .enable)) r
+
+abbrev pub withEnable : Bool → Rest → Rest
+withEnable b r = withFlags (flagsOf (r .flags .sqi) (r .flags .wel) (r .flags .ioc) (r .flags .wpen) (r .flags .wpld) (r .flags .sec) b) r

@@ -6,8 +6,9 @@ use lib.Dec.{eqb, ltb}
 use lib.ListN.{getD}
 use Rattle.rules.specs.declared.Source.{Source}
 use Rattle.rules.specs.declared.Long.{Long}
+use Rattle.rules.specs.declared.Short.{Short}
 use Rattle.rules.specs.declared.Kind.{Kind}
-use Rattle.rules.specs.declared.Kind.the-variants.{Nothing, EnableReset, Reset, ToSqi, ToSpi, Show, SetWel, ClearWel, Begin, WriteProtection, LockDown, ClearLocks, Suspend, Resume}
+use Rattle.rules.specs.declared.Kind.the-variants.{Show, Begin, Do}
 use Rattle.rules.specs.declared.Form.{Form}
 use Rattle.rules.specs.Words.{pick}
 use Rattle.rules.specs.Blocks.{arraySize, securitySize}
@@ -26,10 +27,10 @@ rowOrMore o k p q = record { opcode = o; form = record { kind = k; spi = p; sqi 
 
 unfoldable pub frames : List Row
 frames =
-    row 0x00 Nothing 1 1
-    ∷ row 0x66 EnableReset 1 1 ∷ row 0x99 Reset 1 1
-    ∷ row 0x38 ToSqi 1 0
-    ∷ row 0xFF ToSpi 1 1
+    row 0x00 (Do Short.Nothing) 1 1
+    ∷ row 0x66 (Do Short.EnableReset) 1 1 ∷ row 0x99 (Do Short.Reset) 1 1
+    ∷ row 0x38 (Do Short.ToSqi) 1 0
+    ∷ row 0xFF (Do Short.ToSpi) 1 1
     ∷ row 0x05 (Show Source.Status) 1 2 ∷ row 0x35 (Show Source.Configuration) 1 2 ∷ row 0x72 (Show Source.Protection) 1 2
     ∷ row 0x9F (Show Source.Identity) 1 0
     ∷ row 0xAF (Show Source.Identity) 0 2
@@ -37,7 +38,7 @@ frames =
     ∷ row 0x0B (Show Source.Array) 5 7
     ∷ row 0x6B (Show Source.Array) 5 0
     ∷ row 0x88 (Show Source.Security) 4 6
-    ∷ row 0x06 SetWel 1 1 ∷ row 0x04 ClearWel 1 1
+    ∷ row 0x06 (Do Short.SetWel) 1 1 ∷ row 0x04 (Do Short.ClearWel) 1 1
     ∷ row 0x20 (Begin Long.Sector) 4 4 ∷ row 0xD8 (Begin Long.Block) 4 4
     ∷ row 0xC7 (Begin Long.Array) 1 1
     ∷ rowOrMore 0x02 (Begin Long.Page) 5 5
@@ -45,14 +46,14 @@ frames =
     ∷ rowOrMore 0xA5 (Begin Long.SecurityPage) 4 4
     ∷ row 0x85 (Begin Long.SecurityLock) 1 1
     ∷ row 0x01 (Begin Long.Configuration) 3 3
-    ∷ row 0x42 WriteProtection 7 7 ∷ row 0xE8 (Begin Long.Permanent) 7 7
-    ∷ row 0x8D LockDown 1 1 ∷ row 0x98 ClearLocks 1 1
-    ∷ row 0xB0 Suspend 1 1 ∷ row 0x30 Resume 1 1
+    ∷ row 0x42 (Do Short.WriteProtection) 7 7 ∷ row 0xE8 (Begin Long.Permanent) 7 7
+    ∷ row 0x8D (Do Short.LockDown) 1 1 ∷ row 0x98 (Do Short.ClearLocks) 1 1
+    ∷ row 0xB0 (Do Short.Suspend) 1 1 ∷ row 0x30 (Do Short.Resume) 1 1
     ∷ []
 
 -- the form of an opcode; in no protocol where it is not listed
 unfoldable pub find : List Row → ℕ → Form
-find [] o = record { kind = Nothing; spi = 0; sqi = 0; more = false }
+find [] o = record { kind = Do Short.Nothing; spi = 0; sqi = 0; more = false }
 find (r ∷ rs) o = pick (eqb o (r .opcode)) (r .form) (find rs o)
 
 unfoldable pub formOf : ℕ → Form

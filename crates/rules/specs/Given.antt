@@ -59,21 +59,21 @@ pub record FrameGiven (s : State) (f : Frame) : Type 0 where
   pub is-0 : (frame s f .number ≡ 0) ↔ None (frameTests s f)
   pub is-1 : (frame s f .number ≡ 1) ↔ (malformed s f ≡ true)
   pub is-2 : (frame s f .number ≡ 2) ↔ (None (before 2 (frameTests s f)) × (emptyFrame (f .sent) ≡ true))
-  pub is-3 : (frame s f .number ≡ 3) ↔ (None (before 3 (frameTests s f)) × (notListed (s .chip) (opcode (f .sent)) ≡ true))
-  pub is-4 : (frame s f .number ≡ 4) ↔ (None (before 4 (frameTests s f)) × (wrongLength (s .chip) (opcode (f .sent)) (f .sent) ≡ true))
-  pub is-5 : (frame s f .number ≡ 5) ↔ (None (before 5 (frameTests s f)) × (whileBusy (s .chip) (opcode (f .sent)) ≡ true))
-  pub is-6 : (frame s f .number ≡ 6) ↔ (None (before 6 (frameTests s f)) × (noEnable (s .chip) (opcode (f .sent)) ≡ true))
-  pub is-7 : (frame s f .number ≡ 7) ↔ (None (before 7 (frameTests s f)) × (noIoc (s .chip) (opcode (f .sent)) ≡ true))
-  pub is-8 : (frame s f .number ≡ 8) ↔ (None (before 8 (frameTests s f)) × (suspension (s .chip) (opcode (f .sent)) (f .sent) ≡ true))
-  pub is-9 : (frame s f .number ≡ 9) ↔ (None (before 9 (frameTests s f)) × (noWel (s .chip) (opcode (f .sent)) ≡ true))
-  pub is-10 : (frame s f .number ≡ 10) ↔ (None (before 10 (frameTests s f)) × (closed (s .chip) (opcode (f .sent)) (f .sent) ≡ true))
-  pub is-11 : (frame s f .number ≡ 11) ↔ (None (before 11 (frameTests s f)) × (lockedTarget (s .chip) (opcode (f .sent)) (f .sent) ≡ true))
+  pub is-3 : (frame s f .number ≡ 3) ↔ (None (before 3 (frameTests s f)) × (notListed (s .chip .rest) (opcode (f .sent)) ≡ true))
+  pub is-4 : (frame s f .number ≡ 4) ↔ (None (before 4 (frameTests s f)) × (wrongLength (s .chip .rest) (opcode (f .sent)) (f .sent) ≡ true))
+  pub is-5 : (frame s f .number ≡ 5) ↔ (None (before 5 (frameTests s f)) × (whileBusy (s .chip .rest) (opcode (f .sent)) ≡ true))
+  pub is-6 : (frame s f .number ≡ 6) ↔ (None (before 6 (frameTests s f)) × (noEnable (s .chip .rest) (opcode (f .sent)) ≡ true))
+  pub is-7 : (frame s f .number ≡ 7) ↔ (None (before 7 (frameTests s f)) × (noIoc (s .chip .rest) (opcode (f .sent)) ≡ true))
+  pub is-8 : (frame s f .number ≡ 8) ↔ (None (before 8 (frameTests s f)) × (suspension (s .chip .rest) (opcode (f .sent)) (f .sent) ≡ true))
+  pub is-9 : (frame s f .number ≡ 9) ↔ (None (before 9 (frameTests s f)) × (noWel (s .chip .rest) (opcode (f .sent)) ≡ true))
+  pub is-10 : (frame s f .number ≡ 10) ↔ (None (before 10 (frameTests s f)) × (closed (s .chip .rest) (opcode (f .sent)) (f .sent) ≡ true))
+  pub is-11 : (frame s f .number ≡ 11) ↔ (None (before 11 (frameTests s f)) × (lockedTarget (s .chip .rest) (opcode (f .sent)) (f .sent) ≡ true))
   pub no-other : oneOf (frame s f .number) frameNumbers ≡ true
 
 pub record CompletionGiven (s : State) : Type 0 where
-  pub is-0 : (completion s .number ≡ 0) ↔ ((stateRight s ≡ true) × (nothingRuns (s .chip) ≡ false))
+  pub is-0 : (completion s .number ≡ 0) ↔ ((stateRight s ≡ true) × (nothingRuns (s .chip .rest) ≡ false))
   pub is-1 : (completion s .number ≡ 1) ↔ (stateRight s ≡ false)
-  pub is-12 : (completion s .number ≡ 12) ↔ ((stateRight s ≡ true) × (nothingRuns (s .chip) ≡ true))
+  pub is-12 : (completion s .number ≡ 12) ↔ ((stateRight s ≡ true) × (nothingRuns (s .chip .rest) ≡ true))
   pub no-other : oneOf (completion s .number) completionNumbers ≡ true
 
 pub record CutGiven (s : State) (k : ℕ) : Type 0 where

@@ -6,7 +6,7 @@ use mathlib.Core.List.{List}
 use lib.Dec.{ltb}
 use Rattle.rules.specs.Words.{pick, written}
 use Rattle.rules.specs.Blocks.{arraySize, readLocked, writeLocked}
-use Rattle.rules.specs.Fields.{withWpld, withProtection}
+use Rattle.rules.specs.Fields.{chipOf, withWpld, withProtection}
 use Rattle.rules.specs.Commands.{newChip}
 use Rattle.rules.specs.Numbers.{State}
 use Rattle.rules.specs.Machine.{Outcome, Event}
@@ -17,7 +17,7 @@ use Rattle.rules.specs.Cases.{events, newState}
 abbrev pub keyed : ℕ → Bool → ℕ → State
 keyed locks down key =
     record {
-      chip = withProtection locks (withWpld down newChip);
+      chip = chipOf (newChip .buffer) (withProtection locks (withWpld down (newChip .rest)));
       array = written arraySize (λ a. pick (ltb a 0x2000) key 0xFF);
       security = newState .security;
     }

@@ -9,9 +9,10 @@ use Rattle.rules.specs.Words.{pick, oneOf, Lent, written, unlent}
 use Rattle.rules.specs.Blocks.{arraySize}
 use Rattle.rules.specs.Works.{arrayRange, securityRange, finish}
 use Rattle.rules.specs.Frames.{formOf, opcode}
+use Rattle.rules.specs.Programs.{blank}
 use Rattle.rules.specs.Reading.{silent, reply}
-use Rattle.rules.specs.Fields.{withEnable}
-use Rattle.rules.specs.Commands.{act, settledFirst, rested, afterCut}
+use Rattle.rules.specs.Fields.{chipOf, withEnable}
+use Rattle.rules.specs.Commands.{act, bufferAfter, settledFirst, rested, bufferRested, afterCut}
 use Rattle.rules.specs.Numbers.{State, Frame, first, frameTests, completionTests, cutTests}
 
 -- the whole of what an event gives back and leaves
@@ -28,14 +29,15 @@ pub record Outcome : Type 0 where
 -- every frame except one refused with 1 or 2 uses up the enable; a done one then acts
 unfoldable pub frameChip : ℕ → Chip → List ℕ → Chip
 frameChip n c sent =
-    let used = withEnable false c in
-    let acted = act (formOf (opcode sent) .kind) sent used in
-    pick (eqb n 0) acted (pick (oneOf n (1 ∷ 2 ∷ [])) c used)
+    let kind = formOf (opcode sent) .kind in
+    let used = withEnable false (c .rest) in
+    let acted = chipOf (bufferAfter kind sent (c .buffer)) (act kind sent used) in
+    pick (eqb n 0) acted (pick (oneOf n (1 ∷ 2 ∷ [])) c (chipOf (c .buffer) used))
 
 -- byte i of the reply, with its mark: of a refused frame as of one without a reply
 unfoldable pub frameCell : ℕ → State → List ℕ → ℕ → Cell
 frameCell n s sent i =
-    let answered = reply (formOf (opcode sent) .kind) (s .chip) (s .array) (s .security) sent i in
+    let answered = reply (formOf (opcode sent) .kind) (s .chip .rest) (s .array) (s .security) sent i in
     pick (eqb n 0) answered silent
 
 -- 1 changes nothing at all
@@ -62,17 +64,18 @@ frame s f =
 -- the running work with its first k bytes finished
 unfoldable pub workedArray : ℕ → ℕ → State → Lent
 workedArray n k s =
-    let w = s .chip .running in
+    let w = s .chip .rest .works .running in
     pick (eqb n 0) (finish w (arrayRange w) (s .chip .buffer) k (s .array)) (s .array)
 
 unfoldable pub workedSecurity : ℕ → ℕ → State → Lent
 workedSecurity n k s =
-    let w = s .chip .running in
+    let w = s .chip .rest .works .running in
     pick (eqb n 0) (finish w (securityRange w) (s .chip .buffer) k (s .security)) (s .security)
 
 -- at a completion all bytes are finished: no range is larger than the array
 unfoldable pub completedChip : ℕ → Chip → Chip
-completedChip n c = pick (eqb n 0) (rested (settledFirst arraySize c)) c
+completedChip n c =
+    pick (eqb n 0) (chipOf (bufferRested (c .rest .works .suspended) (c .buffer)) (rested (settledFirst arraySize (c .rest)))) c
 
 unfoldable pub completion : State → Outcome
 completion s =
@@ -88,7 +91,7 @@ completion s =
 
 -- after a power cut comes power-up
 unfoldable pub cutChip : ℕ → ℕ → Chip → Chip
-cutChip n k c = pick (eqb n 0) (afterCut (settledFirst k c)) c
+cutChip n k c = pick (eqb n 0) (chipOf blank (afterCut (settledFirst k (c .rest)))) c
 
 unfoldable pub powerCut : State → ℕ → Outcome
 powerCut s k =

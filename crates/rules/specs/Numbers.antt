@@ -6,6 +6,7 @@ use lib.Dec.{eqb, leb}
 use lib.ListN.{length}
 use lib.Bits.{bitAnd}
 use Rattle.rules.specs.declared.Chip.{Chip}
+use Rattle.rules.specs.declared.Rest.{Rest}
 use Rattle.rules.specs.declared.Refusal.{Refusal}
 use Rattle.rules.specs.declared.Answer.{Answer}
 use Rattle.rules.specs.Words.{pick, oneOf, range, holds, Lent}
@@ -65,77 +66,77 @@ abbrev pub emptyFrame : List ℕ → Bool
 emptyFrame sent = eqb (length sent) 0
 
 -- 3: opcode not listed, or not in this protocol
-abbrev pub notListed : Chip → ℕ → Bool
-notListed c o = not (listed (c .sqi) (formOf o))
+abbrev pub notListed : Rest → ℕ → Bool
+notListed r o = not (listed (r .flags .sqi) (formOf o))
 
 -- 4: length not as listed
-abbrev pub wrongLength : Chip → ℕ → List ℕ → Bool
-wrongLength c o sent = not (lengthRight (c .sqi) (formOf o) (length sent))
+abbrev pub wrongLength : Rest → ℕ → List ℕ → Bool
+wrongLength r o sent = not (lengthRight (r .flags .sqi) (formOf o) (length sent))
 
 -- 5: BUSY, and opcode not 05, 66, 99, B0
-abbrev pub whileBusy : Chip → ℕ → Bool
-whileBusy c o = busy c && not (oneOf o (0x05 ∷ 0x66 ∷ 0x99 ∷ 0xB0 ∷ []))
+abbrev pub whileBusy : Rest → ℕ → Bool
+whileBusy r o = busy r && not (oneOf o (0x05 ∷ 0x66 ∷ 0x99 ∷ 0xB0 ∷ []))
 
 -- 6: 99 with no enable
-abbrev pub noEnable : Chip → ℕ → Bool
-noEnable c o = oneOf o (0x99 ∷ []) && not (c .enable)
+abbrev pub noEnable : Rest → ℕ → Bool
+noEnable r o = oneOf o (0x99 ∷ []) && not (r .flags .enable)
 
 -- 7: 6B or 32 with IOC 0
-abbrev pub noIoc : Chip → ℕ → Bool
-noIoc c o = oneOf o (0x6B ∷ 0x32 ∷ []) && not (c .ioc)
+abbrev pub noIoc : Rest → ℕ → Bool
+noIoc r o = oneOf o (0x6B ∷ 0x32 ∷ []) && not (r .flags .ioc)
 
 -- 8, clause by clause
 -- B0 unless 20, D8, 02 or 32 runs and nothing is suspended
-abbrev pub suspendsWrongly : Chip → ℕ → Bool
-suspendsWrongly c o = oneOf o (0xB0 ∷ []) && not (canSuspend (c .running) && isNothing (c .suspended))
+abbrev pub suspendsWrongly : Rest → ℕ → Bool
+suspendsWrongly r o = oneOf o (0xB0 ∷ []) && not (canSuspend (r .works .running) && isNothing (r .works .suspended))
 
 -- 30 with nothing suspended
-abbrev pub resumesNothing : Chip → ℕ → Bool
-resumesNothing c o = oneOf o (0x30 ∷ []) && isNothing (c .suspended)
+abbrev pub resumesNothing : Rest → ℕ → Bool
+resumesNothing r o = oneOf o (0x30 ∷ []) && isNothing (r .works .suspended)
 
 -- C7, 01, 42, 8D, E8, 98, A5, 85 while anything is
-abbrev pub mustWait : Chip → ℕ → Bool
-mustWait c o = oneOf o (0xC7 ∷ 0x01 ∷ 0x42 ∷ 0x8D ∷ 0xE8 ∷ 0x98 ∷ 0xA5 ∷ 0x85 ∷ []) && not (isNothing (c .suspended))
+abbrev pub mustWait : Rest → ℕ → Bool
+mustWait r o = oneOf o (0xC7 ∷ 0x01 ∷ 0x42 ∷ 0x8D ∷ 0xE8 ∷ 0x98 ∷ 0xA5 ∷ 0x85 ∷ []) && not (isNothing (r .works .suspended))
 
 -- with WSE 1, 20 and D8, and 02 or 32 into the range
-abbrev pub besideErase : Chip → ℕ → List ℕ → Bool
-besideErase c o sent =
-    wse c
+abbrev pub besideErase : Rest → ℕ → List ℕ → Bool
+besideErase r o sent =
+    wse r
     && (oneOf o (0x20 ∷ 0xD8 ∷ [])
-    || oneOf o (0x02 ∷ 0x32 ∷ []) && holds (arrayRange (c .suspended)) (address sent))
+    || oneOf o (0x02 ∷ 0x32 ∷ []) && holds (arrayRange (r .works .suspended)) (address sent))
 
 -- with WSP 1, 02 and 32, and 20 or D8 whose range holds the page
-abbrev pub besideProgram : Chip → ℕ → List ℕ → Bool
-besideProgram c o sent =
-    wsp c
+abbrev pub besideProgram : Rest → ℕ → List ℕ → Bool
+besideProgram r o sent =
+    wsp r
     && (oneOf o (0x02 ∷ 0x32 ∷ [])
-    || oneOf o (0x20 ∷ []) && holds (range (address sent / 4096 * 4096) 4096) (arrayRange (c .suspended) .start)
-    || oneOf o (0xD8 ∷ []) && holds (span (blockAt (blockOf (address sent)))) (arrayRange (c .suspended) .start))
+    || oneOf o (0x20 ∷ []) && holds (range (address sent / 4096 * 4096) 4096) (arrayRange (r .works .suspended) .start)
+    || oneOf o (0xD8 ∷ []) && holds (span (blockAt (blockOf (address sent)))) (arrayRange (r .works .suspended) .start))
 
-abbrev pub suspension : Chip → ℕ → List ℕ → Bool
-suspension c o sent = suspendsWrongly c o || resumesNothing c o || mustWait c o || besideErase c o sent || besideProgram c o sent
+abbrev pub suspension : Rest → ℕ → List ℕ → Bool
+suspension r o sent = suspendsWrongly r o || resumesNothing r o || mustWait r o || besideErase r o sent || besideProgram r o sent
 
 -- 9: WEL needed and 0
-abbrev pub noWel : Chip → ℕ → Bool
-noWel c o =
-    oneOf o (0x20 ∷ 0xD8 ∷ 0xC7 ∷ 0x02 ∷ 0x32 ∷ 0xA5 ∷ 0x85 ∷ 0x01 ∷ 0xE8 ∷ 0x42 ∷ 0x8D ∷ 0x98 ∷ []) && not (c .wel)
+abbrev pub noWel : Rest → ℕ → Bool
+noWel r o =
+    oneOf o (0x20 ∷ 0xD8 ∷ 0xC7 ∷ 0x02 ∷ 0x32 ∷ 0xA5 ∷ 0x85 ∷ 0x01 ∷ 0xE8 ∷ 0x42 ∷ 0x8D ∷ 0x98 ∷ []) && not (r .flags .wel)
 
 -- 10: 42 or 98 with WPLD 1; A5 or 85 with SEC 1; A5 that sends a byte to places 0 to 7
-abbrev pub closed : Chip → ℕ → List ℕ → Bool
-closed c o sent =
-    oneOf o (0x42 ∷ 0x98 ∷ []) && c .wpld
-    || oneOf o (0xA5 ∷ 0x85 ∷ []) && c .sec
+abbrev pub closed : Rest → ℕ → List ℕ → Bool
+closed r o sent =
+    oneOf o (0x42 ∷ 0x98 ∷ []) && r .flags .wpld
+    || oneOf o (0xA5 ∷ 0x85 ∷ []) && r .flags .sec
     || oneOf o (0xA5 ∷ []) && reachesFirst sent
 
 -- 11: 20, D8, 02, 32 in a write-locked block; C7 with a write lock set
-abbrev pub lockedTarget : Chip → ℕ → List ℕ → Bool
-lockedTarget c o sent =
-    oneOf o (0x20 ∷ 0xD8 ∷ 0x02 ∷ 0x32 ∷ []) && writeLocked (c .protection) (address sent)
-    || oneOf o (0xC7 ∷ []) && not (eqb (bitAnd (c .protection) writeLocks) 0)
+abbrev pub lockedTarget : Rest → ℕ → List ℕ → Bool
+lockedTarget r o sent =
+    oneOf o (0x20 ∷ 0xD8 ∷ 0x02 ∷ 0x32 ∷ []) && writeLocked (r .locks .protection) (address sent)
+    || oneOf o (0xC7 ∷ []) && not (eqb (bitAnd (r .locks .protection) writeLocks) 0)
 
 -- 12: completion with nothing running
-abbrev pub nothingRuns : Chip → Bool
-nothingRuns c = isNothing (c .running)
+abbrev pub nothingRuns : Rest → Bool
+nothingRuns r = isNothing (r .works .running)
 
 -- ---- the order
 
@@ -153,24 +154,24 @@ first [] = 0
 first (t ∷ ts) = pick (t .applies) (t .number) (first ts)
 
 -- of a frame that is not empty, with a well-formed record and right lengths
-unfoldable pub commandTests : Chip → List ℕ → List Test
-commandTests c sent =
-    test 3 (notListed c (opcode sent))
-    ∷ test 4 (wrongLength c (opcode sent) sent)
-    ∷ test 5 (whileBusy c (opcode sent))
-    ∷ test 6 (noEnable c (opcode sent))
-    ∷ test 7 (noIoc c (opcode sent))
-    ∷ test 8 (suspension c (opcode sent) sent)
-    ∷ test 9 (noWel c (opcode sent))
-    ∷ test 10 (closed c (opcode sent) sent)
-    ∷ test 11 (lockedTarget c (opcode sent) sent)
+unfoldable pub commandTests : Rest → List ℕ → List Test
+commandTests r sent =
+    test 3 (notListed r (opcode sent))
+    ∷ test 4 (wrongLength r (opcode sent) sent)
+    ∷ test 5 (whileBusy r (opcode sent))
+    ∷ test 6 (noEnable r (opcode sent))
+    ∷ test 7 (noIoc r (opcode sent))
+    ∷ test 8 (suspension r (opcode sent) sent)
+    ∷ test 9 (noWel r (opcode sent))
+    ∷ test 10 (closed r (opcode sent) sent)
+    ∷ test 11 (lockedTarget r (opcode sent) sent)
     ∷ []
 
 unfoldable pub frameTests : State → Frame → List Test
-frameTests s f = test 1 (malformed s f) ∷ test 2 (emptyFrame (f .sent)) ∷ commandTests (s .chip) (f .sent)
+frameTests s f = test 1 (malformed s f) ∷ test 2 (emptyFrame (f .sent)) ∷ commandTests (s .chip .rest) (f .sent)
 
 unfoldable pub completionTests : State → List Test
-completionTests s = test 1 (not (stateRight s)) ∷ test 12 (nothingRuns (s .chip)) ∷ []
+completionTests s = test 1 (not (stateRight s)) ∷ test 12 (nothingRuns (s .chip .rest)) ∷ []
 
 unfoldable pub cutTests : State → List Test
 cutTests s = test 1 (not (stateRight s)) ∷ []

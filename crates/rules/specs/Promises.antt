@@ -1,6 +1,6 @@
 -- What each public function promises: one equation between what it gives back and leaves, all lent memory included, and the machine's outcome.
 use mathlib.Core.Path.{_≡_}
-use mathlib.Core.List.{List, []}
+use mathlib.Core.List.{List}
 use Prim.Native.Nat.{ℕ}
 use Rattle.rules.specs.declared.After.{After}
 use Rattle.rules.specs.declared.Chip.{Chip}
@@ -8,24 +8,62 @@ use Rattle.rules.specs.Words.{lent}
 use Rattle.rules.specs.Numbers.{answerNumber, State, Frame}
 use Rattle.rules.specs.Machine.{Outcome, frame, completion, powerCut}
 
--- a record and the two memories lent with it
-abbrev pub state : Chip → List ℕ → List ℕ → State
-state c array security = record { chip = c; array = lent array; security = lent security }
+-- ---- the state before, what a frame carries, and what came, as they are lent
 
--- what a frame carries
-abbrev pub carried : List ℕ → List ℕ → List ℕ → Frame
-carried sent reply marks = record { sent = sent; reply = lent reply; marks = lent marks }
+-- a record and the bytes of the two memories lent with it
+pub record Bench : Type 0 where
+  pub chip : Chip
+  pub array : List ℕ
+  pub security : List ℕ
 
--- what came of an event: the result and all lent memory at its end
-abbrev pub came : After → List ℕ → List ℕ → List ℕ → List ℕ → Outcome
-came r array security reply marks =
-    record { number = answerNumber (r .answer); chip = r .chip; array = lent array; security = lent security; reply = lent reply; marks = lent marks }
+pub record Carried : Type 0 where
+  pub sent : List ℕ
+  pub reply : List ℕ
+  pub marks : List ℕ
 
-pub record FramePromise (c : Chip) (array security sent reply marks : List ℕ) (r : After) (array′ security′ reply′ marks′ : List ℕ) : Type 0 where
-  pub outcome : came r array′ security′ reply′ marks′ ≡ frame (state c array security) (carried sent reply marks)
+-- the result, and what all lent memory holds at the end
+pub record Returned : Type 0 where
+  pub after : After
+  pub array : List ℕ
+  pub security : List ℕ
+  pub reply : List ℕ
+  pub marks : List ℕ
 
-pub record CompletionPromise (c : Chip) (array security : List ℕ) (r : After) (array′ security′ : List ℕ) : Type 0 where
-  pub outcome : came r array′ security′ [] [] ≡ completion (state c array security)
+abbrev pub benchOf : Chip → List ℕ → List ℕ → Bench
+benchOf c array security = record { chip = c; array = array; security = security }
 
-pub record CutPromise (c : Chip) (array security : List ℕ) (k : ℕ) (r : After) (array′ security′ : List ℕ) : Type 0 where
-  pub outcome : came r array′ security′ [] [] ≡ powerCut (state c array security) k
+abbrev pub carriedOf : List ℕ → List ℕ → List ℕ → Carried
+carriedOf sent reply marks = record { sent = sent; reply = reply; marks = marks }
+
+abbrev pub returnedOf : After → List ℕ → List ℕ → List ℕ → List ℕ → Returned
+returnedOf r array security reply marks = record { after = r; array = array; security = security; reply = reply; marks = marks }
+
+-- ---- the same for the machine
+
+abbrev pub stateOf : Bench → State
+stateOf b = record { chip = b .chip; array = lent (b .array); security = lent (b .security) }
+
+abbrev pub frameOf : Carried → Frame
+frameOf f = record { sent = f .sent; reply = lent (f .reply); marks = lent (f .marks) }
+
+abbrev pub outcomeOf : Returned → Outcome
+outcomeOf g =
+    record {
+      number = answerNumber (g .after .answer);
+      chip = g .after .chip;
+      array = lent (g .array);
+      security = lent (g .security);
+      reply = lent (g .reply);
+      marks = lent (g .marks);
+    }
+
+-- ---- the promises
+
+pub record FramePromise (b : Bench) (f : Carried) (g : Returned) : Type 0 where
+  pub outcome : outcomeOf g ≡ frame (stateOf b) (frameOf f)
+
+pub record CompletionPromise (b : Bench) (g : Returned) : Type 0 where
+  pub outcome : outcomeOf g ≡ completion (stateOf b)
+
+pub record CutPromise (b : Bench) (k : ℕ) (g : Returned) : Type 0 where
+  pub outcome : outcomeOf g ≡ powerCut (stateOf b) k

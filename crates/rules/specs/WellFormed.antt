@@ -6,8 +6,10 @@ use lib.Dec.{eqb, ltb}
 use lib.ListN.{getD}
 use lib.Bits.{bitAnd}
 use Rattle.rules.specs.declared.Chip.{Chip}
+use Rattle.rules.specs.declared.Locks.{Locks}
 use Rattle.rules.specs.declared.Work.{Work}
 use Rattle.rules.specs.declared.Work.the-variants.{Nothing, EraseSector, EraseBlock, EraseArray, ProgramPage, ProgramSecurity, LockSecurity, WriteConfiguration, AddPermanent}
+use Rattle.rules.specs.declared.Works.{Works}
 use Rattle.rules.specs.Words.{overlap}
 use Rattle.rules.specs.Blocks.{unlocked, readLocks}
 use Rattle.rules.specs.Works.{isNothing, isErase, isProgram, canSuspend, arrayRange}
@@ -25,8 +27,10 @@ numbersRight (WriteConfiguration i w) = true
 numbersRight (AddPermanent v) = true
 
 -- below 2^48, no permanent read lock, each permanent bit set in the protection register
-unfoldable pub registersRight : ℕ → ℕ → Bool
-registersRight p q = ltb p (2 ^ 48) && ltb q (2 ^ 48) && eqb (bitAnd q readLocks) 0 && eqb (bitAnd q p) q
+unfoldable pub locksRight : Locks → Bool
+locksRight l =
+    ltb (l .protection) (2 ^ 48) && ltb (l .permanent) (2 ^ 48) && eqb (bitAnd (l .permanent) readLocks) 0
+    && eqb (bitAnd (l .permanent) (l .protection)) (l .permanent)
 
 -- suspended work is one sector or block erase or one page program
 abbrev pub suspendedRight : Work → Bool
@@ -60,12 +64,11 @@ abbrev pub bufferRight : Work → Work → List ℕ → Bool
 bufferRight r s b = isProgram r || isProgram s || firstFF 256 b
 
 -- what is said of the work, under a protection register p
-unfoldable pub worksRight : ℕ → Bool → List ℕ → Work → Work → Bool
-worksRight p sec b r s =
-    numbersRight r && numbersRight s && suspendedRight s && besideRight r s
-    && unlocked p (arrayRange r) && unlocked p (arrayRange s) && securityRight r sec b && bufferRight r s b
+unfoldable pub worksRight : ℕ → Bool → List ℕ → Works → Bool
+worksRight p sec b w =
+    numbersRight (w .running) && numbersRight (w .suspended) && suspendedRight (w .suspended) && besideRight (w .running) (w .suspended)
+    && unlocked p (arrayRange (w .running)) && unlocked p (arrayRange (w .suspended)) && securityRight (w .running) sec b
+    && bufferRight (w .running) (w .suspended) b
 
 unfoldable pub wellFormed : Chip → Bool
-wellFormed c =
-    registersRight (c .protection) (c .permanent)
-    && worksRight (c .protection) (c .sec) (c .buffer) (c .running) (c .suspended)
+wellFormed c = locksRight (c .rest .locks) && worksRight (c .rest .locks .protection) (c .rest .flags .sec) (c .buffer) (c .rest .works)

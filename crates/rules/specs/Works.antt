@@ -11,75 +11,49 @@ use Rattle.rules.specs.declared.Work.the-variants.{Nothing, EraseSector,
 use Rattle.rules.specs.Words.{pick, range, nowhere, holds, Lent}
 use Rattle.rules.specs.Blocks.{arraySize, blockAt, span}
 
+-- what each is: a row of the table below
+pub record About : Type 0 where
+  pub none : Bool
+  pub erases : Bool
+  pub programs : Bool
+  -- it may be suspended: one sector or block erase or one page program
+  pub waits : Bool
+  -- its range in the array, and in the Security ID
+  pub array : Range
+  pub security : Range
+
+abbrev pub row : Bool → Bool → Bool → Bool → Range → Range → About
+row n e p w a s = record { none = n; erases = e; programs = p; waits = w; array = a; security = s }
+
+-- none, erases, programs, may be suspended, array range, Security ID range
+abbrev pub about : Work → About
+about Nothing = row true false false false nowhere nowhere
+about (EraseSector n) = row false true false true (range (n * 4096) 4096) nowhere
+about (EraseBlock n) = row false true false true (span (blockAt n)) nowhere
+about EraseArray = row false true false false (range 0 arraySize) nowhere
+about (ProgramPage n) = row false false true true (range (n * 256) 256) nowhere
+about (ProgramSecurity n) = row false false true false nowhere (range (n * 256) 256)
+about LockSecurity = row false false false false nowhere nowhere
+about (WriteConfiguration i w) = row false false false false nowhere nowhere
+about (AddPermanent v) = row false false false false nowhere nowhere
+
 abbrev pub isNothing : Work → Bool
-isNothing Nothing = true
-isNothing (EraseSector n) = false
-isNothing (EraseBlock n) = false
-isNothing EraseArray = false
-isNothing (ProgramPage n) = false
-isNothing (ProgramSecurity n) = false
-isNothing LockSecurity = false
-isNothing (WriteConfiguration i w) = false
-isNothing (AddPermanent v) = false
+isNothing w = about w .none
 
--- 20, D8, C7
 abbrev pub isErase : Work → Bool
-isErase Nothing = false
-isErase (EraseSector n) = true
-isErase (EraseBlock n) = true
-isErase EraseArray = true
-isErase (ProgramPage n) = false
-isErase (ProgramSecurity n) = false
-isErase LockSecurity = false
-isErase (WriteConfiguration i w) = false
-isErase (AddPermanent v) = false
+isErase w = about w .erases
 
--- 02, 32, A5
 abbrev pub isProgram : Work → Bool
-isProgram Nothing = false
-isProgram (EraseSector n) = false
-isProgram (EraseBlock n) = false
-isProgram EraseArray = false
-isProgram (ProgramPage n) = true
-isProgram (ProgramSecurity n) = true
-isProgram LockSecurity = false
-isProgram (WriteConfiguration i w) = false
-isProgram (AddPermanent v) = false
+isProgram w = about w .programs
 
--- 20, D8, 02, 32: one sector or block erase or one page program
 abbrev pub canSuspend : Work → Bool
-canSuspend Nothing = false
-canSuspend (EraseSector n) = true
-canSuspend (EraseBlock n) = true
-canSuspend EraseArray = false
-canSuspend (ProgramPage n) = true
-canSuspend (ProgramSecurity n) = false
-canSuspend LockSecurity = false
-canSuspend (WriteConfiguration i w) = false
-canSuspend (AddPermanent v) = false
+canSuspend w = about w .waits
 
--- its range in the array, and in the Security ID
 abbrev pub arrayRange : Work → Range
-arrayRange Nothing = nowhere
-arrayRange (EraseSector n) = range (n * 4096) 4096
-arrayRange (EraseBlock n) = span (blockAt n)
-arrayRange EraseArray = range 0 arraySize
-arrayRange (ProgramPage n) = range (n * 256) 256
-arrayRange (ProgramSecurity n) = nowhere
-arrayRange LockSecurity = nowhere
-arrayRange (WriteConfiguration i w) = nowhere
-arrayRange (AddPermanent v) = nowhere
+arrayRange w = about w .array
 
 abbrev pub securityRange : Work → Range
-securityRange Nothing = nowhere
-securityRange (EraseSector n) = nowhere
-securityRange (EraseBlock n) = nowhere
-securityRange EraseArray = nowhere
-securityRange (ProgramPage n) = nowhere
-securityRange (ProgramSecurity n) = range (n * 256) 256
-securityRange LockSecurity = nowhere
-securityRange (WriteConfiguration i w) = nowhere
-securityRange (AddPermanent v) = nowhere
+securityRange w = about w .security
 
 -- byte i of the work's range, of old value x, finished: erase sets FF, a program leaves the old value AND the buffer byte
 abbrev pub finished : Work → List ℕ → ℕ → ℕ → ℕ

@@ -16,13 +16,18 @@ pub enum Work {
     AddPermanent(u64),
 }
 
-// The chip record.
-pub struct Chip {
-    pub buffer: [u8; 256],
+// The protection register and the permanent one.
+pub struct Locks {
     pub protection: u64,
     pub permanent: u64,
+}
+
+pub struct Works {
     pub running: Work,
     pub suspended: Work,
+}
+
+pub struct Flags {
     pub sqi: bool,
     pub wel: bool,
     pub ioc: bool,
@@ -31,6 +36,19 @@ pub struct Chip {
     pub sec: bool,
     // a 99 is taken next
     pub enable: bool,
+}
+
+// The chip record without its page buffer.
+pub struct Rest {
+    pub locks: Locks,
+    pub works: Works,
+    pub flags: Flags,
+}
+
+// The chip record.
+pub struct Chip {
+    pub buffer: [u8; 256],
+    pub rest: Rest,
 }
 
 // Why an event is refused: document 01's list, in its order.
@@ -82,22 +100,27 @@ pub enum Long {
     Permanent,
 }
 
-// What an opcode asks for.
-pub enum Kind {
+// A command that acts at once.
+pub enum Short {
     Nothing,
     EnableReset,
     Reset,
     ToSqi,
     ToSpi,
-    Show(Source),
     SetWel,
     ClearWel,
-    Begin(Long),
     WriteProtection,
     LockDown,
     ClearLocks,
     Suspend,
     Resume,
+}
+
+// What an opcode asks for.
+pub enum Kind {
+    Show(Source),
+    Begin(Long),
+    Do(Short),
 }
 
 // The form of an opcode's frames: its length in each protocol (0: not in that protocol), and whether more bytes may follow.

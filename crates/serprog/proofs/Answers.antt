@@ -7,10 +7,10 @@ use lib.ListN.{length, getD, set, take, drop, drop-of-length-le}
 use lib.Seq.{take-all}
 use borrow.Rule.Slice.PartMut.{midOf, putMid}
 use Rattle.rules.specs.Words.{lent}
-use Rattle.rules.specs.Promises.{state, carried}
+use Rattle.rules.specs.Promises.{benchOf, carriedOf, stateOf, frameOf}
 use Rattle.rules.proofs.Promises.{lent-ext}
 use Rattle.serprog.specs.declared.Bench.{Bench}
-use Rattle.serprog.specs.Operations.{leaves, operated, OperationPromise, afterByte, after, answeredBy, answeredOperation}
+use Rattle.serprog.specs.Operations.{leaves, operated, OperationPromise, afterByte, after, answeredBy, answeredOperation, AnswerPromise}
 
 lent-after : (x : ℕ) (l : List ℕ) → lent (x ∷ l) ≡ after x (lent l)
 lent-after x l = lent-ext refl go
@@ -20,15 +20,17 @@ lent-after x l = lent-ext refl go
     go (suc i) = refl
 
 -- the 06 is stored, and the reply put in the place of what is left
-pub answers : (b : Bench) (array security sent answer marks : List ℕ) (r : Bench) (array′ security′ reply marks′ : List ℕ) → 0 < length answer
+pub answers : (answer : List ℕ) {b r : Bench} {array security sent marks array′ security′ reply marks′ : List ℕ} → 0 < length answer
     → OperationPromise b array security sent (midOf 1 (length (set answer 0 6) - 1) (set answer 0 6)) marks r array′ security′ reply marks′
-    → leaves r array′ security′ (putMid 1 (length (set answer 0 6) - 1) (set answer 0 6) reply) marks′ ≡ answeredOperation b array security sent answer marks
+    → AnswerPromise b array security sent answer marks r array′ security′ (putMid 1 (length (set answer 0 6) - 1) (set answer 0 6) reply) marks′
 unfolding answeredOperation
-answers b array security sent [] marks r array′ security′ reply marks′ h p = absurd (omega arith)
-answers b array security sent (x ∷ xs) marks r array′ security′ reply marks′ h p =
-    ap (λ (l : List ℕ). leaves r array′ security′ (6 ∷ l) marks′) end
-    ∙ (λ i. record { bench = r; array = lent array′; security = lent security′; reply = lent-after 6 reply i; marks = lent marks′ })
-    ∙ ap answeredBy (p .outcome ∙ ap (λ (l : List ℕ). operated b (state (b .chip) array security) (carried sent l marks)) all)
+answers [] h p = absurd (omega arith)
+answers (x ∷ xs) {b} {r} {array} {security} {sent} {marks} {array′} {security′} {reply} {marks′} h p =
+    record {
+      outcome = ap (λ (l : List ℕ). leaves r array′ security′ (6 ∷ l) marks′) end
+          ∙ (λ i. record { bench = r; array = lent array′; security = lent security′; reply = lent-after 6 reply i; marks = lent marks′ })
+          ∙ ap answeredBy (p .outcome ∙ ap (λ (l : List ℕ). operated b (stateOf (benchOf (b .chip) array security)) (frameOf (carriedOf sent l marks))) all);
+    }
   where
     all : take (suc (length xs) - 1) xs ≡ xs
     all = take-all (suc (length xs) - 1) xs (omega arith)
@@ -37,8 +39,8 @@ answers b array security sent (x ∷ xs) marks r array′ security′ reply mark
     end = ap (λ (l : List ℕ). reply ++ l) (drop-of-length-le xs {i = suc (length xs) - 1} (omega arith)) ∙ append-nil reply
 
 -- no room
-pub nothing-answered : (b : Bench) (array security sent answer marks : List ℕ) → length answer ≤ 0
-    → leaves b array security answer marks ≡ answeredOperation b array security sent answer marks
+pub nothing-answered : (answer : List ℕ) {b : Bench} {array security sent marks : List ℕ} → length answer ≤ 0
+    → AnswerPromise b array security sent answer marks b array security answer marks
 unfolding answeredOperation
-nothing-answered b array security sent [] marks h = refl
-nothing-answered b array security sent (x ∷ xs) marks h = absurd (omega arith)
+nothing-answered [] h = record { outcome = refl }
+nothing-answered (x ∷ xs) h = absurd (omega arith)

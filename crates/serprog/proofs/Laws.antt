@@ -9,16 +9,15 @@ use lib.Dec.{eqb, leb}
 use borrow.Author.Tests.{leb-true}
 use lib.ListN.{length, getD, set, length-set}
 use lib.Seq.{getD-set-same, getD-set-other}
-use Rattle.rules.specs.declared.After.{After}
 use Rattle.rules.specs.declared.Answer.{Answer}
-use Rattle.rules.specs.declared.Chip.{Chip}
 use Rattle.rules.specs.declared.Refusal.{Refusal}
 use Rattle.rules.specs.Words.{bit, pick, every, lent, written}
 use Rattle.rules.specs.Registers.{busy}
 use Rattle.rules.specs.Frames.{opcode}
 use Rattle.rules.specs.Numbers.{answerNumber, State}
 use Rattle.rules.specs.Machine.{frame, left}
-use Rattle.rules.specs.Promises.{state, carried, came, FramePromise, CompletionPromise}
+use Rattle.rules.specs.Promises.{Carried, Returned, benchOf, stateOf, frameOf, outcomeOf, FramePromise, CompletionPromise}
+use Rattle.rules.specs.Promises as promises
 use Rattle.rules.proofs.Bools.{and-split}
 use Rattle.rules.proofs.Promises.{lent-written}
 use Rattle.serprog.specs.declared.Command.{Command}
@@ -82,49 +81,42 @@ done-number (Answer.Refused Refusal.Closed) = refl
 done-number (Answer.Refused Refusal.WriteLocked) = refl
 done-number (Answer.Refused Refusal.NothingRuns) = refl
 
-module _ (c : Chip) (array security : List ℕ) (ends : Bool) where
-  pub settles : (r : After) (array′ security′ : List ℕ) → ends ≡ true → CompletionPromise c array security r array′ security′
-      → state (r .chip) array′ security′ ≡ settledState ends (state c array security)
-  settles r array′ security′ e p = ap left (p .outcome) ∙ ap (λ (b : Bool). settledState b (state c array security)) (sym e)
+pub settles : {ends : Bool} {s : promises.Bench} {g : Returned} → ends ≡ true → CompletionPromise s g
+    → SettledPromise ends s (benchOf (g .after .chip) (g .array) (g .security))
+settles {ends} {s} {g} e p = record { outcome = ap left (p .outcome) ∙ ap (λ (b : Bool). settledState b (stateOf s)) (sym e) }
 
-  pub stays : ends ≡ false → state c array security ≡ settledState ends (state c array security)
-  stays e = ap (λ (b : Bool). settledState b (state c array security)) (sym e)
+pub stays : {ends : Bool} {s : promises.Bench} → ends ≡ false → SettledPromise ends s s
+stays {ends} {s} e = record { outcome = ap (λ (b : Bool). settledState b (stateOf s)) (sym e) }
 
--- the calls in a row
-pub operates : (b : Bench) (array security sent reply marks : List ℕ) (op : ℕ) (was ends : Bool) (c : Chip) (array₁ security₁ : List ℕ)
-    (r : After) (array₂ security₂ reply₁ marks′ : List ℕ) (done : Bool) (reply₂ : List ℕ) (is : Bool) (reads : ℕ)
-    → op ≡ opcode sent → was ≡ busy (b .chip) → ends ≡ dueBefore was (b .reads) op
-    → SettledPromise (b .chip) ends array security c array₁ security₁
-    → FramePromise c array₁ security₁ sent reply marks r array₂ security₂ reply₁ marks′
-    → done ≡ isDone (r .answer)
-    → lent reply₂ ≡ written (length reply₁) (λ i. shownByte (b .disguise) done op i (getD reply₁ i 0))
-    → is ≡ busy (r .chip) → reads ≡ readsAfter is (b .reads) op
-    → leaves (record { chip = r .chip; reads = reads; disguise = b .disguise }) array₂ security₂ reply₂ marks′
-    ≡ operated b (state (b .chip) array security) (carried sent reply marks)
+-- the calls in a row: the opcode, whether the chip was busy and its work ends, the frame, what is shown, whether the chip is busy, the count
+pub operates : (b : Bench) (shown : List ℕ) {op reads : ℕ} {was ends done is : Bool} {s t : promises.Bench} {f : Carried} {g : Returned}
+    → op ≡ opcode (f .sent) → was ≡ busy (b .chip .rest) → ends ≡ dueBefore was (b .reads) op → SettledPromise ends s t → FramePromise t f g
+    → done ≡ isDone (g .after .answer)
+    → lent shown ≡ written (length (g .reply)) (λ i. shownByte (b .disguise) done op i (getD (g .reply) i 0))
+    → is ≡ busy (g .after .chip .rest) → reads ≡ readsAfter is (b .reads) op
+    → leaves (record { chip = g .after .chip; reads = reads; disguise = b .disguise }) (g .array) (g .security) shown (g .marks)
+    ≡ operated b (stateOf s) (frameOf f)
 unfolding operated
-operates b array security sent reply marks op was ends c array₁ security₁ r array₂ security₂ reply₁ marks′ done reply₂ is reads eop ewas eends es ef edone eshown eis ereads =
-    fields ∙ ap (finished b (opcode sent)) whole
+operates b shown {op} {reads} {was} {ends} {done} {is} {s} {t} {f} {g} eop ewas eends es ef edone eshown eis ereads =
+    fields ∙ ap (finished b (opcode (f .sent))) whole
   where
-    start : State
-    start = state (b .chip) array security
-
-    due : ends ≡ dueBefore (busy (b .chip)) (b .reads) (opcode sent)
+    due : ends ≡ dueBefore (busy (b .chip .rest)) (b .reads) (opcode (f .sent))
     due = eends ∙ (λ i. dueBefore (ewas i) (b .reads) (eop i))
 
-    settled : state c array₁ security₁ ≡ settledState (dueBefore (busy (b .chip)) (b .reads) (opcode sent)) start
-    settled = es .outcome ∙ ap (λ (e : Bool). settledState e start) due
+    settled : stateOf t ≡ settledState (dueBefore (busy (b .chip .rest)) (b .reads) (opcode (f .sent))) (stateOf s)
+    settled = es .outcome ∙ ap (λ (e : Bool). settledState e (stateOf s)) due
 
-    whole : came r array₂ security₂ reply₁ marks′ ≡ frame (settledState (dueBefore (busy (b .chip)) (b .reads) (opcode sent)) start) (carried sent reply marks)
-    whole = ef .outcome ∙ ap (λ (s : State). frame s (carried sent reply marks)) settled
+    whole : outcomeOf g ≡ frame (settledState (dueBefore (busy (b .chip .rest)) (b .reads) (opcode (f .sent))) (stateOf s)) (frameOf f)
+    whole = ef .outcome ∙ ap (λ (s : State). frame s (frameOf f)) settled
 
-    count : reads ≡ readsAfter (busy (r .chip)) (b .reads) (opcode sent)
+    count : reads ≡ readsAfter (busy (g .after .chip .rest)) (b .reads) (opcode (f .sent))
     count = ereads ∙ (λ i. readsAfter (eis i) (b .reads) (eop i))
 
-    shown : lent reply₂ ≡ written (length reply₁) (λ i. shownByte (b .disguise) (eqb (answerNumber (r .answer)) 0) (opcode sent) i (getD reply₁ i 0))
-    shown = eshown ∙ (λ j. written (length reply₁) (λ i. shownByte (b .disguise) ((edone ∙ done-number (r .answer)) j) (eop j) i (getD reply₁ i 0)))
+    seen : lent shown ≡ written (length (g .reply)) (λ i. shownByte (b .disguise) (eqb (answerNumber (g .after .answer)) 0) (opcode (f .sent)) i (getD (g .reply) i 0))
+    seen = eshown ∙ (λ j. written (length (g .reply)) (λ i. shownByte (b .disguise) ((edone ∙ done-number (g .after .answer)) j) (eop j) i (getD (g .reply) i 0)))
 
-    fields : leaves (record { chip = r .chip; reads = reads; disguise = b .disguise }) array₂ security₂ reply₂ marks′ ≡ finished b (opcode sent) (came r array₂ security₂ reply₁ marks′)
-    fields = λ j. record { bench = record { chip = r .chip; reads = count j; disguise = b .disguise }; array = lent array₂; security = lent security₂; reply = shown j; marks = lent marks′ }
+    fields : leaves (record { chip = g .after .chip; reads = reads; disguise = b .disguise }) (g .array) (g .security) shown (g .marks) ≡ finished b (opcode (f .sent)) (outcomeOf g)
+    fields = λ j. record { bench = record { chip = g .after .chip; reads = count j; disguise = b .disguise }; array = lent (g .array); security = lent (g .security); reply = seen j; marks = lent (g .marks) }
 
 -- ---- sizes
 

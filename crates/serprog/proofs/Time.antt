@@ -23,10 +23,10 @@ pub first-read : (b : Bench) (s : State) (f : Frame) → b .reads ≡ 0 → oper
 unfolding operated
 first-read b s f e =
     ap (λ (t : Bool). finished b (opcode (f .sent)) (frame (settledState t s) f))
-    (ap (λ (n : ℕ). dueBefore (busy (b .chip)) n (opcode (f .sent))) e ∙ neither (busy (b .chip) && eqb (opcode (f .sent)) 0x05))
+    (ap (λ (n : ℕ). dueBefore (busy (b .chip .rest)) n (opcode (f .sent))) e ∙ neither (busy (b .chip .rest) && eqb (opcode (f .sent)) 0x05))
 
 -- a second status read of a busy chip: the completion, and then the frame
-pub second-read : (b : Bench) (s : State) (f : Frame) → busy (b .chip) ≡ true → b .reads ≡ 1 → opcode (f .sent) ≡ 0x05
+pub second-read : (b : Bench) (s : State) (f : Frame) → busy (b .chip .rest) ≡ true → b .reads ≡ 1 → opcode (f .sent) ≡ 0x05
     → operated b s f ≡ finished b (opcode (f .sent)) (frame (left (completion s)) f)
 unfolding operated
 second-read b s f eb er eo =
@@ -37,7 +37,7 @@ pub other-frame : (b : Bench) (s : State) (f : Frame) → (opcode (f .sent) ≡ 
 unfolding operated
 other-frame b s f n =
     ap (λ (t : Bool). finished b (opcode (f .sent)) (frame (settledState t s) f))
-    (ap (λ (t : Bool). busy (b .chip) && t && eqb (b .reads) 1) (ne-eqb (opcode (f .sent)) 0x05 n) ∙ ap (λ (t : Bool). t && eqb (b .reads) 1) (neither (busy (b .chip))))
+    (ap (λ (t : Bool). busy (b .chip .rest) && t && eqb (b .reads) 1) (ne-eqb (opcode (f .sent)) 0x05 n) ∙ ap (λ (t : Bool). t && eqb (b .reads) 1) (neither (busy (b .chip .rest))))
 
 -- ---- the count
 

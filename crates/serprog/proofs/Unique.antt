@@ -1,70 +1,81 @@
 -- No second outcome: whatever meets the guarantee of a public function of this crate at the same input is the same result and the same lent memory.
 -- An equation; a slice is the only one with its memory. Assumes nothing.
 use Prim.Native.Nat.{ℕ}
-use mathlib.Core.Path.{_≡_, sym, ap, _∙_}
+use mathlib.Core.Path.{_≡_, ap}
 use mathlib.Core.Bool.{Bool}
 use mathlib.Core.List.{List}
-use lib.ListN.{length, getD}
-use Rattle.rules.specs.Words.{lent, written}
-use Rattle.rules.specs.Commands.{newChip}
+use denote.Ref.{RefT}
 use Rattle.rules.proofs.Promises.{one, lent-one}
-use Rattle.serprog.specs.declared.Answer.{Answer}
+use Rattle.blocks.proofs.Unique.{OneResult}
 use Rattle.serprog.specs.declared.Bench.{Bench}
-use Rattle.serprog.specs.declared.Command.{Command}
-use Rattle.serprog.specs.declared.Shape.{Shape}
-use Rattle.serprog.specs.Commands.{shapeOf, length24, fits, answerBytes, answerOf}
-use Rattle.serprog.specs.Showing.{shownByte}
-use Rattle.serprog.specs.Operations.{dueBefore, readsAfter, Operated, leaves, OperationPromise, AnswerPromise}
+use Rattle.serprog.specs.Operations.{Operated, leaves}
+use Rattle.serprog.proofs.commands.shape_of.Reads as shape-of
+use Rattle.serprog.proofs.commands.answer_to.Reads as answer-to
+use Rattle.serprog.proofs.commands.length_of.Reads as length-of
+use Rattle.serprog.proofs.commands.lengths_fit.Reads as lengths-fit
+use Rattle.serprog.proofs.operations.new_bench.Reads as new-bench
+use Rattle.serprog.proofs.operations.due.Reads as due
+use Rattle.serprog.proofs.operations.reads_after.Reads as reads-after
+use Rattle.serprog.proofs.operations.operate.Reads as operate
+use Rattle.serprog.proofs.operations.answer_operation.Reads as answer-operation
+use Rattle.serprog.proofs.showing.show.Reads as show
 
-pub shape-of-one : (o : ℕ) (r r′ : Shape) → r ≡ shapeOf o → r′ ≡ shapeOf o → r ≡ r′
-shape-of-one o r r′ e e′ = one e e′
+pub shape-of-one : OneResult shape-of.Post
+shape-of-one κ a x y r r′ p q = one p q
 
-pub answer-to-one : (k : Command) (p : List ℕ) (r r′ : Answer) → r ≡ answerOf (answerBytes k p) → r′ ≡ answerOf (answerBytes k p) → r ≡ r′
-answer-to-one k p r r′ e e′ = one e e′
+pub answer-to-one : OneResult answer-to.Post
+answer-to-one κ a x y r r′ p q = one p q
 
-pub length-of-one : (a b c r r′ : ℕ) → r ≡ length24 a b c → r′ ≡ length24 a b c → r ≡ r′
-length-of-one a b c r r′ e e′ = one e e′
+pub length-of-one : OneResult length-of.Post
+length-of-one κ a x y r r′ p q = one p q
 
-pub lengths-fit-one : (send receive : ℕ) (r r′ : Bool) → r ≡ fits send receive → r′ ≡ fits send receive → r ≡ r′
-lengths-fit-one send receive r r′ e e′ = one e e′
+pub lengths-fit-one : OneResult lengths-fit.Post
+lengths-fit-one κ a x y r r′ p q = one p q
 
-pub new-bench-one : (d : Bool) (r r′ : Bench) → r ≡ record { chip = newChip; reads = 0; disguise = d } → r′ ≡ record { chip = newChip; reads = 0; disguise = d } → r ≡ r′
-new-bench-one d r r′ e e′ = one e e′
+pub new-bench-one : OneResult new-bench.Post
+new-bench-one κ a x y r r′ p q = one p q
 
-pub due-one : (b : Bool) (n op : ℕ) (r r′ : Bool) → r ≡ dueBefore b n op → r′ ≡ dueBefore b n op → r ≡ r′
-due-one b n op r r′ e e′ = one e e′
+pub due-one : OneResult due.Post
+due-one κ a x y r r′ p q = one p q
 
-pub reads-after-one : (b : Bool) (n op r r′ : ℕ) → r ≡ readsAfter b n op → r′ ≡ readsAfter b n op → r ≡ r′
-reads-after-one b n op r r′ e e′ = one e e′
+pub reads-after-one : OneResult reads-after.Post
+reads-after-one κ a x y r r′ p q = one p q
 
-pub show-one : (d done : Bool) (op : ℕ) (reply l l′ : List ℕ)
-    → lent l ≡ written (length reply) (λ i. shownByte d done op i (getD reply i 0))
-    → lent l′ ≡ written (length reply) (λ i. shownByte d done op i (getD reply i 0)) → l ≡ l′
-show-one d done op reply l l′ e e′ = lent-one l l′ (e ∙ sym e′)
+pub show-one : (κ : List ℕ × Unit {0}) (a x y : Bool × (Bool × (ℕ × (RefT (List ℕ) × Unit {0})))) → show.Post κ a tt x → show.Post κ a tt y
+    → x .1 .1 .1 .0 .now ≡ y .1 .1 .1 .0 .now
+show-one κ a x y p q = lent-one _ _ (one p q)
 
-pub record Same (r r′ : Bench) (array array′ security security′ reply reply′ marks marks′ : List ℕ) : Type 0 where
+-- ---- an operation
+
+abbrev pub Slices : Type 0
+Slices = RefT (List ℕ) × (RefT (List ℕ) × (RefT (List ℕ) × (RefT (List ℕ) × (RefT (List ℕ) × Unit {0}))))
+
+-- the result, and the array, the Security ID, the reply and the marks at exit
+pub record Same (r r′ : Bench) (x y : Slices) : Type 0 where
   pub result : r ≡ r′
-  pub array-same : array ≡ array′
-  pub security-same : security ≡ security′
-  pub reply-same : reply ≡ reply′
-  pub marks-same : marks ≡ marks′
+  pub array-same : x .0 .now ≡ y .0 .now
+  pub security-same : x .1 .0 .now ≡ y .1 .0 .now
+  pub reply-same : x .1 .1 .1 .0 .now ≡ y .1 .1 .1 .0 .now
+  pub marks-same : x .1 .1 .1 .1 .0 .now ≡ y .1 .1 .1 .1 .0 .now
 
-same-by : (r₁ r₂ : Bench) (a₁ a₂ s₁ s₂ y₁ y₂ m₁ m₂ : List ℕ) → leaves r₁ a₁ s₁ y₁ m₁ ≡ leaves r₂ a₂ s₂ y₂ m₂ → Same r₁ r₂ a₁ a₂ s₁ s₂ y₁ y₂ m₁ m₂
-same-by r₁ r₂ a₁ a₂ s₁ s₂ y₁ y₂ m₁ m₂ e =
+abbrev left : Bench → Slices → Operated
+left r x = leaves r (x .0 .now) (x .1 .0 .now) (x .1 .1 .1 .0 .now) (x .1 .1 .1 .1 .0 .now)
+
+same-by : (r r′ : Bench) (x y : Slices) → left r x ≡ left r′ y → Same r r′ x y
+same-by r r′ x y e =
     record {
       result = ap (λ (o : Operated). o .bench) e;
-      array-same = lent-one a₁ a₂ (ap (λ (o : Operated). o .array) e);
-      security-same = lent-one s₁ s₂ (ap (λ (o : Operated). o .security) e);
-      reply-same = lent-one y₁ y₂ (ap (λ (o : Operated). o .reply) e);
-      marks-same = lent-one m₁ m₂ (ap (λ (o : Operated). o .marks) e);
+      array-same = lent-one _ _ (ap (λ (o : Operated). o .array) e);
+      security-same = lent-one _ _ (ap (λ (o : Operated). o .security) e);
+      reply-same = lent-one _ _ (ap (λ (o : Operated). o .reply) e);
+      marks-same = lent-one _ _ (ap (λ (o : Operated). o .marks) e);
     }
 
-pub operate-one : (b : Bench) (array security sent reply marks : List ℕ) (r₁ r₂ : Bench) (a₁ a₂ s₁ s₂ y₁ y₂ m₁ m₂ : List ℕ)
-    → OperationPromise b array security sent reply marks r₁ a₁ s₁ y₁ m₁ → OperationPromise b array security sent reply marks r₂ a₂ s₂ y₂ m₂
-    → Same r₁ r₂ a₁ a₂ s₁ s₂ y₁ y₂ m₁ m₂
-operate-one b array security sent reply marks r₁ r₂ a₁ a₂ s₁ s₂ y₁ y₂ m₁ m₂ p q = same-by r₁ r₂ a₁ a₂ s₁ s₂ y₁ y₂ m₁ m₂ (p .outcome ∙ sym (q .outcome))
+abbrev OneOperation : {K : Type 0} → (K → Bench × Slices → Bench → Bench × Slices → Type 0) → Type 0
+OneOperation {K} Post = (κ : K) (a x y : Bench × Slices) (r r′ : Bench) → Post κ a r x → Post κ a r′ y → Same r r′ (x .1) (y .1)
 
-pub answer-operation-one : (b : Bench) (array security sent answer marks : List ℕ) (r₁ r₂ : Bench) (a₁ a₂ s₁ s₂ y₁ y₂ m₁ m₂ : List ℕ)
-    → AnswerPromise b array security sent answer marks r₁ a₁ s₁ y₁ m₁ → AnswerPromise b array security sent answer marks r₂ a₂ s₂ y₂ m₂
-    → Same r₁ r₂ a₁ a₂ s₁ s₂ y₁ y₂ m₁ m₂
-answer-operation-one b array security sent answer marks r₁ r₂ a₁ a₂ s₁ s₂ y₁ y₂ m₁ m₂ p q = same-by r₁ r₂ a₁ a₂ s₁ s₂ y₁ y₂ m₁ m₂ (p .outcome ∙ sym (q .outcome))
+pub operate-one : OneOperation operate.Post
+operate-one κ a x y r r′ p q = same-by r r′ (x .1) (y .1) (one (p .outcome) (q .outcome))
+
+pub answer-operation-one : OneOperation answer-operation.Post
+answer-operation-one κ a x y r r′ p q = same-by r r′ (x .1) (y .1) (one (p .outcome) (q .outcome))

@@ -5,13 +5,13 @@ use mathlib.Core.Bool.{Bool, true, false, _&&_}
 use mathlib.Core.List.{List, [], _∷_}
 use lib.Dec.{eqb}
 use Rattle.rules.specs.declared.Answer.{Answer}
-use Rattle.rules.specs.declared.Chip.{Chip}
 use Rattle.rules.specs.Words.{pick, Lent, lent}
 use Rattle.rules.specs.Registers.{busy}
 use Rattle.rules.specs.Frames.{opcode}
 use Rattle.rules.specs.Numbers.{State, Frame}
 use Rattle.rules.specs.Machine.{Outcome, frame, completion, left}
-use Rattle.rules.specs.Promises.{state, carried}
+use Rattle.rules.specs.Promises.{benchOf, carriedOf, stateOf, frameOf}
+use Rattle.rules.specs.Promises as promises
 use Rattle.serprog.specs.declared.Bench.{Bench}
 use Rattle.serprog.specs.Commands.{ack}
 use Rattle.serprog.specs.Showing.{shownReply}
@@ -47,7 +47,7 @@ pub record Operated : Type 0 where
 abbrev pub finished : Bench → ℕ → Outcome → Operated
 finished b op o =
     record {
-      bench = record { chip = o .chip; reads = readsAfter (busy (o .chip)) (b .reads) op; disguise = b .disguise };
+      bench = record { chip = o .chip; reads = readsAfter (busy (o .chip .rest)) (b .reads) op; disguise = b .disguise };
       array = o .array;
       security = o .security;
       reply = shownReply (b .disguise) (eqb (o .number) 0) op (o .reply);
@@ -57,19 +57,20 @@ finished b op o =
 unfoldable pub operated : Bench → State → Frame → Operated
 operated b s f =
     let op = opcode (f .sent) in
-    finished b op (frame (settledState (dueBefore (busy (b .chip)) (b .reads) op) s) f)
+    finished b op (frame (settledState (dueBefore (busy (b .chip .rest)) (b .reads) op) s) f)
 
 -- ---- the promises
 
-pub record SettledPromise (c : Chip) (ends : Bool) (array security : List ℕ) (r : Chip) (array′ security′ : List ℕ) : Type 0 where
-  pub outcome : state r array′ security′ ≡ settledState ends (state c array security)
+-- the chip with its memories before, and at the frame's beginning
+pub record SettledPromise (ends : Bool) (s t : promises.Bench) : Type 0 where
+  pub outcome : stateOf t ≡ settledState ends (stateOf s)
 
 abbrev pub leaves : Bench → List ℕ → List ℕ → List ℕ → List ℕ → Operated
 leaves r array security reply marks =
     record { bench = r; array = lent array; security = lent security; reply = lent reply; marks = lent marks }
 
 pub record OperationPromise (b : Bench) (array security sent reply marks : List ℕ) (r : Bench) (array′ security′ reply′ marks′ : List ℕ) : Type 0 where
-  pub outcome : leaves r array′ security′ reply′ marks′ ≡ operated b (state (b .chip) array security) (carried sent reply marks)
+  pub outcome : leaves r array′ security′ reply′ marks′ ≡ operated b (stateOf (benchOf (b .chip) array security)) (frameOf (carriedOf sent reply marks))
 
 -- ---- an operation with its answer: 06, and then the reply
 
@@ -87,7 +88,7 @@ answeredBy o = record { bench = o .bench; array = o .array; security = o .securi
 -- where the answer has room for the 06, the reply has what is left; else nothing happens
 unfoldable pub answeredOperation : Bench → List ℕ → List ℕ → List ℕ → List ℕ → List ℕ → Operated
 answeredOperation b array security sent [] marks = leaves b array security [] marks
-answeredOperation b array security sent (x ∷ reply) marks = answeredBy (operated b (state (b .chip) array security) (carried sent reply marks))
+answeredOperation b array security sent (x ∷ reply) marks = answeredBy (operated b (stateOf (benchOf (b .chip) array security)) (frameOf (carriedOf sent reply marks)))
 
 pub record AnswerPromise (b : Bench) (array security sent answer marks : List ℕ) (r : Bench) (array′ security′ answer′ marks′ : List ℕ) : Type 0 where
   pub outcome : leaves r array′ security′ answer′ marks′ ≡ answeredOperation b array security sent answer marks

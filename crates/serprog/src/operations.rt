@@ -7,6 +7,7 @@ ghost use mathlib.Core.Path.{_≡_};
 ghost use Rattle.rules.specs.Frames.{opcode};
 ghost use Rattle.rules.specs.Registers.{busy};
 ghost use Rattle.rules.specs.Commands.{newChip};
+ghost use Rattle.rules.specs.Promises.{benchOf};
 ghost use Rattle.serprog.specs.Operations.{isDone, dueBefore, readsAfter, SettledPromise, OperationPromise, AnswerPromise};
 
 pub fn new_bench(disguise: bool) -> Bench
@@ -27,10 +28,12 @@ fn opcode_of(sent: &[u8]) -> u8
 }
 
 fn is_busy(c: Chip) -> bool
-    ensures { λ r. ⌜ r ≡ busy c ⌝ }
+    ensures { λ r. ⌜ r ≡ busy (c .rest) ⌝ }
 {
-    let run = c.running;
-    !records::is_nothing(run)
+    let rest = c.rest;
+    let works = rest.works;
+    let run = works.running;
+    !blocks::is_nothing(run)
 }
 
 fn is_done(a: Answer) -> bool
@@ -62,7 +65,7 @@ pub fn reads_after(busy: bool, reads: u8, op: u8) -> u8
 
 // The chip and the memories at the frame's beginning.
 fn settled(c: Chip, ends: bool, array: &mut [u8], security: &mut [u8]) -> Chip
-    ensures { λ r. ⌜ SettledPromise c ends (now (array .entry)) (now (security .entry)) r (now (array .exit)) (now (security .exit)) ⌝ }
+    ensures { λ r. ⌜ SettledPromise ends (benchOf c (now (array .entry)) (now (security .entry))) (benchOf r (now (array .exit)) (now (security .exit))) ⌝ }
 {
     if ends {
         let after = chip::completion(c, array, security);

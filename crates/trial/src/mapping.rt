@@ -2,8 +2,12 @@
 use rules::After;
 use rules::Answer;
 use rules::Chip;
+use rules::Flags;
+use rules::Locks;
 use rules::Refusal;
+use rules::Rest;
 use rules::Work;
+use rules::Works;
 use second::Flat;
 
 // Work as a kind and a number, as second has it.
@@ -50,39 +54,43 @@ fn work_of(kind: u8, number: u64) -> Work {
 }
 
 pub fn flat_of(c: Chip) -> Flat {
-    let run = c.running;
-    let aside = c.suspended;
+    let rest = c.rest;
+    let works = rest.works;
+    let run = works.running;
+    let aside = works.suspended;
     let running = task_of(run);
     let suspended = task_of(aside);
+    let locks = rest.locks;
+    let flags = rest.flags;
     let buffer = c.buffer;
     Flat {
         buffer,
-        protection: c.protection,
-        permanent: c.permanent,
+        protection: locks.protection,
+        permanent: locks.permanent,
         run_kind: running.kind,
         run_number: running.number,
         sus_kind: suspended.kind,
         sus_number: suspended.number,
-        sqi: c.sqi,
-        wel: c.wel,
-        ioc: c.ioc,
-        wpen: c.wpen,
-        wpld: c.wpld,
-        sec: c.sec,
-        enable: c.enable,
+        sqi: flags.sqi,
+        wel: flags.wel,
+        ioc: flags.ioc,
+        wpen: flags.wpen,
+        wpld: flags.wpld,
+        sec: flags.sec,
+        enable: flags.enable,
     }
 }
 
 pub fn chip_of(s: Flat) -> Chip {
-    let buffer = s.buffer;
-    let running = work_of(s.run_kind, s.run_number);
-    let suspended = work_of(s.sus_kind, s.sus_number);
-    Chip {
-        buffer,
+    let locks = Locks {
         protection: s.protection,
         permanent: s.permanent,
-        running,
-        suspended,
+    };
+    let works = Works {
+        running: work_of(s.run_kind, s.run_number),
+        suspended: work_of(s.sus_kind, s.sus_number),
+    };
+    let flags = Flags {
         sqi: s.sqi,
         wel: s.wel,
         ioc: s.ioc,
@@ -90,7 +98,14 @@ pub fn chip_of(s: Flat) -> Chip {
         wpld: s.wpld,
         sec: s.sec,
         enable: s.enable,
-    }
+    };
+    let buffer = s.buffer;
+    let rest = Rest {
+        locks,
+        works,
+        flags,
+    };
+    Chip { buffer, rest }
 }
 
 // The seven bits of a record, as one number: the last field of a script's `record`.

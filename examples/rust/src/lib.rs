@@ -3,10 +3,13 @@
 //! The library reads and writes lent bytes only, for every input of every length, so nothing here can be used wrongly: the types hold
 //! the sizes, and references hold that no two lent parts overlap.
 
+mod record;
+
+pub use record::*;
 use std::fmt;
 use std::num::NonZeroU8;
+use std::ops::Range;
 
-pub const RECORD: usize = 297;
 pub const ARRAY: usize = 2_097_152;
 pub const SECURITY: usize = 2_048;
 
@@ -100,10 +103,60 @@ impl<const N: usize> Memory<N> {
     }
 }
 
+/// What runs or is suspended: one of `KIND_..`, and its number, as `include/fulkibono.h` lists them.
+#[derive(Clone, Copy, PartialEq, Eq, Debug)]
+pub struct Work {
+    pub kind: u8,
+    pub number: u64,
+}
+
+/// Part i of n that have one size; no places where there is none.
+fn part(i: u64, n: u64, size: usize) -> Range<usize> {
+    if i < n {
+        let start = i as usize * size;
+        start..start + size
+    } else {
+        0..0
+    }
+}
+
+/// The places of a protection block, numbered in the order of document 01's table: 1FE000 is 0, 010000 is 39. None above that.
+pub fn block(n: u64) -> Range<usize> {
+    match n {
+        0..=3 => part(255 - n, 256, 0x2000),
+        4..=7 => part(7 - n, 256, 0x2000),
+        8 => part(62, 64, 0x8000),
+        9 => part(1, 64, 0x8000),
+        10..=39 => part(40 - n, 32, 0x1_0000),
+        _ => 0..0,
+    }
+}
+
+impl Work {
+    /// Its range in the array; empty where it has none.
+    pub fn array_range(self) -> Range<usize> {
+        match self.kind {
+            KIND_SECTOR_ERASE => part(self.number, 512, 4096),
+            KIND_BLOCK_ERASE => block(self.number),
+            KIND_ARRAY_ERASE => 0..ARRAY,
+            KIND_PAGE_PROGRAM => part(self.number, 8192, 256),
+            _ => 0..0,
+        }
+    }
+
+    /// The same in the Security ID.
+    pub fn security_range(self) -> Range<usize> {
+        match self.kind {
+            KIND_SECURITY_PROGRAM => part(self.number, 8, 256),
+            _ => 0..0,
+        }
+    }
+}
+
 /// A chip record. Its bytes can be kept and read back; bytes that are no record's are refused by every event, with number 1.
 #[repr(transparent)]
 #[derive(Clone, PartialEq, Eq)]
-pub struct Record([u8; RECORD]);
+pub struct Record([u8; RECORD_SIZE]);
 
 impl Default for Record {
     fn default() -> Self {
@@ -114,19 +167,47 @@ impl Default for Record {
 impl Record {
     /// A new chip.
     pub fn new() -> Record {
-        let mut r = Record([0; RECORD]);
+        let mut r = Record([0; RECORD_SIZE]);
         // Safety: the record's own bytes, with their length, which is the right one.
-        let n = unsafe { library::fulkibono_new(r.0.as_mut_ptr(), RECORD) };
+        let n = unsafe { library::fulkibono_new(r.0.as_mut_ptr(), RECORD_SIZE) };
         debug_assert_eq!(n, 0);
         r
     }
 
-    pub fn from_bytes(bytes: [u8; RECORD]) -> Record {
+    pub fn from_bytes(bytes: [u8; RECORD_SIZE]) -> Record {
         Record(bytes)
     }
 
-    pub fn bytes(&self) -> &[u8; RECORD] {
+    pub fn bytes(&self) -> &[u8; RECORD_SIZE] {
         &self.0
+    }
+
+    fn number_at(&self, place: usize) -> u64 {
+        self.0[place..place + 8].iter().rev().fold(0, |x, &b| x << 8 | u64::from(b))
+    }
+
+    /// What runs. BUSY is that its kind is not `KIND_NOTHING`.
+    pub fn running(&self) -> Work {
+        Work { kind: self.0[PLACE_RUNNING_KIND], number: self.number_at(PLACE_RUNNING_NUMBER) }
+    }
+
+    pub fn suspended(&self) -> Work {
+        Work { kind: self.0[PLACE_SUSPENDED_KIND], number: self.number_at(PLACE_SUSPENDED_NUMBER) }
+    }
+
+    /// The protection register.
+    pub fn protection(&self) -> u64 {
+        self.number_at(PLACE_PROTECTION)
+    }
+
+    /// The permanent register.
+    pub fn permanent(&self) -> u64 {
+        self.number_at(PLACE_PERMANENT)
+    }
+
+    /// One of `FLAG_..`.
+    pub fn flag(&self, flag: u8) -> bool {
+        self.0[PLACE_FLAGS] & flag != 0
     }
 
     /// The bytes sent while CE# is low. Reply and marks have one length.
@@ -142,7 +223,7 @@ impl Record {
         answer(unsafe {
             library::fulkibono_frame(
                 self.0.as_mut_ptr(),
-                RECORD,
+                RECORD_SIZE,
                 array.0.as_mut_ptr(),
                 ARRAY,
                 security.0.as_mut_ptr(),
@@ -163,7 +244,7 @@ impl Record {
         answer(unsafe {
             library::fulkibono_completion(
                 self.0.as_mut_ptr(),
-                RECORD,
+                RECORD_SIZE,
                 array.0.as_mut_ptr(),
                 ARRAY,
                 security.0.as_mut_ptr(),
@@ -172,13 +253,13 @@ impl Record {
         })
     }
 
-    /// A power cut after k bytes of the running operation, and power-up.
+    /// A power cut after k bytes of the running operation, and power-up. 85, 01 and E8 act fully if k is 1 or more, else not.
     pub fn power_cut(&mut self, array: &mut Array, security: &mut Security, k: u64) -> Result<(), Refusal> {
         // Safety: as in `frame`.
         answer(unsafe {
             library::fulkibono_power_cut(
                 self.0.as_mut_ptr(),
-                RECORD,
+                RECORD_SIZE,
                 array.0.as_mut_ptr(),
                 ARRAY,
                 security.0.as_mut_ptr(),

@@ -1,4 +1,4 @@
-use fulkibono::{Array, Record, Security, ARRAY, RECORD, SECURITY};
+use fulkibono::*;
 
 struct Bench {
     chip: Record,
@@ -67,15 +67,61 @@ fn a_power_cut_in_an_erase() {
 #[test]
 fn bytes_that_are_no_record() {
     let mut b = Bench::new();
-    for (at, value) in [(290, 2), (272, 9), (273, 1), (256, 0)] {
+    let wrong = [
+        (PLACE_FLAGS, 128),
+        (PLACE_RUNNING_KIND, KIND_PERMANENT_BITS + 1),
+        (PLACE_RUNNING_NUMBER, 1),
+        (PLACE_SUSPENDED_NUMBER, 1),
+        (PLACE_RESERVED, 1),
+        (RECORD_SIZE - 1, 1),
+    ];
+    for (at, value) in wrong {
         let mut bytes = *Record::new().bytes();
         bytes[at] = value;
         b.chip = Record::from_bytes(bytes);
-        let right = at == 256;
-        assert_eq!(b.send(&[0x05], 1).0, if right { 0 } else { 1 });
+        assert_eq!(b.send(&[0x05], 1).0, 1);
         assert_eq!(b.chip.bytes(), &bytes);
     }
-    assert_eq!(RECORD, 297);
+    let mut bytes = *Record::new().bytes();
+    bytes[PLACE_PROTECTION] = 0;
+    b.chip = Record::from_bytes(bytes);
+    assert_eq!(b.send(&[0x05], 1).0, 0);
+    assert_eq!(b.chip.bytes(), &bytes);
+}
+
+#[test]
+fn what_a_record_holds() {
+    let mut b = Bench::new();
+    assert_eq!((b.chip.protection(), b.chip.permanent()), (0x5555_FFFF_FFFF, 0));
+    assert_eq!(b.chip.running(), Work { kind: KIND_NOTHING, number: 0 });
+    b.send(&[0x06], 0);
+    assert!(b.chip.flag(FLAG_WEL) && !b.chip.flag(FLAG_SQI));
+    b.send(&[0x98], 0);
+    b.send(&[0x06], 0);
+    b.send(&[0x20, 0x00, 0x10, 0x00], 0);
+    assert_eq!(b.chip.running().array_range(), 0x1000..0x2000);
+    b.send(&[0xB0], 0);
+    assert_eq!((b.chip.running().kind, b.chip.suspended()), (KIND_NOTHING, Work { kind: KIND_SECTOR_ERASE, number: 1 }));
+    b.send(&[0x30], 0);
+    assert_eq!(b.complete(), 0);
+    b.send(&[0x06], 0);
+    b.send(&[0xD8, 0x01, 0x00, 0x00], 0);
+    assert_eq!(b.chip.running(), Work { kind: KIND_BLOCK_ERASE, number: 39 });
+    assert_eq!(b.chip.running().array_range(), 0x1_0000..0x2_0000);
+    assert_eq!(b.complete(), 0);
+    b.send(&[0x06], 0);
+    b.send(&[0xA5, 0x01, 0x00, 0x00], 0);
+    assert_eq!((b.chip.running().array_range(), b.chip.running().security_range()), (0..0, 0x100..0x200));
+}
+
+#[test]
+fn forty_blocks_cover_the_array() {
+    let mut count = vec![0u8; ARRAY];
+    for n in 0..40 {
+        count[block(n)].iter_mut().for_each(|c| *c += 1);
+    }
+    assert!(count.iter().all(|&c| c == 1) && block(40).is_empty());
+    assert_eq!((block(0), block(39)), (0x1F_E000..0x20_0000, 0x1_0000..0x2_0000));
 }
 
 #[test]

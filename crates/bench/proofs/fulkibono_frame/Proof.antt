@@ -1,63 +1,64 @@
--- Bytes that are no code are refused; else the chip's promise holds of the record read, and what it leaves is written back. Assumes nothing.
-use borrow.Author.Tests.{not-true, not-false}
-use Rattle.bench.proofs.Calls.{code-size, frame-refused, frame-taken}
-use borrow.Author.Needs.{needs}
+-- Bytes that are no code are refused; else the machine's turn holds of the record read, and what it leaves is written back. Assumes nothing.
+use mathlib.Core.Path.{refl, sym, _∙_}
+use native.Mathlib.Omega.{arith}
+use lib.Seq.{length-front}
+use Rattle.rules.specs.Promises.{carriedOf}
+use Rattle.rules.specs.Demands.{frameCall}
+use Rattle.bench.specs.Boundary.{lentBenchOf}
+use Rattle.bench.proofs.Calls.{code-size, code-page, code-back, call-refused, call-taken}
 use Rattle.bench.proofs.fulkibono_frame.Statement.{statement}
 use Rattle.bench.proofs.fulkibono_frame.Tie as tie
 
-is-code-requires : tie.Need-is-code-requires
-is-code-requires c κs = search needs
-
-same-length : tie.Need-same-length
-same-length c = search needs
-
 returns : tie.Need-returns
-returns c = record { outcome = frame-refused (c .before .before .before .before .before .before .before .before .before .args .bytes .now) (c .before .before .before .before .before .before .before .before .before .args .array .now) (c .before .before .before .before .before .before .before .before .before .args .security .now) _ (c .before .is-code .ensures) (c .before .before .before .before .before .before .before .before .before .args .sent .now) (c .before .before .before .before .before .before .before .before .before .args .reply .now) (c .before .before .before .before .before .before .before .before .before .args .marks .now) (not-true _ (c .if1 .taken)) }
+returns c = let q = c .before in
+    let a = q .before .before .before .before .before .before .before .before .args in
+    call-refused (lentBenchOf (a .bytes .now) (a .array .now) (a .security .now)) (frameCall (carriedOf (a .sent .now) (a .reply .now) (a .marks .now))) _ (q .is-code .ensures) (c .if1 .taken)
 
-decode-requires : tie.Need-decode-requires
-decode-requires c κs = code-size (c .before .before .before .before .before .before .before .before .before .before .args .bytes .now) _ (c .before .before .is-code .ensures) (not-false _ (c .before .if1 .left))
+rest-in-requires : tie.Need-rest-in-requires
+rest-in-requires c κs = let s = c .before in code-size _ _ (s .before .is-code .ensures) (s .if1 .left)
 
-frame-requires : tie.Need-frame-requires
-frame-requires c κs = search needs
+slice-relend-prefix-frame-turn : tie.Need-slice-relend-prefix-frame-turn
+slice-relend-prefix-frame-turn c = let s = c .before .before in let h = code-size _ _ (s .before .is-code .ensures) (s .if1 .left) in omega arith
 
-encode-requires : tie.Need-encode-requires
-encode-requires c κs = code-size (c .before .before .before .before .before .before .before .before .before .before .before .before .before .before .before .before .before .before .before .before .before .before .before .before .before .before .args .bytes .now) _ (c .before .before .before .before .before .before .before .before .before .before .before .before .before .before .before .before .before .before .is-code .ensures) (not-false _ (c .before .before .before .before .before .before .before .before .before .before .before .before .before .before .before .before .before .if1 .left))
+slice-aggregate-frame-turn : tie.Need-slice-aggregate-frame-turn
+slice-aggregate-frame-turn c = let s = c .before .before .before in sym (code-page _ _ (s .before .is-code .ensures) (s .if1 .left))
 
-answer-number-requires : tie.Need-answer-number-requires
-answer-number-requires c κs = search needs
+frame-turn-requires : tie.Need-frame-turn-requires
+frame-turn-requires c κs = let s = c .before .before .before .before .before .before .before in code-page _ _ (s .before .is-code .ensures) (s .if1 .left)
+
+put-rest-requires : tie.Need-put-rest-requires
+put-rest-requires c κs = let t = c .before .before .before .before .before .before .before .before in
+    let s = t .before .before .before .before .before .before .before .before in
+    code-back _ _ (s .before .is-code .ensures) (s .if1 .left) (t .frame-turn .last .1 .0) (t .frame-turn .kept .1 .0)
 
 same-length-2 : tie.Need-same-length-2
-same-length-2 c = search needs
-
-same-length-3 : tie.Need-same-length-3
-same-length-3 c = search needs
-
-same-length-4 : tie.Need-same-length-4
-same-length-4 c = search needs
-
-same-length-5 : tie.Need-same-length-5
-same-length-5 c = search needs
-
-same-length-6 : tie.Need-same-length-6
-same-length-6 c = search needs
+same-length-2 c = let t = c .before .before .before .before .before .before .before .before .before .before .before .before in c .before .before .before .put-rest .kept .0 ∙ length-front (t .before .before .before .before .before .before .before .before .before .before .before .before .before .before .before .before .before .args .bytes .now) (t .frame-turn .last .1 .0) 256 (t .frame-turn .kept .1 .0)
 
 returns-2 : tie.Need-returns-2
-returns-2 c = record { outcome = frame-taken (c .before .before .before .before .before .before .before .before .before .before .before .before .before .before .before .before .before .before .before .before .before .before .before .before .before .before .before .before .before .before .args .bytes .now) (c .before .before .before .before .before .before .before .before .before .before .before .before .before .before .before .before .before .before .before .before .before .before .before .before .before .before .before .before .before .before .args .array .now) (c .before .before .before .before .before .before .before .before .before .before .before .before .before .before .before .before .before .before .before .before .before .before .before .before .before .before .before .before .before .before .args .security .now) _ (c .before .before .before .before .before .before .before .before .before .before .before .before .before .before .before .before .before .before .before .before .before .before .is-code .ensures) (c .before .before .before .before .before .before .before .before .before .before .before .before .before .before .before .before .before .before .before .decode .result) (c .before .before .before .before .before .before .before .before .before .before .before .before .before .before .frame .result) _ _ _ _ (not-false _ (c .before .before .before .before .before .before .before .before .before .before .before .before .before .before .before .before .before .before .before .before .before .if1 .left)) (c .before .before .before .before .before .before .before .before .before .before .before .before .before .before .before .before .before .before .before .decode .ensures) (c .before .before .before .encode .ensures) (c .answer-number .ensures) (c .before .before .before .before .before .before .before .before .before .before .before .before .before .before .before .before .before .before .before .before .before .before .before .before .before .before .before .before .before .before .args .sent .now) (c .before .before .before .before .before .before .before .before .before .before .before .before .before .before .before .before .before .before .before .before .before .before .before .before .before .before .before .before .before .before .args .reply .now) (c .before .before .before .before .before .before .before .before .before .before .before .before .before .before .before .before .before .before .before .before .before .before .before .before .before .before .before .before .before .before .args .marks .now) _ _ (c .before .before .before .before .before .before .before .before .before .before .before .before .before .before .frame .ensures) }
+returns-2 c = let t = c .before .before .before .before .before .before .before .before .before .before .before .before in
+    let r = t .before .before .before .before .before .before in
+    let s = r .before .before in
+    let q = s .before in
+    let a = q .before .before .before .before .before .before .before .before .args in
+    let m = t .frame-turn in
+    call-taken (lentBenchOf (a .bytes .now) (a .array .now) (a .security .now)) (frameCall (carriedOf (a .sent .now) (a .reply .now) (a .marks .now))) _ (q .is-code .ensures) _ (m .result) (m .last .1 .0) _ (a .array .now) (a .security .now) (m .last .1 .1 .1 .1 .1 .0) (m .last .1 .1 .1 .1 .1 .1 .0) _ (s .if1 .left) (r .rest-in .ensures) (m .ensures) (m .kept .1 .0) (c .before .before .before .put-rest .ensures) (c .answer-number .ensures)
 
 pub fulkibono-frame-spec : {M : Type 1} → statement M
 fulkibono-frame-spec =
     tie.close
     (tie.spec
-    is-code-requires
-    same-length
+    (λ c κs. tt)
+    (λ c. refl)
     returns
-    decode-requires
-    frame-requires
-    encode-requires
-    answer-number-requires
+    rest-in-requires
+    slice-relend-prefix-frame-turn
+    slice-aggregate-frame-turn
+    frame-turn-requires
+    put-rest-requires
+    (λ c κs. tt)
     same-length-2
-    same-length-3
-    same-length-4
-    same-length-5
-    same-length-6
+    (λ c. refl)
+    (λ c. refl)
+    (λ c. c .before .before .before .before .before .before .before .before .before .before .before .before .frame-turn .kept .1 .1 .1 .1 .1 .0)
+    (λ c. c .before .before .before .before .before .before .before .before .before .before .before .before .frame-turn .kept .1 .1 .1 .1 .1 .1 .0)
     returns-2)

@@ -2,14 +2,12 @@
 use mathlib.Core.Path.{sym, ap, _∙_}
 use Rattle.rules.specs.Works.{arrayRange}
 use Rattle.rules.specs.Blocks.{span}
+use Rattle.blocks.proofs.Grouped.{no-array}
 use Rattle.blocks.proofs.Ranges.{sector-number, block-number, page-number}
 use native.Mathlib.Omega.{arith}
 use borrow.Author.Needs.{needs}
 use Rattle.blocks.proofs.array_range.Statement.{statement}
 use Rattle.blocks.proofs.array_range.Tie as tie
-
-enum-told : tie.Need-enum-told
-enum-told c = search needs
 
 enum-known-w : tie.Need-enum-known-w
 enum-known-w c = search needs
@@ -23,8 +21,8 @@ enum-known-w-2 c = search needs
 block-at-requires : tie.Need-block-at-requires
 block-at-requires c κs = block-number (c .before .before .before .args .w) _ (c .before .w2 .given .1) (c .before .before .before .pre)
 
-enum-told-2 : tie.Need-enum-told-2
-enum-told-2 c = search needs
+enum-told : tie.Need-enum-told
+enum-told c = search needs
 
 enum-known-w-3 : tie.Need-enum-known-w-3
 enum-known-w-3 c = search needs
@@ -32,67 +30,34 @@ enum-known-w-3 c = search needs
 mul-t8 : tie.Need-mul-t8
 mul-t8 c = let h = page-number (c .before .before .before .args .w) _ (c .before .w3 .given .1) (c .before .before .before .pre) in omega arith
 
-enum-told-3 : tie.Need-enum-told-3
-enum-told-3 c = search needs
-
-enum-told-4 : tie.Need-enum-told-4
-enum-told-4 c = search needs
-
-enum-told-5 : tie.Need-enum-told-5
-enum-told-5 c = search needs
-
-enum-told-6 : tie.Need-enum-told-6
-enum-told-6 c = search needs
-
 returns : tie.Need-returns
-returns c = ap arrayRange (sym (c .enum-told .given .1))
+returns c = ap arrayRange (sym (c .before .w .given .1))
 
 returns-2 : tie.Need-returns-2
-returns-2 c = ap arrayRange (sym (c .before .w .given .1))
+returns-2 c = ap span (c .block-at .ensures) ∙ ap arrayRange (sym (c .before .before .w2 .given .1))
 
 returns-3 : tie.Need-returns-3
-returns-3 c = ap span (c .block-at .ensures) ∙ ap arrayRange (sym (c .before .before .w2 .given .1))
+returns-3 c = ap arrayRange (sym (c .enum-told .given .1))
 
 returns-4 : tie.Need-returns-4
-returns-4 c = ap arrayRange (sym (c .enum-told2 .given .1))
+returns-4 c = ap arrayRange (sym (c .before .w3 .given .1))
 
 returns-5 : tie.Need-returns-5
-returns-5 c = ap arrayRange (sym (c .before .w3 .given .1))
-
-returns-6 : tie.Need-returns-6
-returns-6 c = ap arrayRange (sym (c .enum-told3 .given .1))
-
-returns-7 : tie.Need-returns-7
-returns-7 c = ap arrayRange (sym (c .enum-told4 .given .1))
-
-returns-8 : tie.Need-returns-8
-returns-8 c = ap arrayRange (sym (c .enum-told5 .given .1))
-
-returns-9 : tie.Need-returns-9
-returns-9 c = ap arrayRange (sym (c .enum-told6 .given .1))
+returns-5 c = no-array (c .before .args .w) (c .match .keys5)
 
 pub array-range-spec : {M : Type 1} → statement M
 array-range-spec =
     tie.close
     (tie.spec
-    enum-told
     enum-known-w
     mul-t7
     enum-known-w-2
     block-at-requires
-    enum-told-2
+    enum-told
     enum-known-w-3
     mul-t8
-    enum-told-3
-    enum-told-4
-    enum-told-5
-    enum-told-6
     returns
     returns-2
     returns-3
     returns-4
-    returns-5
-    returns-6
-    returns-7
-    returns-8
-    returns-9)
+    returns-5)

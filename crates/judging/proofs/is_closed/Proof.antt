@@ -1,129 +1,16 @@
--- Each kind has its test. Assumes nothing.
-use mathlib.Core.Path.{sym, ap, _∙_}
-use Rattle.rules.specs.declared.Kind.{Kind}
-use Rattle.judging.specs.ByKind.{closedBy}
-use Rattle.judging.proofs.Judged.{kind-length}
+-- A5, and the others. Assumes nothing.
+use borrow.Author.Tests.{ne-eqb}
+use Rattle.judging.proofs.Judged.{closed-other}
 use borrow.Author.Needs.{needs}
 use Rattle.judging.proofs.is_closed.Statement.{statement}
 use Rattle.judging.proofs.is_closed.Tie as tie
-
-enum-told : tie.Need-enum-told
-enum-told c = search needs
-
-enum-told-2 : tie.Need-enum-told-2
-enum-told-2 c = search needs
-
-enum-told-3 : tie.Need-enum-told-3
-enum-told-3 c = search needs
-
-enum-told-4 : tie.Need-enum-told-4
-enum-told-4 c = search needs
-
-enum-told-5 : tie.Need-enum-told-5
-enum-told-5 c = search needs
-
-enum-told-6 : tie.Need-enum-told-6
-enum-told-6 c = search needs
-
-enum-told-7 : tie.Need-enum-told-7
-enum-told-7 c = search needs
-
-enum-told-8 : tie.Need-enum-told-8
-enum-told-8 c = search needs
-
-enum-known-k : tie.Need-enum-known-k
-enum-known-k c = search needs
-
-start-closed-requires : tie.Need-start-closed-requires
-start-closed-requires c κs = (kind-length _ _ (c .before .before .before .before .args .sent .now) (c .before .k .given .1) (c .before .before .before .before .pre .0), c .before .before .before .before .pre .1)
-
-enum-told-9 : tie.Need-enum-told-9
-enum-told-9 c = search needs
-
-enum-told-10 : tie.Need-enum-told-10
-enum-told-10 c = search needs
-
-enum-told-11 : tie.Need-enum-told-11
-enum-told-11 c = search needs
-
-enum-told-12 : tie.Need-enum-told-12
-enum-told-12 c = search needs
-
-enum-told-13 : tie.Need-enum-told-13
-enum-told-13 c = search needs
-
-returns : tie.Need-returns
-returns c = search needs
-
-returns-2 : tie.Need-returns-2
-returns-2 c = search needs
-
-returns-3 : tie.Need-returns-3
-returns-3 c = search needs
-
-returns-4 : tie.Need-returns-4
-returns-4 c = search needs
-
-returns-5 : tie.Need-returns-5
-returns-5 c = search needs
-
-returns-6 : tie.Need-returns-6
-returns-6 c = search needs
-
-returns-7 : tie.Need-returns-7
-returns-7 c = search needs
-
-returns-8 : tie.Need-returns-8
-returns-8 c = search needs
-
-returns-9 : tie.Need-returns-9
-returns-9 c = c .start-closed .ensures ∙ ap (λ (k : Kind). closedBy k (c .before .before .before .before .before .args .wpld) (c .before .before .before .before .before .args .sec) (c .before .before .before .before .before .args .sent .now)) (sym (c .before .before .k .given .1))
-
-returns-10 : tie.Need-returns-10
-returns-10 c = search needs
-
-returns-11 : tie.Need-returns-11
-returns-11 c = search needs
-
-returns-12 : tie.Need-returns-12
-returns-12 c = search needs
-
-returns-13 : tie.Need-returns-13
-returns-13 c = search needs
-
-returns-14 : tie.Need-returns-14
-returns-14 c = search needs
 
 pub is-closed-spec : {M : Type 1} → statement M
 is-closed-spec =
     tie.close
     (tie.spec
-    enum-told
-    enum-told-2
-    enum-told-3
-    enum-told-4
-    enum-told-5
-    enum-told-6
-    enum-told-7
-    enum-told-8
-    enum-known-k
-    start-closed-requires
-    enum-told-9
-    enum-told-10
-    enum-told-11
-    enum-told-12
-    enum-told-13
-    returns
-    returns-2
-    returns-3
-    returns-4
-    returns-5
-    returns-6
-    returns-7
-    returns-8
-    returns-9
-    returns-10
-    returns-11
-    returns-12
-    returns-13
-    returns-14)
+    (λ c κs. search needs)
+    (λ c. rw (c .before .reaches-first .ensures, c .before .before .if1 .taken))
+    (λ c κs. search needs)
+    (λ c κs. search needs)
+    (λ c. rw (c .before .to-security .ensures, c .before .before .before .changes-locks .ensures) (closed-other (c .before .before .before .before .before .before .args .r) (c .before .before .before .before .before .before .args .op) (c .before .before .before .before .before .before .args .sent .now) (ne-eqb _ _ (c .before .before .before .before .if1 .left)))))

@@ -1,129 +1,18 @@
--- Each kind has its test. Assumes nothing.
-use mathlib.Core.Path.{sym, ap, _∙_}
-use Rattle.rules.specs.declared.Kind.{Kind}
-use Rattle.judging.specs.ByKind.{lockedBy}
-use Rattle.judging.proofs.Judged.{kind-length}
+-- C7, the four that go to one block, and the others. Assumes nothing.
+use mathlib.Core.Path.{sym, _∙_}
+use borrow.Author.Tests.{ne-eqb, not-true, not-false}
+use Rattle.judging.proofs.Judged.{locked-block, locked-none}
 use borrow.Author.Needs.{needs}
 use Rattle.judging.proofs.is_locked.Statement.{statement}
 use Rattle.judging.proofs.is_locked.Tie as tie
-
-enum-told : tie.Need-enum-told
-enum-told c = search needs
-
-enum-told-2 : tie.Need-enum-told-2
-enum-told-2 c = search needs
-
-enum-told-3 : tie.Need-enum-told-3
-enum-told-3 c = search needs
-
-enum-told-4 : tie.Need-enum-told-4
-enum-told-4 c = search needs
-
-enum-told-5 : tie.Need-enum-told-5
-enum-told-5 c = search needs
-
-enum-told-6 : tie.Need-enum-told-6
-enum-told-6 c = search needs
-
-enum-told-7 : tie.Need-enum-told-7
-enum-told-7 c = search needs
-
-enum-told-8 : tie.Need-enum-told-8
-enum-told-8 c = search needs
-
-enum-known-k : tie.Need-enum-known-k
-enum-known-k c = search needs
-
-start-locked-requires : tie.Need-start-locked-requires
-start-locked-requires c κs = kind-length _ _ (c .before .before .before .before .args .sent .now) (c .before .k .given .1) (c .before .before .before .before .pre)
-
-enum-told-9 : tie.Need-enum-told-9
-enum-told-9 c = search needs
-
-enum-told-10 : tie.Need-enum-told-10
-enum-told-10 c = search needs
-
-enum-told-11 : tie.Need-enum-told-11
-enum-told-11 c = search needs
-
-enum-told-12 : tie.Need-enum-told-12
-enum-told-12 c = search needs
-
-enum-told-13 : tie.Need-enum-told-13
-enum-told-13 c = search needs
-
-returns : tie.Need-returns
-returns c = search needs
-
-returns-2 : tie.Need-returns-2
-returns-2 c = search needs
-
-returns-3 : tie.Need-returns-3
-returns-3 c = search needs
-
-returns-4 : tie.Need-returns-4
-returns-4 c = search needs
-
-returns-5 : tie.Need-returns-5
-returns-5 c = search needs
-
-returns-6 : tie.Need-returns-6
-returns-6 c = search needs
-
-returns-7 : tie.Need-returns-7
-returns-7 c = search needs
-
-returns-8 : tie.Need-returns-8
-returns-8 c = search needs
-
-returns-9 : tie.Need-returns-9
-returns-9 c = c .start-locked .ensures ∙ ap (λ (k : Kind). lockedBy k (c .before .before .before .before .before .args .p) (c .before .before .before .before .before .args .sent .now)) (sym (c .before .before .k .given .1))
-
-returns-10 : tie.Need-returns-10
-returns-10 c = search needs
-
-returns-11 : tie.Need-returns-11
-returns-11 c = search needs
-
-returns-12 : tie.Need-returns-12
-returns-12 c = search needs
-
-returns-13 : tie.Need-returns-13
-returns-13 c = search needs
-
-returns-14 : tie.Need-returns-14
-returns-14 c = search needs
 
 pub is-locked-spec : {M : Type 1} → statement M
 is-locked-spec =
     tie.close
     (tie.spec
-    enum-told
-    enum-told-2
-    enum-told-3
-    enum-told-4
-    enum-told-5
-    enum-told-6
-    enum-told-7
-    enum-told-8
-    enum-known-k
-    start-locked-requires
-    enum-told-9
-    enum-told-10
-    enum-told-11
-    enum-told-12
-    enum-told-13
-    returns
-    returns-2
-    returns-3
-    returns-4
-    returns-5
-    returns-6
-    returns-7
-    returns-8
-    returns-9
-    returns-10
-    returns-11
-    returns-12
-    returns-13
-    returns-14)
+    (λ c. rw (c .before .if1 .taken))
+    (λ c κs. search needs)
+    (λ c. locked-none (c .before .before .before .before .args .r) (c .before .before .before .before .args .op) (c .before .before .before .before .args .sent .now) (ne-eqb _ _ (c .before .before .if1 .left)) (sym (c .before .in-a-block .ensures) ∙ not-true _ (c .if2 .taken)))
+    (λ c κs. search needs)
+    (λ c κs. search needs)
+    (λ c. rw (c .write-locked .ensures, c .before .address-of .ensures .0) (locked-block (c .before .before .before .before .before .before .args .r) (c .before .before .before .before .before .before .args .op) (c .before .before .before .before .before .before .args .sent .now) (ne-eqb _ _ (c .before .before .before .before .if1 .left)) (sym (c .before .before .before .in-a-block .ensures) ∙ not-false _ (c .before .before .if2 .left)))))

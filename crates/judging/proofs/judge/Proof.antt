@@ -1,51 +1,94 @@
--- Not listed, a wrong length, or the conditions after those. Assumes nothing.
-use mathlib.Core.Path.{sym, ap, _∙_}
-use borrow.Author.Tests.{not-true, not-false}
-use Rattle.rules.specs.declared.Form.{Form}
-use Rattle.judging.proofs.Judged.{not-listed, is-listed, length-known, after-listed, wrong-length, right-length}
+-- The tests in their order. Assumes nothing.
+use mathlib.Core.Path.{sym, _∙_}
 use borrow.Author.Needs.{needs}
+use Rattle.judging.proofs.Judged.{not-listed, wrong-length, is-3, is-4, is-5, is-6, is-7, is-8, is-9, is-10, is-11, is-0}
 use Rattle.judging.proofs.judge.Statement.{statement}
 use Rattle.judging.proofs.judge.Tie as tie
-
-least-length-requires : tie.Need-least-length-requires
-least-length-requires c κs = search needs
-
-returns : tie.Need-returns
-returns c = not-listed (c .before .before .before .args .c) (c .before .before .before .args .op) (c .before .before .before .args .form) (c .before .before .before .args .sent .now) _ (c .before .before .before .pre) (c .before .least-length .ensures) (c .if1 .taken)
-
-length-right-requires : tie.Need-length-right-requires
-length-right-requires c κs = search needs
-
-returns-2 : tie.Need-returns-2
-returns-2 c = let a = c .before .before .before .before .before .args in
-    let p = c .before .before .before .before .before .pre in
-    after-listed (a .c) (a .op) (a .form) (a .sent .now) 4 p (is-listed (a .c) (a .op) (a .form) (a .sent .now) _ p (c .before .before .before .least-length .ensures) (c .before .before .if1 .left))
-    (wrong-length (a .c) (a .op) (a .sent .now) _ (length-known (a .c) (a .op) (a .form) (a .sent .now) _ p (c .before .length-right .ensures)) (not-true _ (c .if2 .taken)))
-
-weigh-requires : tie.Need-weigh-requires
-weigh-requires c κs = let a = c .before .before .before .before .before .args in
-    let p = c .before .before .before .before .before .pre in
-    record {
-      well = p .well;
-      is-listed = is-listed (a .c) (a .op) (a .form) (a .sent .now) _ p (c .before .before .before .least-length .ensures) (c .before .before .if1 .left);
-      is-long = sym (length-known (a .c) (a .op) (a .form) (a .sent .now) _ p (c .before .length-right .ensures)) ∙ not-false _ (c .if2 .left);
-      its-kind = ap (λ (f : Form). f .kind) (p .its-form);
-      fits = p .fits;
-    }
-
-returns-3 : tie.Need-returns-3
-returns-3 c = let a = c .before .before .before .before .before .before .args in
-    let p = c .before .before .before .before .before .before .pre in
-    after-listed (a .c) (a .op) (a .form) (a .sent .now) _ p (is-listed (a .c) (a .op) (a .form) (a .sent .now) _ p (c .before .before .before .before .least-length .ensures) (c .before .before .before .if1 .left))
-    (right-length (a .c) (a .op) (a .sent .now) _ _ (length-known (a .c) (a .op) (a .form) (a .sent .now) _ p (c .before .before .length-right .ensures)) (not-false _ (c .before .if2 .left)) (c .weigh .ensures))
 
 pub judge-spec : {M : Type 1} → statement M
 judge-spec =
     tie.close
     (tie.spec
-    least-length-requires
-    returns
-    length-right-requires
-    returns-2
-    weigh-requires
-    returns-3)
+    (λ c κs. search needs)
+    (λ c.
+    let j = c .before .before .before .pre in
+    is-3 j (not-listed j (c .before .not-listed .ensures) (c .if1 .taken)))
+    (λ c κs. search needs)
+    (λ c.
+    let c₁ = c .before .before in
+    let j = c₁ .before .before .before .pre in
+    is-4 j (not-listed j (c₁ .before .not-listed .ensures) (c₁ .if1 .left)) (wrong-length j (c .before .wrong-length .ensures) (c .if2 .taken)))
+    (λ c κs. search needs)
+    (λ c.
+    let c₂ = c .before .before in
+    let c₁ = c₂ .before .before in
+    let j = c₁ .before .before .before .pre in
+    is-5 j (not-listed j (c₁ .before .not-listed .ensures) (c₁ .if1 .left)) (wrong-length j (c₂ .before .wrong-length .ensures) (c₂ .if2 .left)) (sym (c .before .while-busy .ensures) ∙ c .if3 .taken))
+    (λ c κs. search needs)
+    (λ c.
+    let c₃ = c .before .before in
+    let c₂ = c₃ .before .before in
+    let c₁ = c₂ .before .before in
+    let j = c₁ .before .before .before .pre in
+    is-6 j (not-listed j (c₁ .before .not-listed .ensures) (c₁ .if1 .left)) (wrong-length j (c₂ .before .wrong-length .ensures) (c₂ .if2 .left)) (sym (c₃ .before .while-busy .ensures) ∙ c₃ .if3 .left) (sym (c .before .no-enable .ensures) ∙ c .if4 .taken))
+    (λ c κs. search needs)
+    (λ c.
+    let c₄ = c .before .before in
+    let c₃ = c₄ .before .before in
+    let c₂ = c₃ .before .before in
+    let c₁ = c₂ .before .before in
+    let j = c₁ .before .before .before .pre in
+    is-7 j (not-listed j (c₁ .before .not-listed .ensures) (c₁ .if1 .left)) (wrong-length j (c₂ .before .wrong-length .ensures) (c₂ .if2 .left)) (sym (c₃ .before .while-busy .ensures) ∙ c₃ .if3 .left) (sym (c₄ .before .no-enable .ensures) ∙ c₄ .if4 .left) (sym (c .before .no-ioc .ensures) ∙ c .if5 .taken))
+    (λ c κs. search needs)
+    (λ c.
+    let c₅ = c .before .before in
+    let c₄ = c₅ .before .before in
+    let c₃ = c₄ .before .before in
+    let c₂ = c₃ .before .before in
+    let c₁ = c₂ .before .before in
+    let j = c₁ .before .before .before .pre in
+    is-8 j (not-listed j (c₁ .before .not-listed .ensures) (c₁ .if1 .left)) (wrong-length j (c₂ .before .wrong-length .ensures) (c₂ .if2 .left)) (sym (c₃ .before .while-busy .ensures) ∙ c₃ .if3 .left) (sym (c₄ .before .no-enable .ensures) ∙ c₄ .if4 .left) (sym (c₅ .before .no-ioc .ensures) ∙ c₅ .if5 .left) (sym (c .before .conflicts .ensures) ∙ c .if6 .taken))
+    (λ c κs. search needs)
+    (λ c.
+    let c₆ = c .before .before in
+    let c₅ = c₆ .before .before in
+    let c₄ = c₅ .before .before in
+    let c₃ = c₄ .before .before in
+    let c₂ = c₃ .before .before in
+    let c₁ = c₂ .before .before in
+    let j = c₁ .before .before .before .pre in
+    is-9 j (not-listed j (c₁ .before .not-listed .ensures) (c₁ .if1 .left)) (wrong-length j (c₂ .before .wrong-length .ensures) (c₂ .if2 .left)) (sym (c₃ .before .while-busy .ensures) ∙ c₃ .if3 .left) (sym (c₄ .before .no-enable .ensures) ∙ c₄ .if4 .left) (sym (c₅ .before .no-ioc .ensures) ∙ c₅ .if5 .left) (sym (c₆ .before .conflicts .ensures) ∙ c₆ .if6 .left) (sym (c .before .no-wel .ensures) ∙ c .if7 .taken))
+    (λ c κs. search needs)
+    (λ c.
+    let c₇ = c .before .before in
+    let c₆ = c₇ .before .before in
+    let c₅ = c₆ .before .before in
+    let c₄ = c₅ .before .before in
+    let c₃ = c₄ .before .before in
+    let c₂ = c₃ .before .before in
+    let c₁ = c₂ .before .before in
+    let j = c₁ .before .before .before .pre in
+    is-10 j (not-listed j (c₁ .before .not-listed .ensures) (c₁ .if1 .left)) (wrong-length j (c₂ .before .wrong-length .ensures) (c₂ .if2 .left)) (sym (c₃ .before .while-busy .ensures) ∙ c₃ .if3 .left) (sym (c₄ .before .no-enable .ensures) ∙ c₄ .if4 .left) (sym (c₅ .before .no-ioc .ensures) ∙ c₅ .if5 .left) (sym (c₆ .before .conflicts .ensures) ∙ c₆ .if6 .left) (sym (c₇ .before .no-wel .ensures) ∙ c₇ .if7 .left) (sym (c .before .is-closed .ensures) ∙ c .if8 .taken))
+    (λ c κs. search needs)
+    (λ c.
+    let c₈ = c .before .before in
+    let c₇ = c₈ .before .before in
+    let c₆ = c₇ .before .before in
+    let c₅ = c₆ .before .before in
+    let c₄ = c₅ .before .before in
+    let c₃ = c₄ .before .before in
+    let c₂ = c₃ .before .before in
+    let c₁ = c₂ .before .before in
+    let j = c₁ .before .before .before .pre in
+    is-11 j (not-listed j (c₁ .before .not-listed .ensures) (c₁ .if1 .left)) (wrong-length j (c₂ .before .wrong-length .ensures) (c₂ .if2 .left)) (sym (c₃ .before .while-busy .ensures) ∙ c₃ .if3 .left) (sym (c₄ .before .no-enable .ensures) ∙ c₄ .if4 .left) (sym (c₅ .before .no-ioc .ensures) ∙ c₅ .if5 .left) (sym (c₆ .before .conflicts .ensures) ∙ c₆ .if6 .left) (sym (c₇ .before .no-wel .ensures) ∙ c₇ .if7 .left) (sym (c₈ .before .is-closed .ensures) ∙ c₈ .if8 .left) (sym (c .before .is-locked .ensures) ∙ c .if9 .taken))
+    (λ c.
+    let c₈ = c .before .before in
+    let c₇ = c₈ .before .before in
+    let c₆ = c₇ .before .before in
+    let c₅ = c₆ .before .before in
+    let c₄ = c₅ .before .before in
+    let c₃ = c₄ .before .before in
+    let c₂ = c₃ .before .before in
+    let c₁ = c₂ .before .before in
+    let j = c₁ .before .before .before .pre in
+    is-0 j (not-listed j (c₁ .before .not-listed .ensures) (c₁ .if1 .left)) (wrong-length j (c₂ .before .wrong-length .ensures) (c₂ .if2 .left)) (sym (c₃ .before .while-busy .ensures) ∙ c₃ .if3 .left) (sym (c₄ .before .no-enable .ensures) ∙ c₄ .if4 .left) (sym (c₅ .before .no-ioc .ensures) ∙ c₅ .if5 .left) (sym (c₆ .before .conflicts .ensures) ∙ c₆ .if6 .left) (sym (c₇ .before .no-wel .ensures) ∙ c₇ .if7 .left) (sym (c₈ .before .is-closed .ensures) ∙ c₈ .if8 .left) (sym (c .before .is-locked .ensures) ∙ c .if9 .left)))

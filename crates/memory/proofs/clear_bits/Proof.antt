@@ -11,10 +11,10 @@ use Rattle.memory.proofs.clear_bits.Statement.{statement}
 use Rattle.memory.proofs.clear_bits.Tie as tie
 
 abbrev Inv-loop : tie.InvT-loop
-Inv-loop s₀ from n buffer i₀ s i = record { low : i ≤ n; fits : from + n ≤ length s₀; small : n ≤ 256; is : Patched s s₀ from i (λ k. bitAnd (getD s₀ (from + k) 0) (getD buffer k 0)) }
+Inv-loop s₀ from n page i₀ s i = record { low : i ≤ n; fits : from + n ≤ length s₀; small : n ≤ length page; is : Patched s s₀ from i (λ k. bitAnd (getD s₀ (from + k) 0) (getD page k 0)) }
 
 abbrev μ-loop : tie.MeasureT-loop
-μ-loop s₀ from n buffer i₀ s i = n - i
+μ-loop s₀ from n page i₀ s i = n - i
 
 loop-holds : tie.Need-loop-holds Inv-loop μ-loop
 loop-holds c = record { low = omega arith; fits = c .pre .0; small = c .pre .1; is = patched-none _ _ _ }
@@ -25,8 +25,8 @@ add-s c = search needs
 slice-read-s : tie.Need-slice-read-s Inv-loop μ-loop
 slice-read-s c = let h = c .before .before .loop .inv .is .size in omega arith
 
-element-copy-out-s : tie.Need-element-copy-out-s Inv-loop μ-loop
-element-copy-out-s c = search needs
+shared-slice-read-s : tie.Need-shared-slice-read-s Inv-loop μ-loop
+shared-slice-read-s c = search needs
 
 add-s-2 : tie.Need-add-s-2 Inv-loop μ-loop
 add-s-2 c = search needs
@@ -47,8 +47,8 @@ loop-again c = let l = c .before .before .before .loop in
       low = omega arith;
       fits = l .inv .fits;
       small = l .inv .small;
-      is = patched-more (l .s) (a .s .now) (a .from) (l .i) _ (λ k. bitAnd (getD (a .s .now) (a .from + k) 0) (getD (a .buffer .now) k 0)) (l .inv .is) (omega arith)
-          (ap (λ (x : ℕ). bitAnd x (getD (a .buffer .now) (l .i) 0)) (patched-next (l .s) (a .s .now) (a .from) (l .i) _ (l .inv .is)));
+      is = patched-more (l .s) (a .s .now) (a .from) (l .i) _ (λ k. bitAnd (getD (a .s .now) (a .from + k) 0) (getD (a .page .now) k 0)) (l .inv .is) (omega arith)
+          (ap (λ (x : ℕ). bitAnd x (getD (a .page .now) (l .i) 0)) (patched-next (l .s) (a .s .now) (a .from) (l .i) _ (l .inv .is)));
     }
 
 same-length : tie.Need-same-length Inv-loop μ-loop
@@ -66,7 +66,7 @@ clear-bits-spec =
     loop-holds
     add-s
     slice-read-s
-    element-copy-out-s
+    shared-slice-read-s
     add-s-2
     slice-write-s
     add-i

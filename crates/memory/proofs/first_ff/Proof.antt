@@ -2,6 +2,7 @@
 use Prim.Native.Nat.{_≤_, _-_}
 use mathlib.Core.Path.{_≡_, refl, sym}
 use lib.Dec.{eqb}
+use lib.ListN.{length}
 use Rattle.rules.specs.WellFormed.{firstFF}
 use Rattle.memory.proofs.Buffers.{ff-next}
 use borrow.Author.Needs.{needs}
@@ -10,17 +11,17 @@ use Rattle.memory.proofs.first_ff.Statement.{statement}
 use Rattle.memory.proofs.first_ff.Tie as tie
 
 abbrev Inv-loop : tie.InvT-loop
-Inv-loop buffer n other₀ i₀ other i = record { low : i ≤ n; small : n ≤ 256; is : eqb other 0 ≡ firstFF i buffer }
+Inv-loop page n other₀ i₀ other i = record { low : i ≤ n; small : n ≤ length page; is : eqb other 0 ≡ firstFF i page }
 
 abbrev μ-loop : tie.MeasureT-loop
-μ-loop buffer n other₀ i₀ other i = n - i
+μ-loop page n other₀ i₀ other i = n - i
 
 loop-holds : tie.Need-loop-holds Inv-loop μ-loop
 unfolding firstFF
 loop-holds c = record { low = omega arith; small = c .pre; is = refl }
 
-element-copy-out-other : tie.Need-element-copy-out-other Inv-loop μ-loop
-element-copy-out-other c = search needs
+shared-slice-read-other : tie.Need-shared-slice-read-other Inv-loop μ-loop
+shared-slice-read-other c = search needs
 
 add-i : tie.Need-add-i Inv-loop μ-loop
 add-i c = search needs
@@ -31,7 +32,7 @@ loop-less c = omega arith
 loop-again : tie.Need-loop-again Inv-loop μ-loop
 loop-again c = let l = c .before .before .loop in
     let a = c .before .before .before .args in
-    record { low = omega arith; small = l .inv .small; is = ff-next (a .buffer .now) (l .i) (l .other) (l .inv .is) }
+    record { low = omega arith; small = l .inv .small; is = ff-next (a .page .now) (l .i) (l .other) (l .inv .is) }
 
 returns : tie.Need-returns Inv-loop μ-loop
 returns c = let e : c .before .loop .i ≡ c .before .before .args .n = omega arith in rw (sym e) (c .before .loop .inv .is)
@@ -39,4 +40,4 @@ returns c = let e : c .before .loop .i ≡ c .before .before .args .n = omega ar
 pub first-ff-spec : {M : Type 1} → statement M
 first-ff-spec =
     tie.close
-    (tie.spec Inv-loop μ-loop loop-holds element-copy-out-other add-i loop-less loop-again returns)
+    (tie.spec Inv-loop μ-loop loop-holds shared-slice-read-other add-i loop-less loop-again returns)

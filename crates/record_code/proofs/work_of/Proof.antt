@@ -1,44 +1,56 @@
--- Each test that led to a return picks the layout's work. Assumes nothing.
-use borrow.Author.Tests.{eq-eqb, ne-eqb}
+-- Each kind has the layout's work, and any other number has none. Assumes nothing.
+use borrow.Author.Tests.{ne-eqb}
+use native.Mathlib.Nat.{div-one}
+use Rattle.rules.specs.Words.{bit}
 use Rattle.record_code.specs.Layout.{workOf}
 use Rattle.record_code.proofs.work_of.Statement.{statement}
 use Rattle.record_code.proofs.work_of.Tie as tie
 
 returns : tie.Need-returns
 unfolding workOf
-returns c = simp (eq-eqb _ _ (c .if1 .taken))
+returns c = rw (c .match .keys1)
 
 returns-2 : tie.Need-returns-2
 unfolding workOf
-returns-2 c = simp (ne-eqb _ _ (c .before .if1 .left), eq-eqb _ _ (c .if2 .taken))
+returns-2 c = rw (c .match .keys2)
 
 returns-3 : tie.Need-returns-3
 unfolding workOf
-returns-3 c = simp (ne-eqb _ _ (c .before .before .if1 .left), ne-eqb _ _ (c .before .if2 .left), eq-eqb _ _ (c .if3 .taken))
+returns-3 c = rw (c .match .keys3)
 
 returns-4 : tie.Need-returns-4
 unfolding workOf
-returns-4 c = simp (ne-eqb _ _ (c .before .before .before .if1 .left), ne-eqb _ _ (c .before .before .if2 .left), ne-eqb _ _ (c .before .if3 .left), eq-eqb _ _ (c .if4 .taken))
+returns-4 c = rw (c .match .keys4)
 
 returns-5 : tie.Need-returns-5
 unfolding workOf
-returns-5 c = simp (ne-eqb _ _ (c .before .before .before .before .if1 .left), ne-eqb _ _ (c .before .before .before .if2 .left), ne-eqb _ _ (c .before .before .if3 .left), ne-eqb _ _ (c .before .if4 .left), eq-eqb _ _ (c .if5 .taken))
+returns-5 c = rw (c .match .keys5)
 
 returns-6 : tie.Need-returns-6
 unfolding workOf
-returns-6 c = simp (ne-eqb _ _ (c .before .before .before .before .before .if1 .left), ne-eqb _ _ (c .before .before .before .before .if2 .left), ne-eqb _ _ (c .before .before .before .if3 .left), ne-eqb _ _ (c .before .before .if4 .left), ne-eqb _ _ (c .before .if5 .left), eq-eqb _ _ (c .if6 .taken))
+returns-6 c = rw (c .match .keys6)
 
 returns-7 : tie.Need-returns-7
-unfolding workOf
-returns-7 c = simp (ne-eqb _ _ (c .before .before .before .before .before .before .if1 .left), ne-eqb _ _ (c .before .before .before .before .before .if2 .left), ne-eqb _ _ (c .before .before .before .before .if3 .left), ne-eqb _ _ (c .before .before .before .if4 .left), ne-eqb _ _ (c .before .before .if5 .left), ne-eqb _ _ (c .before .if6 .left), eq-eqb _ _ (c .if7 .taken))
+unfolding workOf bit
+returns-7 c = rw (c .match .keys7, div-one)
 
 returns-8 : tie.Need-returns-8
 unfolding workOf
-returns-8 c = simp (ne-eqb _ _ (c .before .before .before .before .before .before .before .if1 .left), ne-eqb _ _ (c .before .before .before .before .before .before .if2 .left), ne-eqb _ _ (c .before .before .before .before .before .if3 .left), ne-eqb _ _ (c .before .before .before .before .if4 .left), ne-eqb _ _ (c .before .before .before .if5 .left), ne-eqb _ _ (c .before .before .if6 .left), ne-eqb _ _ (c .before .if7 .left), eq-eqb _ _ (c .if8 .taken))
+returns-8 c = rw (c .match .keys8)
 
 returns-9 : tie.Need-returns-9
 unfolding workOf
-returns-9 c = simp (ne-eqb _ _ (c .before .before .before .before .before .before .before .if1 .left), ne-eqb _ _ (c .before .before .before .before .before .before .if2 .left), ne-eqb _ _ (c .before .before .before .before .before .if3 .left), ne-eqb _ _ (c .before .before .before .before .if4 .left), ne-eqb _ _ (c .before .before .before .if5 .left), ne-eqb _ _ (c .before .before .if6 .left), ne-eqb _ _ (c .before .if7 .left), ne-eqb _ _ (c .if8 .left))
+returns-9 c = let r = c .match .rest in
+    rw (
+      ne-eqb (c .before .args .kind) 1 (r .0 .0 .0 .0 .0 .0 .0 .1),
+      ne-eqb (c .before .args .kind) 2 (r .0 .0 .0 .0 .0 .0 .1),
+      ne-eqb (c .before .args .kind) 3 (r .0 .0 .0 .0 .0 .1),
+      ne-eqb (c .before .args .kind) 4 (r .0 .0 .0 .0 .1),
+      ne-eqb (c .before .args .kind) 5 (r .0 .0 .0 .1),
+      ne-eqb (c .before .args .kind) 6 (r .0 .0 .1),
+      ne-eqb (c .before .args .kind) 7 (r .0 .1),
+      ne-eqb (c .before .args .kind) 8 (r .1),
+    )
 
 pub work-of-spec : {M : Type 1} → statement M
 work-of-spec =

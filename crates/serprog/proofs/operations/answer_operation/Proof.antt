@@ -30,23 +30,22 @@ same-length-2 : tie.Need-same-length-2
 same-length-2 c = search needs
 
 same-length-3 : tie.Need-same-length-3
-same-length-3 c = let a = c .before .before .before .before .before .before .before .before .before .before .before .before .before .before .before .before .before .before .before .args in
-    same-len-mid 1 (length (set (a .answer .now) 0 6) - 1) (set (a .answer .now) 0 6) (c .before .before .before .before .before .before .before .before .operate .last .1 .1 .1 .1 .0) (c .before .before .before .before .before .before .before .before .operate .kept .1 .1 .1 .1 .0) ∙ length-set (a .answer .now) 0 6
+same-length-3 c =
+    let done = c .before .before .before .before .before .before .before .before in
+    let answer = done .before .before .before .before .before .before .before .before .before .before .before .args .answer .now in
+    same-len-mid 1 (length (set answer 0 6) - 1) (set answer 0 6) (done .operate .last .1 .1 .1 .1 .0) (done .operate .kept .1 .1 .1 .1 .0) ∙ length-set answer 0 6
 
 same-length-4 : tie.Need-same-length-4
 same-length-4 c = search needs
 
 returns : tie.Need-returns
-returns c = let a = c .before .before .before .before .before .before .before .before .before .before .before .before .before .before .before .before .before .before .before .args in
-    record {
-      outcome = answers (a .b) (a .array .now) (a .security .now) (a .sent .now) (a .answer .now) (a .marks .now) (c .before .before .before .before .before .before .before .before .operate .result)
-          (c .before .before .before .before .before .before .before .before .operate .last .1 .0) (c .before .before .before .before .before .before .before .before .operate .last .1 .1 .0) (c .before .before .before .before .before .before .before .before .operate .last .1 .1 .1 .1 .0) (c .before .before .before .before .before .before .before .before .operate .last .1 .1 .1 .1 .1 .0)
-          (c .before .before .before .before .before .before .before .before .before .before .before .before .before .if1 .taken) (c .before .before .before .before .before .before .before .before .operate .ensures);
-    }
+returns c =
+    let done = c .before .before .before .before .before .before .before .before in
+    let room = done .before .before .before .before .before in
+    answers (room .before .before .before .before .before .before .args .answer .now) (room .if1 .taken) (done .operate .ensures)
 
 returns-2 : tie.Need-returns-2
-returns-2 c = let a = c .before .before .before .before .before .before .args in
-    record { outcome = nothing-answered (a .b) (a .array .now) (a .security .now) (a .sent .now) (a .answer .now) (a .marks .now) (c .if1 .left) }
+returns-2 c = nothing-answered (c .before .before .before .before .before .before .args .answer .now) (c .if1 .left)
 
 pub answer-operation-spec : {M : Type 1} → statement M
 answer-operation-spec =

@@ -44,15 +44,18 @@ same-length-4 : tie.Need-same-length-4
 same-length-4 c = search needs
 
 returns : tie.Need-returns
-returns c = let a = c .before .before .before .before .before .before .before .before .before .before .before .before .before .before .before .before .before .before .before .before .before .before .before .before .before .before .before .before .before .before .before .before .before .before .before .before .before .args in
+returns c =
+    let shown = c .before .before .before .before .before in
+    let done = shown .before .before in
+    let framed = done .before .before .before .before .before .before .before .before .before in
+    let settled = framed .before .before .before .before .before .before .before .before .before in
+    let due = settled .before .before .before in
+    let first = due .before in
+    let start = first .before .before in
     record {
-      outcome = operates (a .b) (a .array .now) (a .security .now) (a .sent .now) (a .reply .now) (a .marks .now)
-          (c .before .before .before .before .before .before .before .before .before .before .before .before .before .before .before .before .before .before .before .before .before .before .before .before .before .before .before .before .before .before .before .opcode-of .result) (c .before .before .before .before .before .before .before .before .before .before .before .before .before .before .before .before .before .before .before .before .before .before .before .before .before .before .before .before .before .is-busy .result) (c .before .before .before .before .before .before .before .before .before .before .before .before .before .before .before .before .before .before .before .before .before .before .before .before .before .before .before .before .due .result)
-          (c .before .before .before .before .before .before .before .before .before .before .before .before .before .before .before .before .before .before .before .before .before .before .before .before .before .settled .result) (c .before .before .before .before .before .before .before .before .before .before .before .before .before .before .before .before .before .before .before .before .before .before .before .before .before .settled .last .1 .1 .0) (c .before .before .before .before .before .before .before .before .before .before .before .before .before .before .before .before .before .before .before .before .before .before .before .before .before .settled .last .1 .1 .1 .0)
-          (c .before .before .before .before .before .before .before .before .before .before .before .before .before .before .before .before .frame .result) (c .before .before .before .before .before .before .before .before .before .before .before .before .before .before .before .before .frame .last .1 .0) (c .before .before .before .before .before .before .before .before .before .before .before .before .before .before .before .before .frame .last .1 .1 .0) (c .before .before .before .before .before .before .before .before .before .before .before .before .before .before .before .before .frame .last .1 .1 .1 .1 .0) (c .before .before .before .before .before .before .before .before .before .before .before .before .before .before .before .before .frame .last .1 .1 .1 .1 .1 .0)
-          (c .before .before .before .before .before .before .before .is-done .result) (c .before .before .before .before .before .show .last .1 .1 .1 .0) (c .before .is-busy2 .result) (c .reads-after .result)
-          (c .before .before .before .before .before .before .before .before .before .before .before .before .before .before .before .before .before .before .before .before .before .before .before .before .before .before .before .before .before .before .before .opcode-of .ensures) (c .before .before .before .before .before .before .before .before .before .before .before .before .before .before .before .before .before .before .before .before .before .before .before .before .before .before .before .before .before .is-busy .ensures) (c .before .before .before .before .before .before .before .before .before .before .before .before .before .before .before .before .before .before .before .before .before .before .before .before .before .before .before .before .due .ensures) (c .before .before .before .before .before .before .before .before .before .before .before .before .before .before .before .before .before .before .before .before .before .before .before .before .before .settled .ensures) (c .before .before .before .before .before .before .before .before .before .before .before .before .before .before .before .before .frame .ensures) (c .before .before .before .before .before .before .before .is-done .ensures)
-          (c .before .before .before .before .before .show .ensures) (c .before .is-busy2 .ensures) (c .reads-after .ensures);
+      outcome = operates (start .before .before .before .before .before .before .args .b) (shown .show .last .1 .1 .1 .0)
+          (start .opcode-of .ensures) (first .is-busy .ensures) (due .due .ensures) (settled .settled .ensures) (framed .frame .ensures)
+          (done .is-done .ensures) (shown .show .ensures) (c .before .is-busy2 .ensures) (c .reads-after .ensures);
     }
 
 pub operate-spec : {M : Type 1} → statement M

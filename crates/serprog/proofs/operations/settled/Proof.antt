@@ -14,12 +14,10 @@ same-length-2 : tie.Need-same-length-2
 same-length-2 c = search needs
 
 returns : tie.Need-returns
-returns c = let a = c .before .before .before .before .before .before .before .before .before .before .before .args in
-    record { outcome = settles (a .c) (a .array .now) (a .security .now) (a .ends) (c .before .before .before .before .before .completion .result) _ _ (c .before .before .before .before .before .before .before .before .if1 .taken) (c .before .before .before .before .before .completion .ensures) }
+returns c = settles (c .before .before .before .before .before .before .before .before .if1 .taken) (c .before .before .before .before .before .completion .ensures)
 
 returns-2 : tie.Need-returns-2
-returns-2 c = let a = c .before .before .before .args in
-    record { outcome = stays (a .c) (a .array .now) (a .security .now) (a .ends) (c .if1 .left) }
+returns-2 c = stays (c .if1 .left)
 
 pub settled-spec : {M : Type 1} → statement M
 settled-spec = tie.close (tie.spec completion-requires same-length same-length-2 returns returns-2)

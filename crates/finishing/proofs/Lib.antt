@@ -1,3 +1,0 @@
--- Laws that the proofs cite.
-pub mod Finishes
-pub mod Unique

@@ -1,0 +1,302 @@
+/* Fulkibono: the SST26WF016B flash chip for firmware benches.
+ *
+ * Build the library with `rt staticlib bench`, and link target/staticlib/libbench.a, behind the objects that call it. It is code for
+ * x86-64, and needs at most memcpy, memmove and memset of the C library. No other header belongs to it.
+ *
+ * The caller lends all memory: the library has no heap and no data of its own, keeps no pointer after a call, and two chips can be
+ * used by two threads at once. No two lent parts of one call may overlap.
+ *
+ * Each function is proved to do exactly what crates/bench/specs/Boundary.antt says, for every input of every length: there is no
+ * undefined case on the library's side. The caller's side is C's usual one: a pointer must point to as many bytes as its length says.
+ *
+ *     static uint8_t array[FULKIBONO_ARRAY], security[FULKIBONO_SECURITY];
+ *     fulkibono_record chip;
+ *     uint8_t status, mark;
+ *     const uint8_t read_status[] = { 0x05 };
+ *
+ *     memset(array, 0xFF, sizeof array);
+ *     memset(security, 0xFF, sizeof security);
+ *     fulkibono_make(&chip);
+ *     if (fulkibono_send(&chip, array, security, read_status, 1, &status, &mark, 1) == FULKIBONO_DONE)
+ *         ... status is 0x00 and mark is 1 ...
+ */
+#ifndef FULKIBONO_H
+#define FULKIBONO_H
+
+#include <stddef.h>
+#include <stdint.h>
+
+#ifdef __cplusplus
+extern "C" {
+#endif
+
+/* Rises with what this header declares. 1 had records of 297 bytes. */
+#define FULKIBONO_VERSION 2
+
+/* ---- sizes, in bytes */
+
+#define FULKIBONO_RECORD_SIZE 320    /* a chip record */
+#define FULKIBONO_ARRAY 2097152      /* the array: 512 sectors of 4,096, 8,192 pages of 256 */
+#define FULKIBONO_SECURITY 2048      /* the Security ID: 8 pages of 256 */
+#define FULKIBONO_FRAME_MOST 65536   /* the longest frame, and the longest reply */
+#define FULKIBONO_MEANING_MOST 64    /* room for every text of fulkibono_meaning */
+
+/* ---- the numbers that each call gives back; if several apply, the lowest is given */
+
+enum fulkibono_number {
+    FULKIBONO_DONE = 0,          /* done */
+    FULKIBONO_MALFORMED = 1,     /* record not well-formed, or a length outside the sizes */
+    FULKIBONO_EMPTY = 2,         /* frame empty */
+    FULKIBONO_NOT_LISTED = 3,    /* opcode not listed, or not in this protocol */
+    FULKIBONO_WRONG_LENGTH = 4,  /* length not as listed */
+    FULKIBONO_BUSY = 5,          /* BUSY, and opcode not 05, 66, 99, B0 */
+    FULKIBONO_NO_ENABLE = 6,     /* 99 with no enable */
+    FULKIBONO_NO_IOC = 7,        /* 6B or 32 with IOC 0 */
+    FULKIBONO_SUSPENSION = 8,    /* the suspension rule */
+    FULKIBONO_NO_WEL = 9,        /* WEL needed and 0 */
+    FULKIBONO_CLOSED = 10,       /* 42 or 98 with WPLD 1; A5 or 85 with SEC 1; A5 that sends a byte to places 0 to 7 */
+    FULKIBONO_WRITE_LOCKED = 11, /* 20, D8, 02, 32 in a write-locked block; C7 with a write lock set */
+    FULKIBONO_NOTHING_RUNS = 12  /* completion with nothing running */
+};
+
+/* What each refusal leaves:
+ *     1, 12      nothing at all changes
+ *     2          the reply is filled with FF and the marks with 0; nothing else changes
+ *     3 to 11    the same, and the reset enable is used up: the record's FULKIBONO_FLAG_RESET_ENABLE is 0
+ * A byte that does not change may still be stored again, with the value it has. So all lent memory but `sent` must be writable, and no
+ * other thread may look at it during a call, also where the call is refused.
+ */
+
+/* ---- the places of a chip record; numbers stand low byte first */
+
+#define FULKIBONO_PLACE_PAGE 0               /* the page buffer, 256 bytes */
+#define FULKIBONO_PLACE_PROTECTION 256       /* the protection register, 8 bytes */
+#define FULKIBONO_PLACE_PERMANENT 264        /* the permanent register, 8 bytes */
+#define FULKIBONO_PLACE_RUNNING_NUMBER 272   /* the number of what runs, 8 bytes */
+#define FULKIBONO_PLACE_SUSPENDED_NUMBER 280 /* the number of what is suspended, 8 bytes */
+#define FULKIBONO_PLACE_RUNNING_KIND 288     /* the kind of what runs, 1 byte */
+#define FULKIBONO_PLACE_SUSPENDED_KIND 289   /* the kind of what is suspended, 1 byte */
+#define FULKIBONO_PLACE_FLAGS 290            /* the flags, 1 byte: the bits below, bit 7 is 0 */
+#define FULKIBONO_PLACE_RESERVED 291         /* 0, to the end */
+
+#define FULKIBONO_FLAG_SQI 1                 /* the protocol is SQI */
+#define FULKIBONO_FLAG_WEL 2                 /* write enable */
+#define FULKIBONO_FLAG_IOC 4                 /* I/O configuration */
+#define FULKIBONO_FLAG_WPEN 8                /* write-protect pin enable */
+#define FULKIBONO_FLAG_WPLD 16               /* protection lock-down */
+#define FULKIBONO_FLAG_SEC 32                /* Security ID locked */
+#define FULKIBONO_FLAG_RESET_ENABLE 64       /* a 99 is taken next */
+
+/* What runs or is suspended, and its number. */
+#define FULKIBONO_KIND_NOTHING 0             /* number 0 */
+#define FULKIBONO_KIND_SECTOR_ERASE 1        /* the sector, 0 to 511 */
+#define FULKIBONO_KIND_BLOCK_ERASE 2         /* the protection block, 0 to 39: fulkibono_block */
+#define FULKIBONO_KIND_ARRAY_ERASE 3         /* number 0 */
+#define FULKIBONO_KIND_PAGE_PROGRAM 4        /* the page, 0 to 8,191 */
+#define FULKIBONO_KIND_SECURITY_PROGRAM 5    /* the page of the Security ID, 0 to 7 */
+#define FULKIBONO_KIND_SECURITY_LOCK 6       /* number 0 */
+#define FULKIBONO_KIND_CONFIGURATION 7       /* IOC + 2 * WPEN, as they will be */
+#define FULKIBONO_KIND_PERMANENT_BITS 8      /* the 48 bits that E8 sent */
+
+/* A record may be copied, stored and compared byte by byte: a chip has one code. A record stored by this version is the same chip for
+ * every later one: what is new then comes into the reserved bytes, where 0 means what every chip is today.
+ *
+ * Bytes that are no record's code get refusal 1: another length, a kind above 8, a number other than 0 with kinds 0, 3 and 6 or above 3
+ * with kind 7, flags with bit 7, a reserved byte other than 0. So do codes of records that are not well-formed.
+ *
+ * Protection blocks are numbered in the order of document 01's table, from 0:
+ *     number      first place               size     write lock               read lock
+ *     0 to 3      1FE000 down to 1F8000      8 KB    bits 46, 44, 42, 40      the bit above
+ *     4 to 7      006000 down to 000000      8 KB    bits 38, 36, 34, 32      the bit above
+ *     8           1F0000                    32 KB    bit 31                   none
+ *     9           008000                    32 KB    bit 30                   none
+ *     10 to 39    1E0000 down to 010000     64 KB    bits 29 down to 0        none
+ * So 1FE000 is block 0, and 010000 is block 39.
+ */
+
+/* ---- the functions of the library
+ *
+ * A part of length 0 may have any pointer here, NULL too: the library's code is compiled without an assumption on it.
+ */
+
+/* A new chip's record. Gives 0; or 1 where record_len is not FULKIBONO_RECORD_SIZE. */
+uint8_t fulkibono_new(uint8_t *record, size_t record_len);
+
+/* A frame: the bytes sent while CE# is low. The reply is written to `reply`, and to `marks` a 1 for each byte that is known and a 0
+ * for each that is not; both have the same length. A frame without a reply fills the reply with FF and the marks with 0.
+ * Gives 0 to 11. No frame changes the array or the Security ID. */
+uint8_t fulkibono_frame(uint8_t *record, size_t record_len, uint8_t *array, size_t array_len, uint8_t *security, size_t security_len,
+                        const uint8_t *sent, size_t sent_len, uint8_t *reply, size_t reply_len, uint8_t *marks, size_t marks_len);
+
+/* The running operation ends. Gives 0, 1 or 12; 12 also where work is suspended and none runs. */
+uint8_t fulkibono_completion(uint8_t *record, size_t record_len, uint8_t *array, size_t array_len, uint8_t *security, size_t security_len);
+
+/* A power cut after k bytes of the running operation, and power-up. Gives 0 or 1.
+ * The first k bytes of the operation's range are finished, in rising order, the others unchanged; all are if k is larger. The range of
+ * 02, 32 and A5 is the whole page. 85, 01 and E8 have no range: with k of 0 they are lost, with 1 or more they act fully, before the
+ * power-up (which sets IOC to 0 and the protection register to 5555FFFFFFFF: of 01 only WPEN is left, of E8 the permanent register).
+ * With nothing running k says nothing; suspended work is dropped, its target unchanged, and the chip powers up: 0. */
+uint8_t fulkibono_power_cut(uint8_t *record, size_t record_len, uint8_t *array, size_t array_len, uint8_t *security, size_t security_len,
+                            uint64_t k);
+
+/* What a number means, in ASCII, with no zero at the end: as many bytes as fit are written, and the text's whole length is given back.
+ * A number above 12 has no text: 0, and nothing is written. */
+size_t fulkibono_meaning(uint8_t number, uint8_t *text, size_t text_len);
+
+/* ---- the same with the sizes filled in
+ *
+ * These pass a pointer to a byte of their own where a length is 0, so NULL with length 0 is always right. */
+
+#if defined(__GNUC__)
+#define FULKIBONO_INLINE static inline __attribute__((unused))
+#else
+#define FULKIBONO_INLINE static inline
+#endif
+
+typedef struct fulkibono_record {
+    uint8_t bytes[FULKIBONO_RECORD_SIZE];
+} fulkibono_record;
+
+FULKIBONO_INLINE void fulkibono_make(fulkibono_record *chip)
+{
+    (void)fulkibono_new(chip->bytes, FULKIBONO_RECORD_SIZE);
+}
+
+/* `array` has FULKIBONO_ARRAY bytes and `security` FULKIBONO_SECURITY; `reply` and `marks` have reply_len each. */
+FULKIBONO_INLINE uint8_t fulkibono_send(fulkibono_record *chip, uint8_t *array, uint8_t *security, const uint8_t *sent, size_t sent_len,
+                                        uint8_t *reply, uint8_t *marks, size_t reply_len)
+{
+    uint8_t none[3] = { 0, 0, 0 };
+    return fulkibono_frame(chip->bytes, FULKIBONO_RECORD_SIZE, array, FULKIBONO_ARRAY, security, FULKIBONO_SECURITY,
+                           sent_len ? sent : none, sent_len, reply_len ? reply : none + 1, reply_len, reply_len ? marks : none + 2, reply_len);
+}
+
+FULKIBONO_INLINE uint8_t fulkibono_complete(fulkibono_record *chip, uint8_t *array, uint8_t *security)
+{
+    return fulkibono_completion(chip->bytes, FULKIBONO_RECORD_SIZE, array, FULKIBONO_ARRAY, security, FULKIBONO_SECURITY);
+}
+
+FULKIBONO_INLINE uint8_t fulkibono_cut(fulkibono_record *chip, uint8_t *array, uint8_t *security, uint64_t k)
+{
+    return fulkibono_power_cut(chip->bytes, FULKIBONO_RECORD_SIZE, array, FULKIBONO_ARRAY, security, FULKIBONO_SECURITY, k);
+}
+
+/* The text with a zero behind it, in room for FULKIBONO_MEANING_MOST + 1 bytes. */
+FULKIBONO_INLINE const char *fulkibono_text(uint8_t number, char *room)
+{
+    size_t n = fulkibono_meaning(number, (uint8_t *)room, FULKIBONO_MEANING_MOST);
+    room[n < FULKIBONO_MEANING_MOST ? n : FULKIBONO_MEANING_MOST] = 0;
+    return room;
+}
+
+/* ---- what a record holds
+ *
+ * These read the bytes as they stand, and ask nothing of them: only an event says whether they are a well-formed record's. */
+
+typedef struct fulkibono_work {
+    uint8_t kind; /* FULKIBONO_KIND_.. */
+    uint64_t number;
+} fulkibono_work;
+
+/* Places from `start` on; none where `size` is 0. */
+typedef struct fulkibono_range {
+    uint32_t start;
+    uint32_t size;
+} fulkibono_range;
+
+FULKIBONO_INLINE uint64_t fulkibono_number_at(const fulkibono_record *chip, size_t place)
+{
+    uint64_t x = 0;
+    size_t i;
+    for (i = 8; i > 0; i--)
+        x = x << 8 | chip->bytes[place + i - 1];
+    return x;
+}
+
+/* BUSY is that the kind of what runs is not FULKIBONO_KIND_NOTHING. */
+FULKIBONO_INLINE fulkibono_work fulkibono_running(const fulkibono_record *chip)
+{
+    fulkibono_work w;
+    w.kind = chip->bytes[FULKIBONO_PLACE_RUNNING_KIND];
+    w.number = fulkibono_number_at(chip, FULKIBONO_PLACE_RUNNING_NUMBER);
+    return w;
+}
+
+FULKIBONO_INLINE fulkibono_work fulkibono_suspended(const fulkibono_record *chip)
+{
+    fulkibono_work w;
+    w.kind = chip->bytes[FULKIBONO_PLACE_SUSPENDED_KIND];
+    w.number = fulkibono_number_at(chip, FULKIBONO_PLACE_SUSPENDED_NUMBER);
+    return w;
+}
+
+FULKIBONO_INLINE uint64_t fulkibono_protection(const fulkibono_record *chip)
+{
+    return fulkibono_number_at(chip, FULKIBONO_PLACE_PROTECTION);
+}
+
+FULKIBONO_INLINE uint64_t fulkibono_permanent(const fulkibono_record *chip)
+{
+    return fulkibono_number_at(chip, FULKIBONO_PLACE_PERMANENT);
+}
+
+/* One of FULKIBONO_FLAG_..: 1 or 0. */
+FULKIBONO_INLINE int fulkibono_flag(const fulkibono_record *chip, uint8_t flag)
+{
+    return (chip->bytes[FULKIBONO_PLACE_FLAGS] & flag) != 0;
+}
+
+/* The places of part i, of n that have one size. */
+FULKIBONO_INLINE fulkibono_range fulkibono_part(uint64_t i, uint64_t n, uint32_t size)
+{
+    fulkibono_range r = { 0, 0 };
+    if (i < n) {
+        r.start = (uint32_t)i * size;
+        r.size = size;
+    }
+    return r;
+}
+
+/* The places of a protection block; none for a number above 39. */
+FULKIBONO_INLINE fulkibono_range fulkibono_block(uint64_t n)
+{
+    fulkibono_range r = { 0, 0 };
+    if (n < 4)
+        r = fulkibono_part(255 - n, 256, 0x2000);
+    else if (n < 8)
+        r = fulkibono_part(7 - n, 256, 0x2000);
+    else if (n == 8)
+        r = fulkibono_part(62, 64, 0x8000);
+    else if (n == 9)
+        r = fulkibono_part(1, 64, 0x8000);
+    else if (n < 40)
+        r = fulkibono_part(40 - n, 32, 0x10000);
+    return r;
+}
+
+/* The range in the array of what runs or is suspended. */
+FULKIBONO_INLINE fulkibono_range fulkibono_array_range(fulkibono_work w)
+{
+    switch (w.kind) {
+    case FULKIBONO_KIND_SECTOR_ERASE: return fulkibono_part(w.number, 512, 4096);
+    case FULKIBONO_KIND_BLOCK_ERASE: return fulkibono_block(w.number);
+    case FULKIBONO_KIND_ARRAY_ERASE: return fulkibono_part(0, 1, FULKIBONO_ARRAY);
+    case FULKIBONO_KIND_PAGE_PROGRAM: return fulkibono_part(w.number, 8192, 256);
+    default: return fulkibono_part(0, 0, 0);
+    }
+}
+
+/* The same in the Security ID. */
+FULKIBONO_INLINE fulkibono_range fulkibono_security_range(fulkibono_work w)
+{
+    switch (w.kind) {
+    case FULKIBONO_KIND_SECURITY_PROGRAM: return fulkibono_part(w.number, 8, 256);
+    default: return fulkibono_part(0, 0, 0);
+    }
+}
+
+#ifdef __cplusplus
+}
+#endif
+
+#endif

@@ -1,0 +1,2 @@
+-- The numbers of the record's layout that C and Rust have names for.
+pub mod Numbers

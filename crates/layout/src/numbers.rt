@@ -1,0 +1,116 @@
+// The record's numbers and the names that C and Rust have for them.
+use rows::Row;
+ghost use mathlib.Core.Path.{_≡_};
+ghost use lib.ListN.{getD};
+ghost use Rattle.layout.specs.Numbers.{numbers};
+
+const PLACES: usize = 9;
+
+const KINDS: usize = 9;
+
+const FLAGS: usize = 7;
+
+pub const COUNT: usize = 26;
+
+const NUMBERS: [usize; COUNT] = [
+    320,
+    0,
+    256,
+    264,
+    272,
+    280,
+    288,
+    289,
+    290,
+    291,
+    0,
+    1,
+    2,
+    3,
+    4,
+    5,
+    6,
+    7,
+    8,
+    1,
+    2,
+    4,
+    8,
+    16,
+    32,
+    64,
+];
+
+// Those of the layout, in the order of specs/Numbers.antt.
+pub fn number(i: usize) -> usize
+    ensures { λ r. ⌜ r ≡ getD numbers i 0 ⌝ }
+{
+    if i < COUNT {
+        return NUMBERS[i];
+    }
+    0
+}
+
+// There is no other name of a place, a kind or a flag.
+pub fn all(places: usize, kinds: usize, flags: usize) -> bool {
+    (places == PLACES) & (kinds == KINDS) & (flags == FLAGS)
+}
+
+fn place_named(r: Row, i: usize) -> Row {
+    match i {
+        0 => rows::text(r, b"RECORD_SIZE"),
+        1 => rows::text(r, b"PLACE_PAGE"),
+        2 => rows::text(r, b"PLACE_PROTECTION"),
+        3 => rows::text(r, b"PLACE_PERMANENT"),
+        4 => rows::text(r, b"PLACE_RUNNING_NUMBER"),
+        5 => rows::text(r, b"PLACE_SUSPENDED_NUMBER"),
+        6 => rows::text(r, b"PLACE_RUNNING_KIND"),
+        7 => rows::text(r, b"PLACE_SUSPENDED_KIND"),
+        8 => rows::text(r, b"PLACE_FLAGS"),
+        _ => rows::text(r, b"PLACE_RESERVED"),
+    }
+}
+
+fn kind_named(r: Row, i: usize) -> Row {
+    match i {
+        10 => rows::text(r, b"KIND_NOTHING"),
+        11 => rows::text(r, b"KIND_SECTOR_ERASE"),
+        12 => rows::text(r, b"KIND_BLOCK_ERASE"),
+        13 => rows::text(r, b"KIND_ARRAY_ERASE"),
+        14 => rows::text(r, b"KIND_PAGE_PROGRAM"),
+        15 => rows::text(r, b"KIND_SECURITY_PROGRAM"),
+        16 => rows::text(r, b"KIND_SECURITY_LOCK"),
+        17 => rows::text(r, b"KIND_CONFIGURATION"),
+        _ => rows::text(r, b"KIND_PERMANENT_BITS"),
+    }
+}
+
+fn flag_named(r: Row, i: usize) -> Row {
+    match i {
+        19 => rows::text(r, b"FLAG_SQI"),
+        20 => rows::text(r, b"FLAG_WEL"),
+        21 => rows::text(r, b"FLAG_IOC"),
+        22 => rows::text(r, b"FLAG_WPEN"),
+        23 => rows::text(r, b"FLAG_WPLD"),
+        24 => rows::text(r, b"FLAG_SEC"),
+        _ => rows::text(r, b"FLAG_RESET_ENABLE"),
+    }
+}
+
+pub fn named(r: Row, i: usize) -> Row {
+    if i < 10 {
+        return place_named(r, i);
+    }
+    if i < 19 {
+        return kind_named(r, i);
+    }
+    flag_named(r, i)
+}
+
+// In Rust a place is a usize, a kind or a flag one byte.
+pub fn typed(r: Row, i: usize) -> Row {
+    if i < 10 {
+        return rows::text(r, b": usize = ");
+    }
+    rows::text(r, b": u8 = ")
+}

@@ -1,0 +1,1 @@
+../../../crates/layout/data/record.rs

@@ -1,0 +1,341 @@
+/* What the header says of a record, tried on the library: places, flags, kinds and their numbers, ranges, the order of the blocks, what
+ * a refusal leaves, what a power cut's k means, which bytes are no record's code. */
+#include "fulkibono.h"
+#include <stdio.h>
+#include <stdlib.h>
+#include <string.h>
+
+static uint8_t array[FULKIBONO_ARRAY], security[FULKIBONO_SECURITY];
+static fulkibono_record chip;
+static int tried;
+
+static void must(int right, const char *what)
+{
+    tried++;
+    if (!right) {
+        fprintf(stderr, "record: %s\n", what);
+        exit(1);
+    }
+}
+
+/* a new chip, all memory FF */
+static void begin(void)
+{
+    memset(array, 0xFF, sizeof array);
+    memset(security, 0xFF, sizeof security);
+    fulkibono_make(&chip);
+}
+
+/* a frame of n bytes: opcode, then the bytes of x, highest first */
+static uint8_t frame(uint8_t opcode, uint64_t x, size_t n)
+{
+    uint8_t sent[8];
+    size_t i;
+    sent[0] = opcode;
+    for (i = 1; i < n; i++)
+        sent[i] = (uint8_t)(x >> 8 * (n - 1 - i));
+    return fulkibono_send(&chip, array, security, sent, n, NULL, NULL, 0);
+}
+
+/* the same with WEL, done */
+static void written(uint8_t opcode, uint64_t x, size_t n)
+{
+    must(frame(0x06, 0, 1) == 0 && fulkibono_flag(&chip, FULKIBONO_FLAG_WEL), "06");
+    must(frame(opcode, x, n) == 0, "a frame is refused");
+}
+
+static void opened(void)
+{
+    begin();
+    written(0x98, 0, 1);
+    must(fulkibono_protection(&chip) == 0 && !fulkibono_flag(&chip, FULKIBONO_FLAG_WEL), "98");
+}
+
+static int is(fulkibono_work w, uint8_t kind, uint64_t number) { return w.kind == kind && w.number == number; }
+
+static int places(fulkibono_range r, uint32_t start, uint32_t size) { return r.start == start && r.size == size; }
+
+static void runs(uint8_t kind, uint64_t number)
+{
+    must(is(fulkibono_running(&chip), kind, number), "what runs");
+    must(is(fulkibono_suspended(&chip), FULKIBONO_KIND_NOTHING, 0), "nothing is suspended");
+}
+
+static void ends(void)
+{
+    must(fulkibono_complete(&chip, array, security) == 0, "the completion");
+    runs(FULKIBONO_KIND_NOTHING, 0);
+}
+
+/* exactly the places of the range have the value */
+static int alone(fulkibono_range r, uint8_t value)
+{
+    uint32_t i;
+    for (i = 0; i < FULKIBONO_ARRAY; i++)
+        if ((array[i] == value) != (i >= r.start && i - r.start < r.size))
+            return 0;
+    return 1;
+}
+
+static void new_chip(void)
+{
+    size_t i;
+    begin();
+    runs(FULKIBONO_KIND_NOTHING, 0);
+    must(fulkibono_protection(&chip) == 0x5555FFFFFFFF && fulkibono_permanent(&chip) == 0, "the registers of a new chip");
+    must(chip.bytes[FULKIBONO_PLACE_FLAGS] == 0, "the flags of a new chip");
+    for (i = 0; i < FULKIBONO_RECORD_SIZE; i++)
+        if (i < FULKIBONO_PLACE_PROTECTION || i >= FULKIBONO_PLACE_RESERVED)
+            must(chip.bytes[i] == (i < FULKIBONO_PLACE_PROTECTION ? 0xFF : 0), "the buffer, and the reserved bytes");
+}
+
+/* ---- ranges */
+
+static void blocks(void)
+{
+    uint32_t all = 0;
+    unsigned n;
+    opened();
+    memset(array, 0, sizeof array);
+    for (n = 0; n < 40; n++) {
+        fulkibono_range r = fulkibono_block(n);
+        written(0xD8, r.start + r.size - 1, 4);
+        runs(FULKIBONO_KIND_BLOCK_ERASE, n);
+        ends();
+        memset(array + r.start, 0, r.size);
+        written(0xD8, r.start, 4);
+        runs(FULKIBONO_KIND_BLOCK_ERASE, n);
+        r = fulkibono_array_range(fulkibono_running(&chip));
+        must(fulkibono_security_range(fulkibono_running(&chip)).size == 0, "a block is not in the Security ID");
+        ends();
+        must(alone(r, 0xFF), "the places of a block");
+        memset(array + r.start, 0, r.size);
+        all += r.size;
+    }
+    must(all == FULKIBONO_ARRAY && fulkibono_block(40).size == 0, "forty blocks cover the array");
+    must(fulkibono_block(0).start == 0x1FE000 && fulkibono_block(39).start == 0x010000, "the first block and the last");
+}
+
+static void sector(void)
+{
+    const uint8_t read[] = { 0x03, 0x12, 0x2F, 0xFF };
+    uint8_t reply[0x1002], marks[0x1002];
+    fulkibono_range r;
+    opened();
+    written(0x20, 0x123456, 4);
+    runs(FULKIBONO_KIND_SECTOR_ERASE, 0x123);
+    must(frame(0xB0, 0, 1) == 0, "B0");
+    must(is(fulkibono_running(&chip), FULKIBONO_KIND_NOTHING, 0), "nothing runs");
+    must(is(fulkibono_suspended(&chip), FULKIBONO_KIND_SECTOR_ERASE, 0x123), "what is suspended");
+    r = fulkibono_array_range(fulkibono_suspended(&chip));
+    must(places(r, 0x123000, 0x1000), "the suspended range");
+    must(fulkibono_send(&chip, array, security, read, sizeof read, reply, marks, sizeof reply) == 0, "03");
+    must(marks[0] && !marks[1] && !marks[0x1000] && marks[0x1001], "the suspended range as it is read");
+    must(fulkibono_complete(&chip, array, security) == FULKIBONO_NOTHING_RUNS, "a completion beside suspended work");
+    must(frame(0x30, 0, 1) == 0, "30");
+    runs(FULKIBONO_KIND_SECTOR_ERASE, 0x123);
+    ends();
+}
+
+static void programs(void)
+{
+    opened();
+    written(0x02, 0x0001FE112233, 7);
+    runs(FULKIBONO_KIND_PAGE_PROGRAM, 1);
+    must(places(fulkibono_array_range(fulkibono_running(&chip)), 0x100, 0x100), "the page");
+    must(chip.bytes[FULKIBONO_PLACE_PAGE + 0xFE] == 0x11 && chip.bytes[FULKIBONO_PLACE_PAGE + 0xFF] == 0x22
+         && chip.bytes[FULKIBONO_PLACE_PAGE] == 0x33 && chip.bytes[FULKIBONO_PLACE_PAGE + 1] == 0xFF, "the page buffer");
+    ends();
+    written(0x02, 0x1FFF0055, 5);
+    runs(FULKIBONO_KIND_PAGE_PROGRAM, 0x1FFF);
+    ends();
+    written(0xA5, 0x0710AA, 4);
+    runs(FULKIBONO_KIND_SECURITY_PROGRAM, 7);
+    must(places(fulkibono_security_range(fulkibono_running(&chip)), 0x700, 0x100), "the page of the Security ID");
+    must(fulkibono_array_range(fulkibono_running(&chip)).size == 0, "the Security ID is not in the array");
+    ends();
+    must(security[0x710] == 0xAA, "the Security ID");
+    written(0xC7, 0, 1);
+    runs(FULKIBONO_KIND_ARRAY_ERASE, 0);
+    must(places(fulkibono_array_range(fulkibono_running(&chip)), 0, FULKIBONO_ARRAY), "the array");
+    ends();
+}
+
+/* ---- registers and flags; 85, 01, E8 and their cuts */
+
+static void flags(void)
+{
+    static const uint8_t on[] = { 0x38, 0x06, 0x66 };
+    static const uint8_t flag[] = { FULKIBONO_FLAG_SQI, FULKIBONO_FLAG_WEL, FULKIBONO_FLAG_RESET_ENABLE };
+    unsigned i;
+    for (i = 0; i < sizeof on; i++) {
+        begin();
+        must(frame(on[i], 0, 1) == 0 && fulkibono_flag(&chip, flag[i]) && chip.bytes[FULKIBONO_PLACE_FLAGS] == flag[i], "a flag");
+    }
+    begin();
+    written(0x8D, 0, 1);
+    must(chip.bytes[FULKIBONO_PLACE_FLAGS] == FULKIBONO_FLAG_WPLD, "WPLD");
+    begin();
+    written(0x42, 0x123456789ABC, 7);
+    must(fulkibono_protection(&chip) == 0x123456789ABC && fulkibono_permanent(&chip) == 0, "42");
+}
+
+/* ends by completion, or by a cut at k */
+static void ended(uint64_t k, int by_cut)
+{
+    if (!by_cut)
+        ends();
+    else
+        must(fulkibono_cut(&chip, array, security, k) == 0, "a cut");
+    runs(FULKIBONO_KIND_NOTHING, 0);
+}
+
+static void no_range(void)
+{
+    unsigned way;
+    for (way = 0; way < 4; way++) { /* completion; cuts at 0, 1 and far */
+        static const uint64_t ks[] = { 0, 0, 1, UINT64_MAX };
+        int cut = way > 0, acts = way != 1;
+        begin();
+        written(0x85, 0, 1);
+        runs(FULKIBONO_KIND_SECURITY_LOCK, 0);
+        ended(ks[way], cut);
+        must(fulkibono_flag(&chip, FULKIBONO_FLAG_SEC) == acts, "85");
+        begin();
+        written(0x01, 0x0082, 3);
+        runs(FULKIBONO_KIND_CONFIGURATION, 3);
+        ended(ks[way], cut);
+        must(fulkibono_flag(&chip, FULKIBONO_FLAG_WPEN) == acts && fulkibono_flag(&chip, FULKIBONO_FLAG_IOC) == !cut, "01");
+        begin();
+        written(0xE8, 0xC00000000001, 7);
+        runs(FULKIBONO_KIND_PERMANENT_BITS, 0xC00000000001);
+        ended(ks[way], cut);
+        must(fulkibono_permanent(&chip) == (acts ? 0x400000000001 : 0), "E8");
+        must(fulkibono_protection(&chip) == 0x5555FFFFFFFF, "E8 on a new chip's register");
+    }
+    begin();
+    written(0x01, 0xFF02, 3);
+    runs(FULKIBONO_KIND_CONFIGURATION, 1);
+    begin();
+    written(0x01, 0x0080, 3);
+    runs(FULKIBONO_KIND_CONFIGURATION, 2);
+}
+
+static void idle_cut(void)
+{
+    fulkibono_record fresh;
+    uint64_t k;
+    begin();
+    fresh = chip;
+    for (k = 0; k < 3; k++) {
+        must(frame(0x06, 0, 1) == 0 && fulkibono_cut(&chip, array, security, k) == 0, "a cut of an idle chip");
+        must(memcmp(&chip, &fresh, sizeof chip) == 0, "power-up");
+    }
+    opened();
+    written(0x20, 0, 4);
+    must(frame(0xB0, 0, 1) == 0 && fulkibono_cut(&chip, array, security, 9) == 0, "a cut beside suspended work");
+    must(memcmp(&chip, &fresh, sizeof chip) == 0, "suspended work is dropped");
+    opened();
+    memset(array, 0, sizeof array);
+    written(0x20, 0x3000, 4);
+    must(fulkibono_cut(&chip, array, security, 10) == 0, "a cut");
+    {
+        fulkibono_range first = { 0x3000, 10 };
+        must(alone(first, 0xFF), "the first bytes of the range");
+    }
+}
+
+/* ---- refusals, and bytes that are no code */
+
+static void refusals(void)
+{
+    static const uint8_t opcodes[] = { 0x77, 0x06, 0x6B, 0x30, 0x20 }; /* 3, 4, 7, 8, 9 */
+    static const uint8_t numbers[] = { 3, 4, 7, 8, 9 };
+    static const size_t lengths[] = { 1, 2, 5, 1, 4 };
+    fulkibono_record before;
+    uint8_t reply[2], marks[2];
+    unsigned i;
+    for (i = 0; i < sizeof opcodes; i++) {
+        begin();
+        must(frame(0x66, 0, 1) == 0, "66");
+        before = chip;
+        must(frame(opcodes[i], 0, lengths[i]) == numbers[i], "a refusal's number");
+        must(!fulkibono_flag(&chip, FULKIBONO_FLAG_RESET_ENABLE), "the enable is used up");
+        chip.bytes[FULKIBONO_PLACE_FLAGS] |= FULKIBONO_FLAG_RESET_ENABLE;
+        must(memcmp(&chip, &before, sizeof chip) == 0, "nothing else changes");
+    }
+    begin();
+    must(frame(0x66, 0, 1) == 0, "66");
+    before = chip;
+    memset(reply, 0x12, sizeof reply);
+    memset(marks, 0x12, sizeof marks);
+    must(fulkibono_send(&chip, array, security, NULL, 0, reply, marks, 2) == FULKIBONO_EMPTY, "an empty frame");
+    must(memcmp(&chip, &before, sizeof chip) == 0 && reply[0] == 0xFF && reply[1] == 0xFF && !marks[0] && !marks[1], "what 2 leaves");
+}
+
+static void refused(const char *what)
+{
+    fulkibono_record before = chip;
+    uint8_t reply = 0x12, mark = 0x34;
+    const uint8_t status = 0x05;
+    must(fulkibono_send(&chip, array, security, &status, 1, &reply, &mark, 1) == FULKIBONO_MALFORMED, what);
+    must(fulkibono_complete(&chip, array, security) == FULKIBONO_MALFORMED, what);
+    must(fulkibono_cut(&chip, array, security, 1) == FULKIBONO_MALFORMED, what);
+    must(memcmp(&chip, &before, sizeof chip) == 0 && reply == 0x12 && mark == 0x34, "what 1 leaves");
+}
+
+/* an open chip with what is said running */
+static void made(uint8_t kind, uint64_t number)
+{
+    int i;
+    opened();
+    chip.bytes[FULKIBONO_PLACE_RUNNING_KIND] = kind;
+    for (i = 0; i < 8; i++)
+        chip.bytes[FULKIBONO_PLACE_RUNNING_NUMBER + i] = (uint8_t)(number >> 8 * i);
+}
+
+static void no_code(void)
+{
+    static const struct { uint8_t kind; uint64_t most; } last[] = {
+        { FULKIBONO_KIND_NOTHING, 0 },      { FULKIBONO_KIND_SECTOR_ERASE, 511 },   { FULKIBONO_KIND_BLOCK_ERASE, 39 },
+        { FULKIBONO_KIND_ARRAY_ERASE, 0 },  { FULKIBONO_KIND_PAGE_PROGRAM, 8191 },  { FULKIBONO_KIND_SECURITY_PROGRAM, 7 },
+        { FULKIBONO_KIND_SECURITY_LOCK, 0 }, { FULKIBONO_KIND_CONFIGURATION, 3 },
+    };
+    unsigned i;
+    for (i = 0; i < sizeof last / sizeof *last; i++) {
+        made(last[i].kind, last[i].most);
+        must(fulkibono_complete(&chip, array, security) == (i ? 0 : FULKIBONO_NOTHING_RUNS), "the last number of a kind");
+        made(last[i].kind, last[i].most + 1);
+        must(i == FULKIBONO_KIND_ARRAY_ERASE || fulkibono_array_range(fulkibono_running(&chip)).size == 0, "no such place");
+        must(fulkibono_security_range(fulkibono_running(&chip)).size == 0, "no such place of the Security ID");
+        refused("a number past the last");
+    }
+    made(FULKIBONO_KIND_PERMANENT_BITS + 1, 0);
+    refused("a kind above 8");
+    made(0, 0);
+    chip.bytes[FULKIBONO_PLACE_SUSPENDED_KIND] = FULKIBONO_KIND_PERMANENT_BITS + 1;
+    refused("a suspended kind above 8");
+    made(0, 0);
+    chip.bytes[FULKIBONO_PLACE_FLAGS] = 128;
+    refused("bit 7 of the flags");
+    for (i = FULKIBONO_PLACE_RESERVED; i < FULKIBONO_RECORD_SIZE; i++) {
+        made(0, 0);
+        chip.bytes[i] = 1;
+        refused("a reserved byte");
+    }
+}
+
+int main(void)
+{
+    new_chip();
+    blocks();
+    sector();
+    programs();
+    flags();
+    no_range();
+    idle_cut();
+    refusals();
+    no_code();
+    printf("record: version %d, %d facts, all as the header says\n", FULKIBONO_VERSION, tried);
+    return 0;
+}
