@@ -11,11 +11,11 @@ if [ -z "${FULKIBONO_OBJECT:-}" ] && { [ ! -f "$library" ] || [ -n "$(find crate
     touch "$library"
 fi
 
-# compile PROGRAM SOURCE [FLAGS..]: the C program with the library
+# compile PROGRAM SOURCE [FLAGS..]: the C program with the library, and with what `also` names
 # start PROGRAM [WORDS..]: runs it
 if [ "$machine" = x86_64 ] || [ -n "${FULKIBONO_OBJECT:-}" ]; then
     native=yes
-    compile() { p=$1 s=$2; shift 2; ${CC:-cc} -std=c99 -Wall -Wextra -pedantic -Iinclude "$@" "$s" "$library" -o "$p"; }
+    compile() { p=$1 s=$2; shift 2; ${CC:-cc} -std=c99 -Wall -Wextra -pedantic -Iinclude "$@" "$s" ${also:-} "$library" -o "$p"; }
     start() { "$@"; }
 else
     native=''
@@ -25,7 +25,7 @@ else
         p=$1 s=$2
         shift 2
         ${CC:-clang} --target=x86_64-linux-gnu -idirafter "/usr/include/$machine-linux-gnu" -fPIC -std=c99 -Wall -Wextra -pedantic -Iinclude "$@" -c "$s" -o "$p.o"
-        "$kit/on/$machine/bin/rattle-link" --target x86_64-unknown-linux-gnu --toolchain "$tools" -o "$p" "$p.o" "$library" >/dev/null 2>&1
+        "$kit/on/$machine/bin/rattle-link" --target x86_64-unknown-linux-gnu --toolchain "$tools" -o "$p" "$p.o" ${also:-} "$library" >/dev/null 2>&1
     }
     start() { p=$1; shift; "$tools/bin/qemu-x86_64" "$tools/lib/ld-linux-x86-64.so.2" --library-path "$tools/lib" "$p" "$@"; }
 fi

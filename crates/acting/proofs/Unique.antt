@@ -1,8 +1,7 @@
 -- No second outcome: whatever meets the guarantee of a public function of this crate at the same input is the same record without its buffer, the
 -- same register and the same buffer. Assumes nothing.
 use Rattle.rules.proofs.Promises.{one}
-use Rattle.blocks.proofs.Unique.{OneResult}
-use Rattle.memory.proofs.Unique.{OneList}
+use Rattle.rules.proofs.Outcomes.{OneResult, OneList}
 use Rattle.acting.proofs.commands.acted.Reads as acted
 use Rattle.acting.proofs.commands.used.Reads as used
 use Rattle.acting.proofs.ends.completed.Reads as completed

@@ -15,9 +15,9 @@ ghost use Rattle.rules.specs.Commands.{workOf, atOnce, act};
 pub fn used(r: Rest) -> Rest
     ensures { λ q. ⌜ q ≡ withEnable false r ⌝ }
 {
-    let mut next = r;
-    next.flags.enable = false;
-    next
+    let mut left = r;
+    left.flags.enable = false;
+    left
 }
 
 // ---- long commands

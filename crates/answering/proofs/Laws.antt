@@ -10,7 +10,8 @@ use Rattle.rules.specs.Words.{num}
 use Rattle.rules.specs.Blocks.{blockAt}
 use Rattle.rules.proofs.Blocks.{block-placed}
 use Rattle.rows.specs.declared.Row.{Row}
-use Rattle.rows.specs.Rows.{ascii, row, blanks, hex, within, bytes, letters}
+use Rattle.rules.specs.Texts.{ascii}
+use Rattle.rows.specs.Rows.{row, blanks, hex, within, bytes, letters}
 
 -- ---- locks
 

@@ -6,7 +6,8 @@ use lib.ListN.{replicate}
 use Rattle.rules.specs.declared.Work.the-variants.{Nothing, EraseSector, EraseBlock, EraseArray, ProgramPage, ProgramSecurity, LockSecurity, WriteConfiguration, AddPermanent}
 use Rattle.rules.specs.Words.{bit}
 use Rattle.rules.specs.Blocks.{blocks, wide, blockAt, powerUpLocks}
-use Rattle.rows.specs.Rows.{ascii, row, blanks, digits, hexDigit, hex, bytes, printed, letters}
+use Rattle.rules.specs.Texts.{ascii}
+use Rattle.rows.specs.Rows.{row, blanks, digits, hexDigit, hex, bytes, printed, letters}
 use Rattle.words.specs.Words.{lead, numbered, below, counted, plural, comma, named}
 use Rattle.answering.specs.Questions.{statusNames, statusRow, configurationNames, configurationRow, protocolRow, rangeText, runningRow, suspendedRow, locksRow, two, locks, lockNames, blockText, lockRow, lockDownRow, dumpHeadRow, dumpRow}
 

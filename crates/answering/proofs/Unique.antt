@@ -1,6 +1,6 @@
 -- No second outcome: whatever meets the guarantee of a public function of this crate at the same input is the same result. Assumes nothing.
 use Rattle.rules.proofs.Promises.{one}
-use Rattle.blocks.proofs.Unique.{OneResult}
+use Rattle.rules.proofs.Outcomes.{OneResult}
 use Rattle.answering.proofs.status_row.Reads as status-row
 use Rattle.answering.proofs.configuration_row.Reads as configuration-row
 use Rattle.answering.proofs.protocol_row.Reads as protocol-row

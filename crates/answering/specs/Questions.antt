@@ -12,7 +12,8 @@ use Rattle.rules.specs.Words.{bit, num, pick}
 use Rattle.rules.specs.Blocks.{blockAt}
 use Rattle.rules.specs.Works.{arrayRange, securityRange}
 use Rattle.rows.specs.declared.Row.{Row}
-use Rattle.rows.specs.Rows.{ascii, row, blanks, decimal, hex, within, bytes, letters}
+use Rattle.rules.specs.Texts.{ascii}
+use Rattle.rows.specs.Rows.{row, blanks, decimal, hex, within, bytes, letters}
 use Rattle.words.specs.Words.{numbered, below, counted, named}
 
 -- ---- status: 01, The registers as read

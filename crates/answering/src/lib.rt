@@ -2,6 +2,7 @@
 use rows::Row;
 use rules::Block;
 use rules::Work;
+use rules::plain::smaller;
 ghost use mathlib.Core.Path.{_≡_};
 ghost use Prim.Native.Nat.{_+_, _≤_, _<_};
 ghost use Rattle.rules.specs.Words.{range};
@@ -304,7 +305,7 @@ pub fn dump_head_row(line: u64, place: usize, count: u64) -> Row
 pub fn dump_row(place: usize, array: &[u8], n: usize) -> Row
     ensures { λ q. ⌜ q ≡ dumpRow place (now (array .entry)) n ⌝ }
 {
-    let m = rows::least(n, 16);
+    let m = smaller(n, 16);
     let shown = rows::count_within(array.len(), place, m);
     let r = rows::place(rows::empty(), 6, place);
     let r = rows::pad(r, 1);

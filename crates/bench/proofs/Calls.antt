@@ -1,6 +1,6 @@
 -- The calls in a row: the bytes read, the chip's turn with the page in place, the record written back, the number. Assumes nothing.
 use Prim.Native.Nat.{ℕ}
-use mathlib.Core.Path.{_≡_, sym, ap, _∙_}
+use mathlib.Core.Path.{_≡_, refl, sym, ap, _∙_}
 use mathlib.Core.Bool.{Bool, true, false, not}
 use mathlib.Core.List.{List, [], _∷_, _++_}
 use native.Mathlib.Omega.{arith}
@@ -11,16 +11,17 @@ use Rattle.rules.specs.declared.Chip.{Chip}
 use Rattle.rules.specs.declared.Rest.{Rest}
 use Rattle.rules.specs.Fields.{chipOf}
 use Rattle.rules.specs.Programs.{blank}
-use Rattle.rules.specs.Commands.{poweredUp}
+use Rattle.rules.specs.Commands.{newChip}
 use Rattle.rules.specs.Numbers.{answerNumber}
 use Rattle.rules.specs.Machine.{Outcome, step, run}
-use Rattle.rules.specs.Promises.{Bench, Returned, benchOf, returnedOf, stateOf, outcomeOf}
-use Rattle.rules.specs.Demands.{Call, Meets, eventOf}
+use Rattle.rules.specs.Promises.{Bench, Carried, Returned, benchOf, returnedOf, stateOf, outcomeOf}
+use Rattle.rules.specs.Demands.{Call, frameCall, completionCall, cutCall, Meets, eventOf}
 use Rattle.rules.proofs.Runs.{demand-2}
-use Rattle.record_code.specs.Layout.{recordSize, restCode, code, isCode, restIn, chipIn}
-use Rattle.record_code.proofs.Faithful.{code-of, chip-in, known-length}
+use Rattle.record_code.specs.Layout.{recordSize, restCode, code, isCode, NothingReserved, restIn, chipIn}
+use Rattle.record_code.proofs.Faithful.{code-of, chip-in, known-length, known-reserved, reserved-kept}
+use Rattle.chip.specs.declared.turns.Event.{Event}
 use Rattle.chip.specs.declared.turns.Turn.{Turn}
-use Rattle.chip.specs.Turns.{afterOf}
+use Rattle.chip.specs.Turns.{afterOf, callOf, LentFor}
 use Rattle.bench.specs.Boundary.{LentBench, cameOf, untouched, seenOf, coded, called, CallPromise, newBytes, NewPromise}
 
 -- ---- the page in a record's bytes
@@ -46,8 +47,9 @@ module _ (l : List ℕ) (x : Bool) (ex : x ≡ isCode l) (h : not x ≡ false) w
   pub code-page : length (take 256 l) ≡ 256
   code-page = page-size l code-size
 
-  pub code-back : (p : List ℕ) → length p ≡ length (take 256 l) → length (p ++ drop 256 l) ≡ recordSize
-  code-back p kept = page-back l code-size p kept
+  -- the page changed in place leaves the length and the reserved bytes
+  pub code-back : (p : List ℕ) → length p ≡ length (take 256 l) → (length (p ++ drop 256 l) ≡ recordSize) × NothingReserved (p ++ drop 256 l)
+  code-back p kept = (page-back l code-size p kept, reserved-kept p l (kept ∙ code-page) (known-reserved l (sym ex ∙ not-false x h)))
 
 -- ---- a new chip
 
@@ -55,11 +57,11 @@ pub new-refused : (bytes : List ℕ) → (length bytes ≡ recordSize → ⊥) �
 unfolding newBytes
 new-refused bytes h = record { outcome = rw (ne-eqb (length bytes) recordSize h) }
 
-pub new-done : (bytes p l : List ℕ) (q : Rest) → length bytes ≡ recordSize → length p ≡ length (take 256 bytes) → p ≡ blank → q ≡ poweredUp false false 0
-    → l ≡ take 256 (p ++ drop 256 bytes) ++ restCode q → NewPromise bytes 0 l
+pub new-done : (bytes p l : List ℕ) → length bytes ≡ recordSize → length p ≡ length (take 256 bytes) → p ≡ blank
+    → l ≡ take 256 (p ++ drop 256 bytes) ++ restCode (newChip .rest) → NewPromise bytes 0 l
 unfolding newBytes
-new-done bytes p l q h k ep eq el =
-    record { outcome = rw (eq-eqb (length bytes) recordSize h) (λ i. (0, (el ∙ rest-put bytes h p k q ∙ (λ j. code (chipOf (ep j) (eq j)))) i)) }
+new-done bytes p l h k ep el =
+    record { outcome = rw (eq-eqb (length bytes) recordSize h) (λ i. (0, (el ∙ rest-put bytes h p k (newChip .rest) ∙ (λ j. code (chipOf (ep j) (newChip .rest)))) i)) }
 
 -- ---- the three events
 
@@ -88,3 +90,18 @@ module _ (b : LentBench) (e : Call) (x : Bool) (ex : x ≡ isCode (b .bytes)) wh
 
       numbered : seenOf (cameOf n l array security reply marks) ≡ coded (outcomeOf came)
       numbered = λ i. seenOf (cameOf (en i) ((el ∙ rest-put (b .bytes) (code-size (b .bytes) x ex h) p k (t .rest)) i) array security reply marks)
+
+-- where nothing is lent for a reply, nothing is left of it
+pub event-refused : (b : LentBench) (e : Event) (f : Carried) (x : Bool) → x ≡ isCode (b .bytes) → LentFor e (f .reply) → LentFor e (f .marks) → not x ≡ true
+    → CallPromise b (callOf e f) (cameOf 1 (b .bytes) (b .array) (b .security) (f .reply) (f .marks))
+event-refused b Event.Frame f x ex y m h = call-refused b (frameCall f) x ex h
+event-refused b Event.Completion f x ex y m h = rw (y, m) (call-refused b completionCall x ex h)
+event-refused b (Event.Cut k) f x ex y m h = rw (y, m) (call-refused b (cutCall k) x ex h)
+
+none : (l : List ℕ) → length l ≡ 0 → l ≡ []
+none [] e = refl
+none (x ∷ l) e = absurd (omega arith)
+
+pub event-left : (b : LentBench) (e : Call) (n : ℕ) (bytes array security y m : List ℕ) → length y ≡ 0 → length m ≡ 0
+    → CallPromise b e (cameOf n bytes array security y m) → CallPromise b e (cameOf n bytes array security [] [])
+event-left b e n bytes array security y m hy hm p = rw (none y hy, none m hm) at p

@@ -1,6 +1,6 @@
 -- What a refusal leaves, byte by byte. Bytes that are a code are the code of the record in them, so a record that stays leaves every byte;
 -- a record that uses up the reset enable changes in the flags' byte only. Assumes nothing.
-use Prim.Native.Nat.{ℕ, _+_, _%_, _≤_}
+use Prim.Native.Nat.{ℕ, _+_, _*_, _/_, _%_, _≤_}
 use mathlib.Core.Path.{_≡_, refl, sym, ap, _∙_}
 use mathlib.Core.Bool.{Bool, true, false, false≢true}
 use mathlib.Core.List.{List, [], _∷_, _++_}
@@ -17,36 +17,27 @@ use Rattle.rules.specs.Machine.{Outcome, frame, step}
 use Rattle.rules.specs.Given.{frameNumbers}
 use Rattle.rules.specs.Promises.{Carried, frameOf}
 use Rattle.rules.specs.Demands.{Call, frameCall, completionCall, cutCall, eventOf}
+use Rattle.rules.proofs.Fields.{enable-used}
 use Rattle.rules.proofs.Numbers.{frame-given}
 use Rattle.rules.proofs.Promises.{lent-one, lent-written}
 use Rattle.rules.proofs.Refusals.{frame-refused-1, frame-refused-2, frame-refused-more, completion-refused, cut-refused}
 use Rattle.rules.proofs.Rows.{at-one}
-use Rattle.record_code.specs.Layout.{bytes, flagsNumber, restCode, code, isCode, chipIn}
+use Rattle.record_code.specs.Layout.{bytes, restCode, code, isCode, chipIn}
 use Rattle.record_code.proofs.Faithful.{code-of, known-length, code-decode}
 use Rattle.bench.specs.Boundary.{LentBench, Came, cameOf, carriedBy, untouched, stateIn, Seen, seenOf, coded, CallPromise}
 use Rattle.bench.specs.Refusals.{OfBytes, enableUsed, refusedFrame}
 use Rattle.bench.proofs.Calls.{page-size}
 use Rattle.bench.proofs.Outcomes.{came-one, of-code, of-no-code}
-use Rattle.bench.proofs.Typed.{num-small}
 
 -- ---- the reset enable in the bytes
 
--- in the flags' byte
-flag-used : (r : Rest) → flagsNumber (withEnable false r .flags) % 256 ≡ flagsNumber (r .flags) % 256 % 64
-flag-used r =
-    let sqi = num-small (r .flags .sqi) in
-    let wel = num-small (r .flags .wel) in
-    let ioc = num-small (r .flags .ioc) in
-    let wpen = num-small (r .flags .wpen) in
-    let wpld = num-small (r .flags .wpld) in
-    let sec = num-small (r .flags .sec) in
-    let enable = num-small (r .flags .enable) in
-    omega arith
+abbrev cleared : ℕ → ℕ
+cleared x = x % 64 + x / 128 * 128
 
--- which is byte 34 behind the page
-rest-used : (r : Rest) → restCode (withEnable false r) ≡ set (restCode r) 34 (getD (restCode r) 34 0 % 64)
+-- the flags are byte 34 behind the page
+rest-used : (r : Rest) → restCode (withEnable false r) ≡ set (restCode r) 34 (cleared (getD (restCode r) 34 0))
 unfolding restCode bytes
-rest-used r = ap (λ (x : ℕ). set (restCode r) 34 x) (flag-used r)
+rest-used r = ap (λ (x : ℕ). set (restCode r) 34 x) (enable-used r)
 
 -- a store behind the page
 set-behind : (b l : List ℕ) (i x : ℕ) → set (b ++ l) (length b + i) x ≡ b ++ set l i x
@@ -58,9 +49,9 @@ code-used : (b : List ℕ) (r : Rest) → length b ≡ 256 → code (chipOf b (w
 code-used b r h =
     code-of b (withEnable false r)
     ∙ ap (λ (l : List ℕ). b ++ l) (rest-used r)
-    ∙ sym (set-behind b (restCode r) 34 (getD (restCode r) 34 0 % 64))
-    ∙ ap (λ (x : ℕ). set (b ++ restCode r) (length b + 34) (x % 64)) (sym (getD-append-add b (restCode r) 34 0))
-    ∙ ap (λ (k : ℕ). set (b ++ restCode r) (k + 34) (getD (b ++ restCode r) (k + 34) 0 % 64)) h
+    ∙ sym (set-behind b (restCode r) 34 (cleared (getD (restCode r) 34 0)))
+    ∙ ap (λ (x : ℕ). set (b ++ restCode r) (length b + 34) (cleared x)) (sym (getD-append-add b (restCode r) 34 0))
+    ∙ ap (λ (k : ℕ). set (b ++ restCode r) (k + 34) (cleared (getD (b ++ restCode r) (k + 34) 0))) h
     ∙ ap enableUsed (sym (code-of b r))
 
 -- ---- by the call's number

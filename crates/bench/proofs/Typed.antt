@@ -17,17 +17,18 @@ use Rattle.rules.specs.declared.Rest.{Rest}
 use Rattle.rules.specs.declared.Short.{Short}
 use Rattle.rules.specs.declared.Work.{Work}
 use Rattle.rules.specs.declared.Work.the-variants.{Nothing, EraseSector, EraseBlock, EraseArray, ProgramPage, ProgramSecurity, LockSecurity, WriteConfiguration, AddPermanent}
-use Rattle.rules.specs.Words.{bit, num, pick, oneOf}
+use Rattle.rules.specs.Words.{bit, pick, oneOf}
 use Rattle.rules.specs.Blocks.{arraySize, writeLocks, readLocks, allLocks}
 use Rattle.rules.specs.Frames.{formOf, sentByte, opcode, address, six}
 use Rattle.rules.specs.Programs.{blank, pageBuffer, securityBuffer}
-use Rattle.rules.specs.Fields.{withRunning, withEnable, withFlags}
+use Rattle.rules.specs.Fields.{withRunning, withEnable, withFlags, flagsBound}
 use Rattle.rules.specs.Commands.{newChip, workOf, bufferOf, atOnce, act, bufferAtOnce, bufferAfter, settled, settledFirst, rested, bufferRested, afterCut}
 use Rattle.rules.specs.Works.{isProgram}
 use Rattle.rules.specs.Numbers.{State, first, frameTests, completionTests, cutTests}
 use Rattle.rules.specs.Machine.{frameChip, frame, completedChip, completion, cutChip, powerCut, Event, sends, completes, cuts, step}
 use Rattle.rules.proofs.Bools.{and-split}
 use Rattle.rules.proofs.Blocks.{blockOf-lt}
+use Rattle.rules.proofs.Fields.{num-small}
 use Rattle.rules.proofs.Effects.{fill-length}
 use Rattle.record_code.specs.Layout.{recordSize, numberAt, fieldIn, numberOf, workRight, isCode, restIn, chipIn, TypedRest, Typed}
 use Rattle.record_code.proofs.Laws.{work-kept}
@@ -47,7 +48,7 @@ number-small l small at (suc n) =
 pub read-typed : (l : List ℕ) → OfBytes l → isCode l ≡ true → Typed (chipIn l)
 unfolding isCode chipIn restIn
 read-typed l small e =
-    let f = and-split _ (ltb (fieldIn l "flags") 128) (and-split _ (eqb (fieldIn l "reserved") 0) (and-split (eqb (length l) recordSize) _ e .1) .0) in
+    let f = and-split _ (ltb (fieldIn l "flags") flagsBound) (and-split _ (eqb (fieldIn l "reserved") 0) (and-split (eqb (length l) recordSize) _ e .1) .0) in
     let w = and-split (workRight (fieldIn l "running kind") (fieldIn l "running number")) _ (f .0) in
     record {
       buffer = page-size l (known-length l e);
@@ -110,10 +111,6 @@ rested-page w b h = go (isProgram w)
     go false = blank-page
 
 -- ---- the rest
-
-pub num-small : (x : Bool) → num x ≤ 1
-num-small true = omega arith
-num-small false = omega arith
 
 -- work that a frame of bytes begins
 begun-small : (l : Long) (sent : List ℕ) → OfBytes sent → numberOf (workOf l sent) < 2 ^ 64

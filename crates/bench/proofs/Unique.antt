@@ -1,8 +1,9 @@
 -- No second outcome: whatever meets the guarantee of an exported function at the same input is the same number and the same lent bytes.
 -- Assumes nothing.
 use Prim.Native.Nat.{ℕ}
-use mathlib.Core.Path.{_≡_, sym, _∙_}
+use mathlib.Core.Path.{sym, _∙_}
 use mathlib.Core.List.{List, []}
+use Rattle.rules.proofs.Outcomes.{OneOutcome}
 use Rattle.bench.specs.Boundary.{cameOf}
 use Rattle.bench.proofs.Outcomes.{came-one}
 use Rattle.bench.proofs.fulkibono_new.Reads as new
@@ -10,10 +11,6 @@ use Rattle.bench.proofs.fulkibono_frame.Reads as frame
 use Rattle.bench.proofs.fulkibono_completion.Reads as completion
 use Rattle.bench.proofs.fulkibono_power_cut.Reads as power-cut
 use Rattle.bench.proofs.fulkibono_meaning.Reads as meaning
-
--- a post-condition over lifetimes, arguments, the result and the arguments at exit leaves one outcome, as `came` reads it
-abbrev pub OneOutcome : {K A R S : Type 0} → (K → A → R → A → Type 0) → (R → A → S) → Type 0
-OneOutcome {K} {A} {R} Post came = (κ : K) (a x y : A) (r r′ : R) → Post κ a r x → Post κ a r′ y → came r x ≡ came r′ y
 
 pub new-one : OneOutcome {S = ℕ × List ℕ} new.Post (λ r x. (r, x .0 .now))
 new-one κ a x y r r′ p q = p .outcome ∙ sym (q .outcome)

@@ -1,11 +1,13 @@
 // The boundary to other languages: the chip's functions over lent bytes. specs/Boundary.antt says what each gives back and leaves.
 // The caller lends all memory; nothing is kept between calls. The page buffer is changed where it lies, in the record's first 256 bytes.
+use chip::Event;
 ghost use mathlib.Core.Path.{_≡_};
 ghost use mathlib.Core.List.{[]};
 ghost use Prim.Native.Nat.{_<_};
 ghost use lib.ListN.{length};
 ghost use Rattle.rules.specs.Promises.{carriedOf};
 ghost use Rattle.rules.specs.Demands.{frameCall, completionCall, cutCall};
+ghost use Rattle.chip.specs.Turns.{callOf, LentFor};
 ghost use Rattle.bench.specs.Boundary.{lentBenchOf, cameOf, CallPromise, NewPromise};
 ghost use Rattle.bench.specs.Meanings.{over, MeaningBytes};
 
@@ -20,9 +22,32 @@ pub extern "C" fn fulkibono_new(bytes: &mut [u8]) -> u8
         return 1;
     }
     memory::blank_page(&mut bytes[..256]);
-    let rest = acting::new_rest();
-    record_code::put_rest(bytes, rest);
+    record_code::put_new(bytes);
     0
+}
+
+// Any of the three events. One function, from which each part is called once: nothing of the record crosses a call.
+fn event(
+    e: Event,
+    bytes: &mut [u8],
+    array: &mut [u8],
+    security: &mut [u8],
+    sent: &[u8],
+    reply: &mut [u8],
+    marks: &mut [u8],
+) -> u8
+    requires { ⌜ LentFor e (now reply) × LentFor e (now marks) ⌝ }
+    ensures { λ r. ⌜ CallPromise (lentBenchOf (now (bytes .entry)) (now (array .entry)) (now (security .entry))) (callOf e (carriedOf (now (sent .entry)) (now (reply .entry)) (now (marks .entry)))) (cameOf r (now (bytes .exit)) (now (array .exit)) (now (security .exit)) (now (reply .exit)) (now (marks .exit))) ⌝ }
+{
+    if !record_code::is_code(bytes) {
+        return 1;
+    }
+    let r = record_code::rest_in(bytes);
+    let t = chip::take_turn(e, r, &mut bytes[..256], array, security, sent, reply, marks);
+    let rest = t.rest;
+    record_code::put_rest(bytes, rest);
+    let answer = t.answer;
+    chip::answer_number(answer)
 }
 
 // A frame: the bytes sent while CE# is low, and the two reply buffers.
@@ -37,15 +62,7 @@ pub extern "C" fn fulkibono_frame(
 ) -> u8
     ensures { λ r. ⌜ CallPromise (lentBenchOf (now (bytes .entry)) (now (array .entry)) (now (security .entry))) (frameCall (carriedOf (now (sent .entry)) (now (reply .entry)) (now (marks .entry)))) (cameOf r (now (bytes .exit)) (now (array .exit)) (now (security .exit)) (now (reply .exit)) (now (marks .exit))) ⌝ }
 {
-    if !record_code::is_code(bytes) {
-        return 1;
-    }
-    let r = record_code::rest_in(bytes);
-    let t = chip::frame_turn(r, &mut bytes[..256], array, security, sent, reply, marks);
-    let rest = t.rest;
-    record_code::put_rest(bytes, rest);
-    let answer = t.answer;
-    chip::answer_number(answer)
+    event(Event::Frame, bytes, array, security, sent, reply, marks)
 }
 
 // The running operation ends.
@@ -57,15 +74,15 @@ pub extern "C" fn fulkibono_completion(
 ) -> u8
     ensures { λ r. ⌜ CallPromise (lentBenchOf (now (bytes .entry)) (now (array .entry)) (now (security .entry))) completionCall (cameOf r (now (bytes .exit)) (now (array .exit)) (now (security .exit)) [] []) ⌝ }
 {
-    if !record_code::is_code(bytes) {
-        return 1;
-    }
-    let r = record_code::rest_in(bytes);
-    let t = chip::completion_turn(r, &mut bytes[..256], array, security);
-    let rest = t.rest;
-    record_code::put_rest(bytes, rest);
-    let answer = t.answer;
-    chip::answer_number(answer)
+    event(
+        Event::Completion,
+        bytes,
+        array,
+        security,
+        b"",
+        &mut [],
+        &mut [],
+    )
 }
 
 // A power cut after k bytes of the running operation.
@@ -78,15 +95,7 @@ pub extern "C" fn fulkibono_power_cut(
 ) -> u8
     ensures { λ r. ⌜ CallPromise (lentBenchOf (now (bytes .entry)) (now (array .entry)) (now (security .entry))) (cutCall k) (cameOf r (now (bytes .exit)) (now (array .exit)) (now (security .exit)) [] []) ⌝ }
 {
-    if !record_code::is_code(bytes) {
-        return 1;
-    }
-    let r = record_code::rest_in(bytes);
-    let t = chip::cut_turn(r, &mut bytes[..256], array, security, k);
-    let rest = t.rest;
-    record_code::put_rest(bytes, rest);
-    let answer = t.answer;
-    chip::answer_number(answer)
+    event(Event::Cut(k), bytes, array, security, b"", &mut [], &mut [])
 }
 
 // ---- what a number means

@@ -1,6 +1,6 @@
 -- No second outcome: whatever meets the guarantee of a public function of this crate at the same input is the same result. Assumes nothing.
-use mathlib.Core.Path.{_≡_}
 use Rattle.rules.proofs.Promises.{one}
+use Rattle.rules.proofs.Outcomes.{OneResult}
 use Rattle.blocks.proofs.table.block_at.Reads as block-at
 use Rattle.blocks.proofs.block_of.Reads as block-of
 use Rattle.blocks.proofs.bit_at.Reads as bit-at
@@ -13,10 +13,6 @@ use Rattle.blocks.proofs.can_suspend.Reads as can-suspend
 use Rattle.blocks.proofs.array_range.Reads as array-range
 use Rattle.blocks.proofs.is_unlocked.Reads as is-unlocked
 use Rattle.blocks.proofs.holds_place.Reads as holds-place
-
--- a post-condition over lifetimes, arguments, the result and the arguments at exit leaves one result
-abbrev pub OneResult : {K A R : Type 0} → (K → A → R → A → Type 0) → Type 0
-OneResult {K} {A} {R} Post = (κ : K) (a x y : A) (r r′ : R) → Post κ a r x → Post κ a r′ y → r ≡ r′
 
 pub block-at-one : OneResult block-at.Post
 block-at-one κ a x y r r′ p q = one p q

@@ -50,6 +50,44 @@ fn lock_of(a: usize) -> u32
     2 * group - 464
 }
 
+// A row of the table. Each event asks this of a block erase that runs or waits, so it goes by shifts too.
+fn row(n: usize) -> Block
+    requires { ⌜ n < 40 ⌝ }
+    ensures { λ r. ⌜ r ≡ blockAt n ⌝ }
+{
+    let lock = n as u32;
+    if n < 4 {
+        return Block {
+            start: 0x1fe000 - 0x2000 * n,
+            size: 0x2000,
+            write: 46 - 2 * lock,
+            paired: true,
+        };
+    }
+    if n < 8 {
+        return Block {
+            start: 0xe000 - 0x2000 * n,
+            size: 0x2000,
+            write: 46 - 2 * lock,
+            paired: true,
+        };
+    }
+    if n < 10 {
+        return Block {
+            start: 0x1f0000 - 0x1e8000 * (n - 8),
+            size: 0x8000,
+            write: 39 - lock,
+            paired: false,
+        };
+    }
+    Block {
+        start: 0x280000 - 0x10000 * n,
+        size: 0x10000,
+        write: 39 - lock,
+        paired: false,
+    }
+}
+
 pub fn write_locked(p: u64, a: usize) -> bool
     requires { ⌜ a < arraySize ⌝ }
     ensures { λ r. ⌜ r ≡ writeLocked p a ⌝ }
@@ -121,7 +159,7 @@ pub fn array_range(w: Work) -> Range
             size: 4096,
         },
         Work::EraseBlock(n) => {
-            let b = block_at(n);
+            let b = row(n);
             Range {
                 start: b.start,
                 size: b.size,
@@ -147,7 +185,7 @@ pub fn is_unlocked(p: u64, w: Work) -> bool
     match w {
         Work::EraseSector(n) => !write_locked(p, n * 4096),
         Work::EraseBlock(n) => {
-            let b = block_at(n);
+            let b = row(n);
             let write = b.write;
             !bit_at(p, write)
         }

@@ -5,7 +5,8 @@ use mathlib.Core.Bool.{true}
 use mathlib.Core.List.{List, [], _∷_}
 use native.Mathlib.Omega.{arith}
 use lib.Dec.{ltb}
-use lib.ListN.{length, getD}
+use lib.ListN.{length, getD, set, length-set}
+use lib.Seq.{getD-set-same}
 use borrow.Author.Tests.{ltb-true}
 use Rattle.rules.specs.declared.Range.{Range}
 use Rattle.rules.specs.declared.Rest.{Rest}
@@ -27,6 +28,12 @@ use Rattle.chip.specs.Turns.{Replied}
 
 pub upto-written : (l : List ℕ) (n : ℕ) (f : ℕ → ℕ) → Upto l n n f → lent l ≡ written n f
 upto-written l n f h = lent-written l n f (h .size) (h .at)
+
+-- one byte stored in a memory of one byte
+pub stored-written : (l : List ℕ) (x : ℕ) → length l ≡ 1 → lent (set l 0 x) ≡ written (length l) (λ i. x)
+stored-written l x h =
+    lent-written (set l 0 x) (length l) (λ i. x) (length-set l 0 x)
+    (λ i below. let z : i ≡ 0 = omega arith in rw z (getD-set-same l 0 x 0 (omega arith)))
 
 -- one byte throughout
 pub patched-written : (l l₀ : List ℕ) (v : ℕ) → Patched l l₀ 0 (length l₀) (λ i. v) → lent l ≡ written (length l₀) (λ i. v)

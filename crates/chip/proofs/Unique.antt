@@ -8,18 +8,24 @@ use Rattle.rules.specs.declared.After.{After}
 use Rattle.rules.specs.declared.Answer.{Answer}
 use Rattle.rules.specs.declared.Chip.{Chip}
 use Rattle.rules.specs.declared.Rest.{Rest}
-use Rattle.rules.specs.Promises.{returnedOf}
+use Rattle.rules.specs.Fields.{chipOf}
+use Rattle.rules.specs.Promises.{Bench, Returned, benchOf, carriedOf, returnedOf}
+use Rattle.rules.specs.Demands.{Call, frameCall, completionCall, cutCall, Meets}
 use Rattle.rules.proofs.Promises as promises
+use Rattle.chip.specs.declared.turns.Event.{Event}
 use Rattle.chip.specs.declared.turns.Turn.{Turn}
-use Rattle.chip.specs.Turns.{afterOf}
+use Rattle.chip.specs.Turns.{afterOf, callOf}
 use Rattle.chip.proofs.new.Reads as new
 use Rattle.chip.proofs.frame.Reads as frame
 use Rattle.chip.proofs.completion.Reads as completion
 use Rattle.chip.proofs.power_cut.Reads as power-cut
 use Rattle.chip.proofs.numbers.answer_number.Reads as answer-number
-use Rattle.chip.proofs.turns.frame_turn.Reads as frame-turn
-use Rattle.chip.proofs.turns.completion_turn.Reads as completion-turn
-use Rattle.chip.proofs.turns.cut_turn.Reads as cut-turn
+use Rattle.chip.proofs.turns.take_turn.Reads as take-turn
+
+met-one : (b : Bench) (e : Call) (g h : Returned) → Meets b e g → Meets b e h → g ≡ h
+met-one b (frameCall f) g h p q = promises.frame-one b f g h p q
+met-one b completionCall g h p q = promises.completion-one b g h p q
+met-one b (cutCall k) g h p q = promises.cut-one b k g h p q
 
 abbrev Slice : Type 0
 Slice = RefT (List ℕ)
@@ -48,18 +54,15 @@ module _ (κ : List ℕ × (List ℕ × Unit {0})) (a x y : Chip × (Slice × (S
 
 -- ---- the same with the page buffer in place
 
-module _ (κ : List ℕ × (List ℕ × (List ℕ × (List ℕ × (List ℕ × (List ℕ × Unit {0})))))) (a x y : Rest × (Slice × (Slice × (Slice × (Slice × (Slice × (Slice × Unit {0}))))))) (r s : Turn) where
-  pub frame-turn-one : frame-turn.Post κ a r x → frame-turn.Post κ a s y
-      → returnedOf (afterOf r (x .1 .0 .now)) (a .1 .1 .0 .now) (a .1 .1 .1 .0 .now) (x .1 .1 .1 .1 .1 .0 .now) (x .1 .1 .1 .1 .1 .1 .0 .now)
-      ≡ returnedOf (afterOf s (y .1 .0 .now)) (a .1 .1 .0 .now) (a .1 .1 .1 .0 .now) (y .1 .1 .1 .1 .1 .0 .now) (y .1 .1 .1 .1 .1 .1 .0 .now)
-  frame-turn-one p q = promises.frame-one _ _ _ _ p q
-
-module _ (κ : List ℕ × (List ℕ × (List ℕ × Unit {0}))) (a x y : Rest × (Slice × (Slice × (Slice × Unit {0})))) (r s : Turn) where
-  pub completion-turn-one : completion-turn.Post κ a r x → completion-turn.Post κ a s y
-      → returnedOf (afterOf r (x .1 .0 .now)) (x .1 .1 .0 .now) (x .1 .1 .1 .0 .now) [] [] ≡ returnedOf (afterOf s (y .1 .0 .now)) (y .1 .1 .0 .now) (y .1 .1 .1 .0 .now) [] []
-  completion-turn-one p q = promises.completion-one _ _ _ p q
-
-module _ (κ : List ℕ × (List ℕ × (List ℕ × Unit {0}))) (a x y : Rest × (Slice × (Slice × (Slice × (ℕ × Unit {0}))))) (r s : Turn) where
-  pub cut-turn-one : cut-turn.Post κ a r x → cut-turn.Post κ a s y
-      → returnedOf (afterOf r (x .1 .0 .now)) (x .1 .1 .0 .now) (x .1 .1 .1 .0 .now) [] [] ≡ returnedOf (afterOf s (y .1 .0 .now)) (y .1 .1 .0 .now) (y .1 .1 .1 .0 .now) [] []
-  cut-turn-one p q = promises.cut-one _ _ _ _ p q
+module _ (κ : List ℕ × (List ℕ × (List ℕ × (List ℕ × (List ℕ × (List ℕ × Unit {0})))))) (a x y : Event × (Rest × (Slice × (Slice × (Slice × (Slice × (Slice × (Slice × Unit {0})))))))) (r s : Turn) where
+  pub take-turn-one : take-turn.Post κ a r x → take-turn.Post κ a s y
+      → returnedOf (afterOf r (x .1 .1 .0 .now)) (x .1 .1 .1 .0 .now) (x .1 .1 .1 .1 .0 .now) (x .1 .1 .1 .1 .1 .1 .0 .now) (x .1 .1 .1 .1 .1 .1 .1 .0 .now)
+      ≡ returnedOf (afterOf s (y .1 .1 .0 .now)) (y .1 .1 .1 .0 .now) (y .1 .1 .1 .1 .0 .now) (y .1 .1 .1 .1 .1 .1 .0 .now) (y .1 .1 .1 .1 .1 .1 .1 .0 .now)
+  take-turn-one p q =
+      met-one
+      (benchOf (chipOf (a .1 .1 .0 .now) (a .1 .0)) (a .1 .1 .1 .0 .now) (a .1 .1 .1 .1 .0 .now))
+      (callOf (a .0) (carriedOf (a .1 .1 .1 .1 .1 .0 .now) (a .1 .1 .1 .1 .1 .1 .0 .now) (a .1 .1 .1 .1 .1 .1 .1 .0 .now)))
+      _
+      _
+      p
+      q

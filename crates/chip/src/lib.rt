@@ -6,10 +6,9 @@ mod turns;
 pub use numbers::answer_number;
 use rules::After;
 use rules::Chip;
+pub use turns::Event;
 pub use turns::Turn;
-pub use turns::completion_turn;
-pub use turns::cut_turn;
-pub use turns::frame_turn;
+pub use turns::take_turn;
 ghost use mathlib.Core.Path.{_≡_};
 ghost use mathlib.Core.List.{[]};
 ghost use Rattle.rules.specs.Commands.{newChip};
@@ -39,7 +38,17 @@ pub fn frame(
 {
     let mut page = c.buffer;
     let before = c.rest;
-    let t = turns::frame_turn(before, &mut page, array, security, sent, reply, marks);
+    let known = turns::state_right(before, &page, array.len(), security.len());
+    let t = turns::frame_turn(
+        known,
+        before,
+        &mut page,
+        array,
+        security,
+        sent,
+        reply,
+        marks,
+    );
     let answer = t.answer;
     let rest = t.rest;
     let chip = Chip { buffer: page, rest };
@@ -52,7 +61,8 @@ pub fn completion(c: Chip, array: &mut [u8], security: &mut [u8]) -> After
 {
     let mut page = c.buffer;
     let before = c.rest;
-    let t = turns::completion_turn(before, &mut page, array, security);
+    let known = turns::state_right(before, &page, array.len(), security.len());
+    let t = turns::completion_turn(known, before, &mut page, array, security);
     let answer = t.answer;
     let rest = t.rest;
     let chip = Chip { buffer: page, rest };
@@ -65,7 +75,8 @@ pub fn power_cut(c: Chip, array: &mut [u8], security: &mut [u8], k: u64) -> Afte
 {
     let mut page = c.buffer;
     let before = c.rest;
-    let t = turns::cut_turn(before, &mut page, array, security, k);
+    let known = turns::state_right(before, &page, array.len(), security.len());
+    let t = turns::cut_turn(known, before, &mut page, array, security, k);
     let answer = t.answer;
     let rest = t.rest;
     let chip = Chip { buffer: page, rest };

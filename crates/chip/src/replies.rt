@@ -8,13 +8,18 @@ ghost use Rattle.rules.specs.Words.{lent, written};
 ghost use Rattle.rules.specs.Reading.{shown};
 ghost use Rattle.chip.specs.Turns.{Replied, Showable};
 
-// The reply and the marks hold one byte and one mark throughout. One of each is the common case.
+// The reply and the marks hold one byte and one mark throughout. Where each is one byte long, as for a status, no loop is needed.
 pub fn fill_both(reply: &mut [u8], marks: &mut [u8], byte: u8, mark: u8)
     ensures { λ _. ⌜ Replied (now (reply .entry)) (now (marks .entry)) (now (reply .exit)) (now (marks .exit)) (λ i. record { byte = byte; mark = mark }) ⌝ }
 {
     let n = reply.len();
-    memory::set_all(reply, 0, n, byte);
     let m = marks.len();
+    if (n == 1) & (m == 1) {
+        reply[0] = byte;
+        marks[0] = mark;
+        return;
+    }
+    memory::set_all(reply, 0, n, byte);
     memory::set_all(marks, 0, m, mark);
 }
 

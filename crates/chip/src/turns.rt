@@ -13,7 +13,15 @@ ghost use Rattle.rules.specs.Blocks.{arraySize, securitySize};
 ghost use Rattle.rules.specs.Fields.{chipOf};
 ghost use Rattle.rules.specs.WellFormed.{wellFormed};
 ghost use Rattle.rules.specs.Promises.{benchOf, carriedOf, returnedOf, FramePromise, CompletionPromise, CutPromise};
-ghost use Rattle.chip.specs.Turns.{afterOf, Commandable, TurnedAway};
+ghost use Rattle.rules.specs.Demands.{Meets};
+ghost use Rattle.chip.specs.Turns.{afterOf, callOf, Commandable, TurnedAway, StateKnown, Turnable};
+
+// A frame, a completion, or a power cut after so many bytes.
+pub enum Event {
+    Frame,
+    Completion,
+    Cut(u64),
+}
 
 // What an event gives back.
 pub struct Turn {
@@ -22,7 +30,7 @@ pub struct Turn {
 }
 
 // The record is well-formed and the two memories have their sizes.
-fn state_right(r: Rest, page: &[u8], array_len: usize, security_len: usize) -> bool
+pub fn state_right(r: Rest, page: &[u8], array_len: usize, security_len: usize) -> bool
     requires { ⌜ length (now page) ≡ 256 ⌝ }
     ensures { λ b. ⌜ b ≡ (wellFormed (chipOf (now (page .entry)) r) && eqb «array_len» arraySize && eqb «security_len» securitySize) ⌝ }
 {
@@ -98,6 +106,7 @@ fn turned_away(r: Rest, right: bool, reply: &mut [u8], marks: &mut [u8]) -> Turn
 
 // A frame: the bytes sent while CE# is low, and the two reply buffers.
 pub fn frame_turn(
+    known: bool,
     r: Rest,
     page: &mut [u8],
     array: &[u8],
@@ -106,10 +115,9 @@ pub fn frame_turn(
     reply: &mut [u8],
     marks: &mut [u8],
 ) -> Turn
-    requires { ⌜ length (now page) ≡ 256 ⌝ }
+    requires { ⌜ StateKnown known r (now page) (now array) (now security) ⌝ }
     ensures { λ t. ⌜ FramePromise (benchOf (chipOf (now (page .entry)) r) (now (array .entry)) (now (security .entry))) (carriedOf (now (sent .entry)) (now (reply .entry)) (now (marks .entry))) (returnedOf (afterOf t (now (page .exit))) (now (array .entry)) (now (security .entry)) (now (reply .exit)) (now (marks .exit))) ⌝ }
 {
-    let known = state_right(r, page, array.len(), security.len());
     let fits = frame_right(sent.len(), reply.len(), marks.len());
     let right = known & fits;
     if right & (0 < sent.len()) {
@@ -121,11 +129,17 @@ pub fn frame_turn(
 // ---- a completion and a power cut
 
 // The running operation ends.
-pub fn completion_turn(r: Rest, page: &mut [u8], array: &mut [u8], security: &mut [u8]) -> Turn
-    requires { ⌜ length (now page) ≡ 256 ⌝ }
+pub fn completion_turn(
+    known: bool,
+    r: Rest,
+    page: &mut [u8],
+    array: &mut [u8],
+    security: &mut [u8],
+) -> Turn
+    requires { ⌜ StateKnown known r (now page) (now array) (now security) ⌝ }
     ensures { λ t. ⌜ CompletionPromise (benchOf (chipOf (now (page .entry)) r) (now (array .entry)) (now (security .entry))) (returnedOf (afterOf t (now (page .exit))) (now (array .exit)) (now (security .exit)) [] []) ⌝ }
 {
-    if !state_right(r, page, array.len(), security.len()) {
+    if !known {
         return refused(Refusal::Malformed, r);
     }
     let works = r.works;
@@ -141,11 +155,18 @@ pub fn completion_turn(r: Rest, page: &mut [u8], array: &mut [u8], security: &mu
 }
 
 // A power cut after k bytes of the running operation.
-pub fn cut_turn(r: Rest, page: &mut [u8], array: &mut [u8], security: &mut [u8], k: u64) -> Turn
-    requires { ⌜ length (now page) ≡ 256 ⌝ }
+pub fn cut_turn(
+    known: bool,
+    r: Rest,
+    page: &mut [u8],
+    array: &mut [u8],
+    security: &mut [u8],
+    k: u64,
+) -> Turn
+    requires { ⌜ StateKnown known r (now page) (now array) (now security) ⌝ }
     ensures { λ t. ⌜ CutPromise (benchOf (chipOf (now (page .entry)) r) (now (array .entry)) (now (security .entry))) k (returnedOf (afterOf t (now (page .exit))) (now (array .exit)) (now (security .exit)) [] []) ⌝ }
 {
-    if !state_right(r, page, array.len(), security.len()) {
+    if !known {
         return refused(Refusal::Malformed, r);
     }
     let works = r.works;
@@ -155,4 +176,28 @@ pub fn cut_turn(r: Rest, page: &mut [u8], array: &mut [u8], security: &mut [u8],
     memory::finish_security(run, page, n, security);
     memory::blank_page(page);
     done(acting::cut(r, 0 < k))
+}
+
+// ---- any of the three
+
+// One place from which all three are called: the record's test is then part of it, and the rest of the record crosses no call.
+pub fn take_turn(
+    e: Event,
+    r: Rest,
+    page: &mut [u8],
+    array: &mut [u8],
+    security: &mut [u8],
+    sent: &[u8],
+    reply: &mut [u8],
+    marks: &mut [u8],
+) -> Turn
+    requires { ⌜ Turnable e (now page) (now reply) (now marks) ⌝ }
+    ensures { λ t. ⌜ Meets (benchOf (chipOf (now (page .entry)) r) (now (array .entry)) (now (security .entry))) (callOf e (carriedOf (now (sent .entry)) (now (reply .entry)) (now (marks .entry)))) (returnedOf (afterOf t (now (page .exit))) (now (array .exit)) (now (security .exit)) (now (reply .exit)) (now (marks .exit))) ⌝ }
+{
+    let known = state_right(r, page, array.len(), security.len());
+    match e {
+        Event::Frame => frame_turn(known, r, page, array, security, sent, reply, marks),
+        Event::Completion => completion_turn(known, r, page, array, security),
+        Event::Cut(k) => cut_turn(known, r, page, array, security, k),
+    }
 }

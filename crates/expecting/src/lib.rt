@@ -1,4 +1,5 @@
 // What a script expects of an event, compared with what came, and the tally of a script's events.
+use rules::plain::smaller;
 ghost use mathlib.Core.Path.{_≡_};
 ghost use lib.ListN.{getD};
 ghost use Rattle.rules.specs.Words.{num};
@@ -59,13 +60,7 @@ pub fn first_difference(
 fn compared(expects: bool, replied: usize, count: usize) -> usize
     ensures { λ r. ⌜ r ≡ Rattle.expecting.specs.Expectations.compared expects replied count ⌝ }
 {
-    if !expects {
-        return 0;
-    }
-    if replied < count {
-        return replied;
-    }
-    count
+    if expects { smaller(replied, count) } else { 0 }
 }
 
 // A number is expected if judged, and `count` bytes if expects; `given` and a reply of `replied` bytes came.

@@ -11,7 +11,7 @@ use Rattle.grammar.specs.declared.Sort.the-variants.{Byte, Any, Reply, E
 use Rattle.grammar.specs.declared.Place.{Place}
 use Rattle.grammar.specs.declared.Place.the-variants.{First, Sent, ReplyCount, Replied, Expected, MoreExpected, Refusal, AfterEvent, CutCount, DumpPlace, DumpCount, End}
 use Rattle.grammar.specs.declared.Next.{Next}
-use Rattle.grammar.specs.declared.Next.the-variants.{To, Stray, Mistake}
+use Rattle.grammar.specs.declared.Next.the-variants.{To, Mistake}
 use Rattle.grammar.specs.Words.{sortOf}
 
 -- ---- what may follow
@@ -35,11 +35,11 @@ afterNothing s = row s (To Sent) Mistake (To ReplyCount) Mistake Mistake (To Aft
 
 -- after a byte of the frame: more bytes, > or !
 abbrev pub afterSent : Sort → Next
-afterSent s = row s (To Sent) Mistake (To ReplyCount) Mistake (To Refusal) Stray Stray Stray Stray Stray
+afterSent s = row s (To Sent) Mistake (To ReplyCount) Mistake (To Refusal) Mistake Mistake Mistake Mistake Mistake
 
 -- after > N: = or !
 abbrev pub afterReplied : Sort → Next
-afterReplied s = row s Mistake Mistake Mistake (To Expected) (To Refusal) Stray Stray Stray Stray Stray
+afterReplied s = row s Mistake Mistake Mistake (To Expected) (To Refusal) Mistake Mistake Mistake Mistake Mistake
 
 -- after =: a byte or ??
 abbrev pub afterExpect : Sort → Next
@@ -47,15 +47,11 @@ afterExpect s = row s (To MoreExpected) (To MoreExpected) Mistake Mistake Mistak
 
 -- after an expected byte: more of them, or !
 abbrev pub afterExpected : Sort → Next
-afterExpected s = row s (To MoreExpected) (To MoreExpected) Mistake Mistake (To Refusal) Stray Stray Stray Stray Stray
+afterExpected s = row s (To MoreExpected) (To MoreExpected) Mistake Mistake (To Refusal) Mistake Mistake Mistake Mistake Mistake
 
 -- after done or cut N: !
 abbrev pub afterEvent : Sort → Next
-afterEvent s = row s Mistake Mistake Mistake Mistake (To Refusal) Stray Stray Stray Stray Stray
-
--- after all that a line can say. A byte or a sign is no remark, wherever it stands: what was meant to be played or compared is not lost
-abbrev pub afterAll : Sort → Next
-afterAll s = row s Mistake Mistake Mistake Mistake Mistake Stray Stray Stray Stray Stray
+afterEvent s = row s Mistake Mistake Mistake Mistake (To Refusal) Mistake Mistake Mistake Mistake Mistake
 
 -- a number is asked for: that place comes next where the word is one
 abbrev pub whereTrue : Bool → Place → Next
@@ -73,7 +69,7 @@ nextOf AfterEvent w = afterEvent (sortOf w)
 nextOf CutCount w = whereTrue (w .decimal) AfterEvent
 nextOf DumpPlace w = whereTrue (w .hexadecimal && leb (w .length) 6) DumpCount
 nextOf DumpCount w = whereTrue (w .decimal) End
-nextOf End w = afterAll (sortOf w)
+nextOf End w = Mistake
 
 -- the line may end here
 abbrev pub canEnd : Place → Bool
@@ -98,6 +94,10 @@ isByte s = row s true false false false false false false false false false
 -- a byte or ??
 abbrev pub isExpected : Sort → Bool
 isExpected s = row s true true false false false false false false false false
+
+-- >, = or !
+abbrev pub isSign : Sort → Bool
+isSign s = row s false false true true true false false false false false
 
 -- the verb of a line, by its first word
 abbrev pub verbOf : Sort → Verb

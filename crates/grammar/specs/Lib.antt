@@ -1,4 +1,3 @@
 -- The words of a script's line and its grammar. The language as a whole is told in crate `script`, specs/Lib.
-pub mod Texts
 pub mod Words
 pub mod Grammar

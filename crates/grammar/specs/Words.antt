@@ -4,7 +4,7 @@ use mathlib.Core.Bool.{Bool, true, _&&_, _||_}
 use mathlib.Core.List.{List, [], _∷_}
 use lib.Dec.{eqb, ltb}
 use Rattle.rules.specs.Words.{pick}
-use Rattle.grammar.specs.Texts.{ascii}
+use Rattle.rules.specs.Texts.{ascii}
 use Rattle.grammar.specs.declared.Word.{Word}
 use Rattle.grammar.specs.declared.Verb.{Verb}
 use Rattle.grammar.specs.declared.Sort.{Sort}
@@ -15,9 +15,9 @@ use Rattle.grammar.specs.declared.Sort.{Sort}
 unfoldable pub blank : ℕ → Bool
 blank b = eqb b 0x20 || (eqb b 0x09 || (eqb b 0x0B || (eqb b 0x0C || eqb b 0x0D)))
 
--- # or a blank
+-- #, one of the signs ! = >, or a blank
 abbrev pub endsWords : ℕ → Bool
-endsWords b = eqb b 0x23 || blank b
+endsWords b = eqb b 0x23 || (eqb b 0x21 || (eqb b 0x3D || (eqb b 0x3E || blank b)))
 
 -- what a hex digit stands for: 0 to 9, A to F, a to f; 16 for any other byte
 unfoldable pub digitOf : ℕ → ℕ
@@ -43,13 +43,9 @@ oneMore n = min (n + 1) most
 unfoldable pub tensOf : ℕ → ℕ → ℕ
 tensOf n d = min (n * 10 + d) most
 
--- no word yet, after so many blanks
+-- no word: at column 0 where none has begun, at its column where a remark begins
 abbrev pub noWord : ℕ → Word
-noWord blanks = record { length = 0; column = 0; blanks = blanks; key = 1; decimal = true; number = 0; hexadecimal = true; hex = 0 }
-
--- no word: where a remark begins
-abbrev pub noWordAt : ℕ → Word
-noWordAt column = record { length = 0; column = column; blanks = 0; key = 1; decimal = true; number = 0; hexadecimal = true; hex = 0 }
+noWord column = record { length = 0; column = column; key = 1; decimal = true; number = 0; hexadecimal = true; hex = 0 }
 
 -- the word with the byte b at its end, which stands at that column. What its fields are, told of the word's bytes as a whole: proofs/Spelled and
 -- proofs/Keys. The key is kept of the last seven bytes and the hex number of the last six digits: they are asked of words of at most six
@@ -58,7 +54,6 @@ wordWith w b column =
     record {
       length = min (w .length + 1) 25;
       column = pick (eqb (w .length) 0) column (w .column);
-      blanks = w .blanks;
       key = w .key % 2 ^ 48 * 256 + b;
       decimal = w .decimal && ltb (digitOf b) 10;
       number = tensOf (w .number) (digitOf b);

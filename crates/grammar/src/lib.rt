@@ -51,8 +51,6 @@ pub struct Word {
     pub length: usize,
     // where it begins, counted from 1
     pub column: usize,
-    // blanks before it, at most 2
-    pub blanks: u8,
     // its bytes as one number
     pub key: u64,
     // only decimal digits so far, and their number, at most 2^64 - 1
@@ -97,7 +95,6 @@ pub enum Sort {
 
 pub enum Next {
     To(Place),
-    // a word that cannot stand here, where the line could end
-    Stray,
+    // the word cannot stand here
     Mistake,
 }

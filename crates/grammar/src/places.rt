@@ -6,9 +6,9 @@ use crate::Sort;
 use crate::Verb;
 use crate::Word;
 use crate::words;
+use rules::plain::smaller;
 ghost use mathlib.Core.Path.{_≡_};
-ghost use Prim.Native.Nat.{min};
-ghost use Rattle.grammar.specs.Grammar.{nothingSaid, afterNothing, afterSent, afterReplied, afterExpect, afterExpected, afterEvent, afterAll, whereTrue, nextOf, canEnd, isByte, isExpected, verbOf, ofFrame, ofExpected, countOf, withVerb, withWanted, withExpected, withNumber, withCount, withStart, saidWith};
+ghost use Rattle.grammar.specs.Grammar.{nothingSaid, afterNothing, afterSent, afterReplied, afterExpect, afterExpected, afterEvent, whereTrue, nextOf, canEnd, isByte, isExpected, isSign, verbOf, ofFrame, ofExpected, countOf, withVerb, withWanted, withExpected, withNumber, withCount, withStart, saidWith};
 
 pub fn nothing() -> Said
     ensures { λ r. ⌜ r ≡ nothingSaid ⌝ }
@@ -54,11 +54,11 @@ fn sent(s: Sort) -> Next
         Sort::Reply => Next::To(Place::ReplyCount),
         Sort::Expect => Next::Mistake,
         Sort::Refuse => Next::To(Place::Refusal),
-        Sort::Done => Next::Stray,
-        Sort::Cut => Next::Stray,
-        Sort::Dump => Next::Stray,
-        Sort::Alone(_) => Next::Stray,
-        Sort::Other => Next::Stray,
+        Sort::Done => Next::Mistake,
+        Sort::Cut => Next::Mistake,
+        Sort::Dump => Next::Mistake,
+        Sort::Alone(_) => Next::Mistake,
+        Sort::Other => Next::Mistake,
     }
 }
 
@@ -71,11 +71,11 @@ fn replied(s: Sort) -> Next
         Sort::Reply => Next::Mistake,
         Sort::Expect => Next::To(Place::Expected),
         Sort::Refuse => Next::To(Place::Refusal),
-        Sort::Done => Next::Stray,
-        Sort::Cut => Next::Stray,
-        Sort::Dump => Next::Stray,
-        Sort::Alone(_) => Next::Stray,
-        Sort::Other => Next::Stray,
+        Sort::Done => Next::Mistake,
+        Sort::Cut => Next::Mistake,
+        Sort::Dump => Next::Mistake,
+        Sort::Alone(_) => Next::Mistake,
+        Sort::Other => Next::Mistake,
     }
 }
 
@@ -105,11 +105,11 @@ fn more_expected(s: Sort) -> Next
         Sort::Reply => Next::Mistake,
         Sort::Expect => Next::Mistake,
         Sort::Refuse => Next::To(Place::Refusal),
-        Sort::Done => Next::Stray,
-        Sort::Cut => Next::Stray,
-        Sort::Dump => Next::Stray,
-        Sort::Alone(_) => Next::Stray,
-        Sort::Other => Next::Stray,
+        Sort::Done => Next::Mistake,
+        Sort::Cut => Next::Mistake,
+        Sort::Dump => Next::Mistake,
+        Sort::Alone(_) => Next::Mistake,
+        Sort::Other => Next::Mistake,
     }
 }
 
@@ -122,28 +122,11 @@ fn after_event(s: Sort) -> Next
         Sort::Reply => Next::Mistake,
         Sort::Expect => Next::Mistake,
         Sort::Refuse => Next::To(Place::Refusal),
-        Sort::Done => Next::Stray,
-        Sort::Cut => Next::Stray,
-        Sort::Dump => Next::Stray,
-        Sort::Alone(_) => Next::Stray,
-        Sort::Other => Next::Stray,
-    }
-}
-
-fn at_end(s: Sort) -> Next
-    ensures { λ r. ⌜ r ≡ afterAll s ⌝ }
-{
-    match s {
-        Sort::Byte => Next::Mistake,
-        Sort::Any => Next::Mistake,
-        Sort::Reply => Next::Mistake,
-        Sort::Expect => Next::Mistake,
-        Sort::Refuse => Next::Mistake,
-        Sort::Done => Next::Stray,
-        Sort::Cut => Next::Stray,
-        Sort::Dump => Next::Stray,
-        Sort::Alone(_) => Next::Stray,
-        Sort::Other => Next::Stray,
+        Sort::Done => Next::Mistake,
+        Sort::Cut => Next::Mistake,
+        Sort::Dump => Next::Mistake,
+        Sort::Alone(_) => Next::Mistake,
+        Sort::Other => Next::Mistake,
     }
 }
 
@@ -169,7 +152,7 @@ pub fn follows(place: Place, w: Word) -> Next
         Place::CutCount => where_true(w.decimal, Place::AfterEvent),
         Place::DumpPlace => { where_true(w.hexadecimal & (w.length <= 6), Place::DumpCount) }
         Place::DumpCount => where_true(w.decimal, Place::End),
-        Place::End => at_end(sort),
+        Place::End => Next::Mistake,
     }
 }
 
@@ -221,6 +204,24 @@ fn is_awaited(s: Sort) -> bool
         Sort::Reply => false,
         Sort::Expect => false,
         Sort::Refuse => false,
+        Sort::Done => false,
+        Sort::Cut => false,
+        Sort::Dump => false,
+        Sort::Alone(_) => false,
+        Sort::Other => false,
+    }
+}
+
+// >, = or !.
+pub fn is_sign(s: Sort) -> bool
+    ensures { λ r. ⌜ r ≡ isSign s ⌝ }
+{
+    match s {
+        Sort::Byte => false,
+        Sort::Any => false,
+        Sort::Reply => true,
+        Sort::Expect => true,
+        Sort::Refuse => true,
         Sort::Done => false,
         Sort::Cut => false,
         Sort::Dump => false,
@@ -295,13 +296,6 @@ fn counted(n: usize, test: bool) -> usize
     } else {
         n
     }
-}
-
-// At most that many.
-fn at_most(n: u64, most: u64) -> u64
-    ensures { λ r. ⌜ r ≡ min n most ⌝ }
-{
-    if n < most { n } else { most }
 }
 
 fn with_verb(s: Said, verb: Verb, sent: usize) -> Said
@@ -420,9 +414,9 @@ pub fn heard(place: Place, w: Word, s: Said) -> Said
     let verb = verb_of(sort);
     let sent = counted(s.sent, is_byte(sort));
     let expected = counted(s.expected, is_awaited(sort));
-    let wanted = at_most(w.number, 65537) as usize;
-    let number = at_most(w.number, 12) as u8;
-    let count = at_most(w.number, 2097152);
+    let wanted = smaller(w.number as usize, 65537);
+    let number = smaller(w.number as usize, 12) as u8;
+    let count = smaller(w.number as usize, 2097152) as u64;
     match place {
         Place::First => with_verb(s, verb, sent),
         Place::Sent => with_sent(s, sent),

@@ -6,13 +6,7 @@ ghost use mathlib.Core.Path.{_≡_};
 ghost use Prim.Native.Nat.{_+_, _*_, _%_, _^_, min};
 ghost use lib.Dec.{eqb};
 ghost use Rattle.rules.specs.Words.{pick};
-ghost use Rattle.grammar.specs.Words.{blank, endsWords, digitOf, oneMore, tensOf, noWord, noWordAt, wordWith, byKey, sortOf, byteOf};
-
-pub fn smaller(a: usize, b: usize) -> usize
-    ensures { λ r. ⌜ r ≡ min a b ⌝ }
-{
-    if a < b { a } else { b }
-}
+ghost use Rattle.grammar.specs.Words.{blank, endsWords, digitOf, oneMore, tensOf, noWord, wordWith, byKey, sortOf, byteOf};
 
 // One more, at most 2^64 - 1.
 pub fn one_more(n: usize) -> usize
@@ -28,11 +22,11 @@ pub fn is_blank(b: u8) -> bool
     (b == 32) | ((b == 9) | ((b == 11) | ((b == 12) | (b == 13))))
 }
 
-// # or a blank.
+// #, one of the signs ! = >, or a blank.
 pub fn ends_words(b: u8) -> bool
     ensures { λ r. ⌜ r ≡ endsWords b ⌝ }
 {
-    (b == 35) | is_blank(b)
+    (b == 35) | ((b == 33) | ((b == 61) | ((b == 62) | is_blank(b))))
 }
 
 // What a hex digit stands for; 16 for any other byte.
@@ -96,30 +90,13 @@ fn hex_after(hex: usize, d: u8) -> usize
     hex % 1048576 * 16 + d as usize
 }
 
-// No word yet, after so many blanks.
-pub fn none(blanks: u8) -> Word
-    ensures { λ r. ⌜ r ≡ noWord blanks ⌝ }
-{
-    Word {
-        length: 0,
-        column: 0,
-        blanks,
-        key: 1,
-        decimal: true,
-        number: 0,
-        hexadecimal: true,
-        hex: 0,
-    }
-}
-
-// No word, where a remark begins.
-pub fn none_at(column: usize) -> Word
-    ensures { λ r. ⌜ r ≡ noWordAt column ⌝ }
+// No word; where a remark begins, its column.
+pub fn none(column: usize) -> Word
+    ensures { λ r. ⌜ r ≡ noWord column ⌝ }
 {
     Word {
         length: 0,
         column,
-        blanks: 0,
         key: 1,
         decimal: true,
         number: 0,
@@ -136,7 +113,6 @@ pub fn longer(w: Word, b: u8, column: usize) -> Word
     Word {
         length: length_after(w.length),
         column: column_after(w.length, w.column, column),
-        blanks: w.blanks,
         key: key_after(w.key, b),
         decimal: w.decimal & (d < 10),
         number: tens(w.number, d),

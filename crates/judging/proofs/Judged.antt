@@ -1,28 +1,29 @@
 -- The parts of the decision, put together. Assumes nothing.
 use Prim.Native.Nat.{ℕ, _+_, _*_, _/_, _%_, _≤_, _<_}
 use mathlib.Core.Path.{_≡_, refl, sym, ap, _∙_}
-use mathlib.Core.Bool.{Bool, true, false, not, _&&_, _||_}
+use mathlib.Core.Bool.{Bool, true, false, not, _&&_, _||_, false≢true}
 use mathlib.Core.List.{List, [], _∷_}
 use native.Mathlib.Omega.{arith}
 use lib.Dec.{eqb}
+use borrow.Author.Tests.{not-true}
 use lib.ListN.{length, drop, length-drop}
 use Rattle.rules.specs.declared.Block.{Block}
 use Rattle.rules.specs.declared.Form.{Form}
 use Rattle.rules.specs.declared.Range.{Range}
 use Rattle.rules.specs.declared.Rest.{Rest}
 use Rattle.rules.specs.declared.Work.{Work}
-use Rattle.rules.specs.Words.{oneOf}
-use Rattle.rules.specs.Blocks.{arraySize, blockOf, blockAt, writeLocked}
-use Rattle.rules.specs.Works.{isNothing, canSuspend, arrayRange}
+use Rattle.rules.specs.Words.{oneOf, every, range, holds}
+use Rattle.rules.specs.Blocks.{arraySize, blockOf, blockAt, span, writeLocked}
+use Rattle.rules.specs.Works.{isNothing, isErase, isProgram, canSuspend, arrayRange}
 use Rattle.rules.specs.Frames.{formOf, listed, lengthRight, address, securityAddress}
 use Rattle.rules.specs.Programs.{reaches, reachesFirst}
 use Rattle.rules.specs.WellFormed.{numbersRight}
-use Rattle.rules.specs.Numbers.{notListed, wrongLength, whileBusy, noEnable, noIoc, suspension, noWel, closed, lockedTarget, first, commandTests}
-use Rattle.rules.proofs.Bools.{or-none}
+use Rattle.rules.specs.Numbers.{notListed, wrongLength, whileBusy, noEnable, noIoc, suspension, closed, lockedTarget, first, commandTests}
+use Rattle.rules.proofs.Bools.{or-none, never, every-of}
 use Rattle.rules.proofs.Blocks.{blockOf-lt, block-placed}
 use Rattle.rules.proofs.Ranges.{array-inside}
 use Rattle.rules.proofs.WellFormed.{nothing}
-use Rattle.judging.specs.Judging.{Judgeable}
+use Rattle.judging.specs.Judging.{Judgeable, changeTests}
 
 -- ---- ranges
 
@@ -34,6 +35,40 @@ block-found a n h e = rw e (blockOf-lt a h)
 
 pub block-inside : (n : ℕ) (b : Block) → n < 40 → b ≡ blockAt n → b .start + b .size ≤ arraySize
 block-inside n b h e = rw e (block-placed n h .inside)
+
+-- ---- opcodes
+
+-- an opcode that is in no list has no part of it either
+not-among : (ks ns : List ℕ) (x : ℕ) → every (λ n. oneOf n ks) ns ≡ true → oneOf x ks ≡ false → oneOf x ns ≡ false
+not-among ks ns x e f = never (oneOf x ns) (λ t. false≢true (sym f ∙ every-of (λ n. oneOf n ks) ns e x t))
+
+-- ---- 8, of an opcode that changes one block
+
+module _ (o : ℕ) where
+  abbrev changing : List ℕ
+  changing = 0x20 ∷ 0xD8 ∷ 0x02 ∷ 0x32 ∷ []
+
+  no-erase : (w h : Bool) → (w && oneOf o changing) ≡ false → false ≡ (w && (oneOf o (0x20 ∷ 0xD8 ∷ []) || oneOf o (0x02 ∷ 0x32 ∷ []) && h))
+  no-erase false h f = refl
+  no-erase true h f = rw (not-among changing (0x20 ∷ 0xD8 ∷ []) o refl f, not-among changing (0x02 ∷ 0x32 ∷ []) o refl f)
+
+  no-program : (w h k : Bool) → (w && oneOf o changing) ≡ false → false ≡ (w && (oneOf o (0x02 ∷ 0x32 ∷ []) || oneOf o (0x20 ∷ []) && h || oneOf o (0xD8 ∷ []) && k))
+  no-program false h k f = refl
+  no-program true h k f =
+      rw (not-among changing (0x02 ∷ 0x32 ∷ []) o refl f, not-among changing (0x20 ∷ []) o refl f, not-among changing (0xD8 ∷ []) o refl f)
+
+  module _ (aside : Work) (sent : List ℕ) (x y : Bool) (ey : y ≡ oneOf o changing) (none : not (x && y) ≡ true) where
+    pub no-erase-beside : x ≡ isErase aside
+        → false ≡ (isErase aside && (oneOf o (0x20 ∷ 0xD8 ∷ []) || oneOf o (0x02 ∷ 0x32 ∷ []) && holds (arrayRange aside) (address sent)))
+    no-erase-beside ex = no-erase (isErase aside) _ ((λ i. sym ex i && sym ey i) ∙ not-true _ none)
+
+    pub no-program-beside : x ≡ isProgram aside
+        → false
+        ≡ (isProgram aside
+        && (oneOf o (0x02 ∷ 0x32 ∷ [])
+        || oneOf o (0x20 ∷ []) && holds (range (address sent / 4096 * 4096) 4096) (arrayRange aside .start)
+        || oneOf o (0xD8 ∷ []) && holds (span (blockAt (blockOf (address sent)))) (arrayRange aside .start)))
+    no-program-beside ex = no-program (isProgram aside) _ _ ((λ i. sym ex i && sym ey i) ∙ not-true _ none)
 
 -- ---- 8, with nothing suspended
 
@@ -82,6 +117,31 @@ locked-block r o sent e t = rw (t, e) (sym (or-none _))
 pub locked-none : (r : Rest) (o : ℕ) (sent : List ℕ) → eqb o 0xC7 ≡ false → oneOf o (0x20 ∷ 0xD8 ∷ 0x02 ∷ 0x32 ∷ []) ≡ false → false ≡ lockedTarget r o sent
 locked-none r o sent e t = rw (t, e)
 
+-- ---- 9 to 11 in their order
+
+module _ (r : Rest) (o : ℕ) (sent : List ℕ) where
+  abbrev needing : List ℕ
+  needing = 0x20 ∷ 0xD8 ∷ 0xC7 ∷ 0x02 ∷ 0x32 ∷ 0xA5 ∷ 0x85 ∷ 0x01 ∷ 0xE8 ∷ 0x42 ∷ 0x8D ∷ 0x98 ∷ []
+
+  pub is-no-change : oneOf o needing ≡ false → 0 ≡ first (changeTests r o sent)
+  is-no-change f =
+      rw (f, not-among needing (0x42 ∷ 0x98 ∷ []) o refl f, not-among needing (0xA5 ∷ 0x85 ∷ []) o refl f, not-among needing (0xA5 ∷ []) o refl f, not-among needing (0x20 ∷ 0xD8 ∷ 0x02 ∷ 0x32 ∷ []) o refl f, not-among needing (0xC7 ∷ []) o refl f)
+
+  module _ (t : oneOf o needing ≡ true) where
+    pub is-9 : r .flags .wel ≡ false → 9 ≡ first (changeTests r o sent)
+    is-9 w = rw (t, w)
+
+    module _ (w : r .flags .wel ≡ true) where
+      pub is-10 : closed r o sent ≡ true → 10 ≡ first (changeTests r o sent)
+      is-10 c = rw (t, w, c)
+
+      module _ (f : closed r o sent ≡ false) where
+        pub is-11 : lockedTarget r o sent ≡ true → 11 ≡ first (changeTests r o sent)
+        is-11 l = rw (t, w, f, l)
+
+        pub is-0 : lockedTarget r o sent ≡ false → 0 ≡ first (changeTests r o sent)
+        is-0 l = rw (t, w, f, l)
+
 -- ---- the first that applies
 
 module _ {r : Rest} {o : ℕ} {f : Form} {sent : List ℕ} (j : Judgeable r o f sent) where
@@ -122,20 +182,6 @@ module _ {r : Rest} {o : ℕ} {f : Form} {sent : List ℕ} (j : Judgeable r o f 
             is-8 t = rw (sym (j .first-byte), f₃, f₄, f₅, f₆, f₇, t)
 
             module _ (f₈ : suspension r o sent ≡ false) where
-              pub is-9 : noWel r o ≡ true → 9 ≡ first (commandTests r sent)
+              pub is-later : {n : ℕ} → n ≡ first (changeTests r o sent) → n ≡ first (commandTests r sent)
               unfolding commandTests
-              is-9 t = rw (sym (j .first-byte), f₃, f₄, f₅, f₆, f₇, f₈, t)
-
-              module _ (f₉ : noWel r o ≡ false) where
-                pub is-10 : closed r o sent ≡ true → 10 ≡ first (commandTests r sent)
-                unfolding commandTests
-                is-10 t = rw (sym (j .first-byte), f₃, f₄, f₅, f₆, f₇, f₈, f₉, t)
-
-                module _ (f₁₀ : closed r o sent ≡ false) where
-                  pub is-11 : lockedTarget r o sent ≡ true → 11 ≡ first (commandTests r sent)
-                  unfolding commandTests
-                  is-11 t = rw (sym (j .first-byte), f₃, f₄, f₅, f₆, f₇, f₈, f₉, f₁₀, t)
-
-                  pub is-0 : lockedTarget r o sent ≡ false → 0 ≡ first (commandTests r sent)
-                  unfolding commandTests
-                  is-0 f = rw (sym (j .first-byte), f₃, f₄, f₅, f₆, f₇, f₈, f₉, f₁₀, f)
+              is-later e = rw (sym (j .first-byte), f₃, f₄, f₅, f₆, f₇, f₈) e

@@ -18,8 +18,8 @@ ghost use Rattle.rules.specs.Works.{isErase, isProgram, arrayRange};
 ghost use Rattle.rules.specs.Frames.{leastLength, listed, lengthRight, address};
 ghost use Rattle.rules.specs.Programs.{reachesFirst};
 ghost use Rattle.rules.specs.WellFormed.{numbersRight};
-ghost use Rattle.rules.specs.Numbers.{answerNumber, whileBusy, noEnable, noIoc, suspension, noWel, closed, lockedTarget, first, commandTests};
-ghost use Rattle.judging.specs.Judging.{Judgeable};
+ghost use Rattle.rules.specs.Numbers.{answerNumber, whileBusy, noEnable, noIoc, suspension, closed, lockedTarget, first, commandTests};
+ghost use Rattle.judging.specs.Judging.{Judgeable, changeTests};
 
 // ---- 3 to 7
 
@@ -70,9 +70,12 @@ fn beside_erase(aside: Work, op: u8, sent: &[u8]) -> bool
     requires { ⌜ numbersRight aside ≡ true ⌝ }
     ensures { λ b. ⌜ b ≡ (isErase aside && (oneOf op (0x20 ∷ 0xD8 ∷ []) || oneOf op (0x02 ∷ 0x32 ∷ []) && holds (arrayRange aside) (address (now (sent .entry))))) ⌝ }
 {
+    if !(blocks::is_erase(aside) & named::in_a_block(op)) {
+        return false;
+    }
     let erased = blocks::array_range(aside);
     let into = blocks::holds_place(erased, opcodes::address_of(sent));
-    blocks::is_erase(aside) & (named::erases(op) | named::programs(op) & into)
+    named::erases(op) | named::programs(op) & into
 }
 
 // With WSP 1.
@@ -80,6 +83,9 @@ fn beside_program(aside: Work, op: u8, sent: &[u8]) -> bool
     requires { ⌜ numbersRight aside ≡ true ⌝ }
     ensures { λ b. ⌜ b ≡ (isProgram aside && (oneOf op (0x02 ∷ 0x32 ∷ []) || oneOf op (0x20 ∷ []) && holds (range (address (now (sent .entry)) / 4096 * 4096) 4096) (arrayRange aside .start) || oneOf op (0xD8 ∷ []) && holds (span (blockAt (blockOf (address (now (sent .entry)))))) (arrayRange aside .start))) ⌝ }
 {
+    if !(blocks::is_program(aside) & named::in_a_block(op)) {
+        return false;
+    }
     let page = blocks::array_range(aside);
     let a = opcodes::address_of(sent);
     let sector = Range {
@@ -93,8 +99,7 @@ fn beside_program(aside: Work, op: u8, sent: &[u8]) -> bool
     };
     let in_sector = blocks::holds_place(sector, page.start);
     let in_block = blocks::holds_place(block, page.start);
-    blocks::is_program(aside)
-        & (named::programs(op) | named::is(op, 0x20) & in_sector | named::is(op, 0xd8) & in_block)
+    named::programs(op) | named::is(op, 0x20) & in_sector | named::is(op, 0xd8) & in_block
 }
 
 // 8, clause by clause.
@@ -128,12 +133,6 @@ fn conflicts(r: Rest, op: u8, sent: &[u8]) -> bool
 }
 
 // ---- 9 to 11
-
-fn no_wel(r: Rest, op: u8) -> bool
-    ensures { λ b. ⌜ b ≡ noWel r op ⌝ }
-{
-    named::needs_wel(op) & !r.flags.wel
-}
 
 // A5 sends a byte to places 0 to 7.
 fn reaches_first(sent: &[u8]) -> bool
@@ -173,6 +172,26 @@ fn is_locked(r: Rest, op: u8, sent: &[u8]) -> bool
 
 // ---- the first that applies
 
+// 9 to 11: none of them is of a command that needs no WEL.
+fn judge_change(r: Rest, op: u8, sent: &[u8]) -> Answer
+    requires { ⌜ length (now sent) ≤ 65536 ⌝ }
+    ensures { λ a. ⌜ answerNumber a ≡ first (changeTests r op (now (sent .entry))) ⌝ }
+{
+    if !named::needs_wel(op) {
+        return Answer::Done;
+    }
+    if !r.flags.wel {
+        return Answer::Refused(Refusal::NoWel);
+    }
+    if is_closed(r, op, sent) {
+        return Answer::Refused(Refusal::Closed);
+    }
+    if is_locked(r, op, sent) {
+        return Answer::Refused(Refusal::WriteLocked);
+    }
+    Answer::Done
+}
+
 // The number of a frame that is not empty, with a well-formed record and right lengths.
 pub fn judge(r: Rest, op: u8, form: Form, sent: &[u8]) -> Answer
     requires { ⌜ Judgeable r op form (now sent) ⌝ }
@@ -196,14 +215,5 @@ pub fn judge(r: Rest, op: u8, form: Form, sent: &[u8]) -> Answer
     if conflicts(r, op, sent) {
         return Answer::Refused(Refusal::Suspension);
     }
-    if no_wel(r, op) {
-        return Answer::Refused(Refusal::NoWel);
-    }
-    if is_closed(r, op, sent) {
-        return Answer::Refused(Refusal::Closed);
-    }
-    if is_locked(r, op, sent) {
-        return Answer::Refused(Refusal::WriteLocked);
-    }
-    Answer::Done
+    judge_change(r, op, sent)
 }

@@ -2,13 +2,15 @@
 use Prim.Native.Nat.{ℕ}
 use mathlib.Core.Bool.{Bool, true, false}
 use mathlib.Core.List.{List, [], _∷_}
+use Rattle.rules.specs.declared.Rest.{Rest}
 use Rattle.rules.specs.declared.Work.the-variants.{Nothing, EraseSector, EraseBlock, EraseArray, ProgramPage, ProgramSecurity, LockSecurity, WriteConfiguration, AddPermanent}
-use Rattle.rules.specs.Fields.{flagsOf}
-use Rattle.record_code.specs.Layout.{recordSize, placeOf, flagsNumber, kindOf}
+use Rattle.rules.specs.Fields.{withSqi, withWel, withIoc, withWpen, withWpld, withSec, withEnable, flagsNumber}
+use Rattle.rules.specs.Commands.{newChip}
+use Rattle.record_code.specs.Layout.{recordSize, placeOf, kindOf}
 
--- the flags' byte where one flag alone is set
-abbrev pub flagOf : Bool → Bool → Bool → Bool → Bool → Bool → Bool → ℕ
-flagOf sqi wel ioc wpen wpld sec enable = flagsNumber (flagsOf sqi wel ioc wpen wpld sec enable)
+-- the flags' byte where a new chip's record has one flag set
+abbrev pub flagBy : (Bool → Rest → Rest) → ℕ
+flagBy set = flagsNumber (set true (newChip .rest) .flags)
 
 abbrev pub numbers : List ℕ
 numbers =
@@ -31,11 +33,11 @@ numbers =
     ∷ kindOf LockSecurity
     ∷ kindOf (WriteConfiguration false false)
     ∷ kindOf (AddPermanent 0)
-    ∷ flagOf true false false false false false false
-    ∷ flagOf false true false false false false false
-    ∷ flagOf false false true false false false false
-    ∷ flagOf false false false true false false false
-    ∷ flagOf false false false false true false false
-    ∷ flagOf false false false false false true false
-    ∷ flagOf false false false false false false true
+    ∷ flagBy withSqi
+    ∷ flagBy withWel
+    ∷ flagBy withIoc
+    ∷ flagBy withWpen
+    ∷ flagBy withWpld
+    ∷ flagBy withSec
+    ∷ flagBy withEnable
     ∷ []

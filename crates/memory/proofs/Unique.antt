@@ -8,9 +8,8 @@ use native.Mathlib.Decide.{decLt}
 use lib.ListN.{getD}
 use lib.Seq.{ext-getD}
 use Rattle.rules.proofs.Promises.{one, lent-one}
-use Rattle.blocks.proofs.Unique.{OneResult}
+use Rattle.rules.proofs.Outcomes.{OneResult, OneList}
 use Rattle.memory.specs.Patched.{Patched}
-use Rattle.memory.proofs.smaller.Reads as smaller
 use Rattle.memory.proofs.set_all.Reads as set-all
 use Rattle.memory.proofs.copy.Reads as copy
 use Rattle.memory.proofs.clear_bits.Reads as clear-bits
@@ -30,13 +29,6 @@ patched-one {l} {k} {l₀} {from} {n} {f} p q = ext-getD 0 l k (p .size ∙ sym 
         let e : from + (i - from) ≡ i = omega arith in
         ap (λ (x : ℕ). getD l x 0) (sym e) ∙ p .inside (i - from) (omega arith) ∙ sym (q .inside (i - from) (omega arith)) ∙ ap (λ (x : ℕ). getD k x 0) e
     go i (no b) (no d) = p .after i (omega arith) ∙ sym (q .after i (omega arith))
-
--- a post-condition over lifetimes, arguments, the result and the arguments at exit leaves one list in the slice that `lies` finds
-abbrev pub OneList : {K A R : Type 0} → (K → A → R → A → Type 0) → (A → List ℕ) → Type 0
-OneList {K} {A} {R} Post lies = (κ : K) (a x y : A) (r r′ : R) → Post κ a r x → Post κ a r′ y → lies x ≡ lies y
-
-pub smaller-one : OneResult smaller.Post
-smaller-one κ a x y r r′ p q = one p q
 
 pub set-all-one : OneList set-all.Post (λ a. a .0 .now)
 set-all-one κ a x y r r′ p q = patched-one p q

@@ -1,8 +1,9 @@
 // Loops over lent bytes: pieces of memory, the page buffer, and finishing the first k bytes of work.
 use rules::Work;
+use rules::plain::smaller;
 ghost use mathlib.Core.Path.{_≡_};
 ghost use mathlib.Core.Bool.{true};
-ghost use Prim.Native.Nat.{_+_, _≤_, _<_, min};
+ghost use Prim.Native.Nat.{_+_, _≤_, _<_};
 ghost use lib.ListN.{length, getD, drop};
 ghost use lib.Bits.{bitAnd};
 ghost use Rattle.rules.specs.Words.{lent};
@@ -11,12 +12,6 @@ ghost use Rattle.rules.specs.Works.{arrayRange, securityRange, finish};
 ghost use Rattle.rules.specs.Programs.{blank, fill};
 ghost use Rattle.rules.specs.WellFormed.{firstFF, numbersRight};
 ghost use Rattle.memory.specs.Patched.{Patched};
-
-pub fn smaller(a: usize, b: usize) -> usize
-    ensures { λ r. ⌜ r ≡ min a b ⌝ }
-{
-    if a < b { a } else { b }
-}
 
 // n bytes from `from` on become v.
 pub fn set_all(s: &mut [u8], from: usize, n: usize, v: u8)

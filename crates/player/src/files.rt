@@ -8,7 +8,7 @@ use crate::bench::begun;
 use crate::lines::line_played;
 use crate::reading::Input;
 use crate::reading::next_line;
-use crate::reading::unread;
+use crate::reading::nothing_came;
 use crate::say::say;
 use crate::say::say_row;
 
@@ -26,7 +26,7 @@ fn lines_played(
 ) -> Bench {
     let mut turns = u64::MAX;
     let mut now = begun();
-    let mut rest = unread();
+    let mut rest = nothing_came();
     while turns > 0 && rest.more {
         turns -= 1;
         let heard = next_line(rest, fd, input, frame, expected, known);

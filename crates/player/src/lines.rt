@@ -15,6 +15,7 @@ use crate::questions::locks_told;
 use crate::questions::status_told;
 use crate::questions::work_told;
 use crate::say::say_row;
+use script::Hint;
 use script::Line;
 use script::Place;
 use script::Verb;
@@ -37,11 +38,27 @@ fn place_number(p: Place) -> u8 {
     }
 }
 
+fn hint_told(hint: Hint) {
+    match hint {
+        Hint::Nothing => {}
+        Hint::TwoDigits => {
+            say_row(wording::hint_row(0));
+        }
+        Hint::Apart => {
+            say_row(wording::hint_row(1));
+        }
+        Hint::LowerCase => {
+            say_row(wording::hint_row(2));
+        }
+    }
+}
+
 fn wrong_told(b: Bench, l: Line) -> Bench {
     let word = l.word;
     let place = l.place;
     say_row(wording::wrong_row(b.line, &word, l.length, l.column));
     say_row(wording::allowed_row(place_number(place)));
+    hint_told(script::hint_of(place, &word, l.length));
     with_wrong(b)
 }
 

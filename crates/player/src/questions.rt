@@ -42,14 +42,7 @@ pub fn locks_told(b: Bench) {
 
 // How many of the places from start on the array has.
 fn there(start: usize, count: u64) -> usize {
-    if 2097152 <= start {
-        return 0;
-    }
-    let rest = 2097152 - start;
-    if count < rest as u64 {
-        return count as usize;
-    }
-    rest
+    rows::count_within(2097152, start, count as usize)
 }
 
 fn dump_rows(start: usize, n: usize, array: &[u8]) {

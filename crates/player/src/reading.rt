@@ -8,7 +8,7 @@ use script::Reading;
 pub type Input = [u8; 65536];
 
 // The bytes of the input that came and are not read yet, and whether there may be more.
-pub struct Rest {
+pub struct Unread {
     pub from: usize,
     pub to: usize,
     pub more: bool,
@@ -17,19 +17,19 @@ pub struct Rest {
 // A line half read.
 pub struct Half {
     reading: Reading,
-    rest: Rest,
+    rest: Unread,
     ended: bool,
 }
 
 // A line, and what comes after it.
 pub struct Heard {
     pub line: Line,
-    pub rest: Rest,
+    pub rest: Unread,
 }
 
 // Nothing came yet.
-pub fn unread() -> Rest {
-    Rest {
+pub fn nothing_came() -> Unread {
+    Unread {
         from: 0,
         to: 0,
         more: true,
@@ -42,11 +42,11 @@ fn failure_told(got: isize) {
     }
 }
 
-fn refilled(fd: i32, input: &mut Input) -> Rest {
+fn refilled(fd: i32, input: &mut Input) -> Unread {
     let got = libc::read(fd, input);
     failure_told(got);
     let n = io::count(got, input);
-    Rest {
+    Unread {
         from: 0,
         to: n,
         more: n != 0,
@@ -54,7 +54,7 @@ fn refilled(fd: i32, input: &mut Input) -> Rest {
 }
 
 // With a byte to read, where the input has not ended.
-fn filled(rest: Rest, fd: i32, input: &mut Input) -> Rest {
+fn filled(rest: Unread, fd: i32, input: &mut Input) -> Unread {
     if rest.from < rest.to {
         return rest;
     }
@@ -73,8 +73,8 @@ fn line_end(text: &[u8], from: usize, to: usize) -> usize {
     i
 }
 
-fn past(rest: Rest, end: usize) -> Rest {
-    Rest {
+fn past(rest: Unread, end: usize) -> Unread {
+    Unread {
         from: std::num::wrapping_add_usize(end, 1),
         to: rest.to,
         more: rest.more,
@@ -102,7 +102,7 @@ fn part_read(
 
 // A proved loop has to end, and nothing says that a line does: so it counts its turns down, from a number that no run uses up.
 fn line_read(
-    rest: Rest,
+    rest: Unread,
     fd: i32,
     input: &mut Input,
     frame: &mut Lent,
@@ -123,7 +123,7 @@ fn line_read(
 }
 
 pub fn next_line(
-    rest: Rest,
+    rest: Unread,
     fd: i32,
     input: &mut Input,
     frame: &mut Lent,

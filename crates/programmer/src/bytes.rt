@@ -1,4 +1,5 @@
 // Bytes of slices and of standard input.
+use rules::plain::smaller;
 ghost use Prim.Native.Nat.{_≤_};
 
 // Whether two slices hold the same.
@@ -14,12 +15,6 @@ pub fn same(a: &[u8], b: &[u8]) -> bool {
         i += 1;
     }
     true
-}
-
-fn smaller(a: usize, b: usize) -> usize
-    ensures { λ r. ⌜ (r ≤ a) × (r ≤ b) ⌝ }
-{
-    if a < b { a } else { b }
 }
 
 // Reads at most 4,096 of n bytes to come, which go nowhere, and answers how many are left: n where the input has ended.

@@ -1,5 +1,6 @@
 // Reads: bytes and marks into the lent reply.
 use rules::Range;
+use rules::plain::smaller;
 ghost use mathlib.Core.Path.{_≡_};
 ghost use mathlib.Core.List.{[], _∷_};
 ghost use Prim.Native.Nat.{_+_, _-_, _*_, _/_, _%_, _^_, _≤_, _<_};
@@ -49,7 +50,7 @@ pub fn read_array(p: u64, r: Range, array: &[u8], at: usize, reply: &mut [u8], m
     let mut i: usize = 0;
     while i < reply.len() {
         let a = (at + i) % 2097152;
-        let n = memory::smaller(256 - a % 256, reply.len() - i);
+        let n = smaller(256 - a % 256, reply.len() - i);
         read_piece(p, r, array, a, n, reply, marks, i);
         i += n;
     }

@@ -8,14 +8,15 @@ use mathlib.Core.List.{List, _++_}
 use native.Mathlib.Omega.{arith}
 use lib.Dec.{eqb, ltb, lit<}
 use lib.ListN.{length, getD, take, drop, take-append-drop, length-append, length-drop}
-use lib.Seq.{take-all, take-at}
+use lib.Seq.{take-all, take-at, drop-append-add, drop-drop}
 use borrow.Author.Tests.{eq-eqb, lt-ltb, eqb-true, ltb-true}
 use Rattle.rules.specs.declared.Chip.{Chip}
 use Rattle.rules.specs.declared.Rest.{Rest}
-use Rattle.rules.specs.Fields.{locksOf, worksOf, restOf, chipOf}
+use Rattle.rules.specs.Fields.{locksOf, worksOf, restOf, chipOf, flagsNumber, flagsIn, flagsBound}
 use Rattle.rules.proofs.Bools.{and-split, and-both}
-use Rattle.record_code.specs.Layout.{placeOf, sizeOf, recordSize, bytes, numberAt, fieldIn, kindOf, numberOf, flagsNumber, flagsIn, restCode, code, workRight, workOf, restIn, isCode, chipIn, decode, TypedRest, Typed}
-use Rattle.record_code.proofs.Laws.{number-past, number-bytes, bytes-number, parts, work-back, work-small, work-kept, flags-back, flags-kept}
+use Rattle.rules.proofs.Fields.{flags-back, flags-kept}
+use Rattle.record_code.specs.Layout.{placeOf, sizeOf, recordSize, bytes, numberAt, fieldIn, kindOf, numberOf, restCode, code, workRight, workOf, restIn, isCode, NothingReserved, chipIn, decode, TypedRest, Typed}
+use Rattle.record_code.proofs.Laws.{number-past, number-bytes, bytes-number, bytes-none, parts, work-back, work-small, work-kept}
 
 -- the page and what stands behind it
 pub code-of : (b : List ℕ) (r : Rest) → code (chipOf b r) ≡ b ++ restCode r
@@ -61,7 +62,7 @@ module _ (l : List ℕ) (r : Rest) (h : Holds l r) where
         h .suspended-kind,
         h .suspended-number,
         work-back (r .works .suspended) .0,
-        lt-ltb (fieldIn l "flags") 128 (rw (h .flags) (flags-back (r .flags) .0)),
+        lt-ltb (fieldIn l "flags") flagsBound (rw (h .flags) (flags-back (r .flags) .0)),
         eq-eqb (fieldIn l "reserved") 0 (h .reserved),
       )
 
@@ -155,7 +156,7 @@ known-holds : (l : List ℕ) → isCode l ≡ true → Holds l (restIn l)
 unfolding isCode restIn
 known-holds l e =
     let z = and-split _ (eqb (fieldIn l "reserved") 0) (and-split (eqb (length l) recordSize) _ e .1) in
-    let f = and-split _ (ltb (fieldIn l "flags") 128) (z .0) in
+    let f = and-split _ (ltb (fieldIn l "flags") flagsBound) (z .0) in
     let w = and-split (workRight (fieldIn l "running kind") (fieldIn l "running number")) _ (f .0) in
     let w₁ = work-kept (fieldIn l "running number") (fieldIn l "running kind") (w .0) in
     let w₂ = work-kept (fieldIn l "suspended number") (fieldIn l "suspended kind") (w .1) in
@@ -166,9 +167,19 @@ known-holds l e =
       suspended-number = sym (w₂ .1);
       running-kind = sym (w₁ .0);
       suspended-kind = sym (w₂ .0);
-      flags = sym (flags-kept (fieldIn l "flags") (ltb-true (fieldIn l "flags") 128 (f .1)));
+      flags = sym (flags-kept (fieldIn l "flags") (ltb-true (fieldIn l "flags") flagsBound (f .1)));
       reserved = eqb-true (fieldIn l "reserved") 0 (z .1);
     }
+
+pub known-reserved : (l : List ℕ) → isCode l ≡ true → NothingReserved l
+known-reserved l e = bytes-none l (placeOf "reserved") (sizeOf "reserved") (known-length l e) (known-holds l e .reserved)
+
+-- a page changed in place leaves them
+pub reserved-kept : (p l : List ℕ) → length p ≡ sizeOf "page" → NothingReserved l → NothingReserved (p ++ drop (sizeOf "page") l)
+reserved-kept p l size h =
+    let behind = placeOf "reserved" - sizeOf "page" in
+    let at : length p + behind ≡ placeOf "reserved" = omega arith in
+    (rw at at (drop-append-add p (drop (sizeOf "page") l) behind)) ∙ drop-drop behind (sizeOf "page") l ∙ h
 
 -- the code of what is read from a code is the code
 pub code-decode : (l : List ℕ) → ((i : ℕ) → getD l i 0 < 256) → isCode l ≡ true → code (chipIn l) ≡ l

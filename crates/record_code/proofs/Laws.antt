@@ -1,4 +1,4 @@
--- Numbers in bytes, works and flags: each goes back to what it came from. Assumes nothing.
+-- Numbers in bytes, and works: each goes back to what it came from. Assumes nothing.
 use Prim.Native.Nat.{ℕ, zero, suc, _+_, _*_, _/_, _%_, _^_, _≤_, _<_}
 use mathlib.Core.Path.{_≡_, refl, sym, ap, _∙_}
 use mathlib.Core.Bool.{Bool, true, false, _&&_}
@@ -8,16 +8,14 @@ use native.Mathlib.Omega.{arith}
 use native.Mathlib.Numerals.{add-one}
 use lib.Dec.{eqb, ltb}
 use lib.ListN.{length, getD, take, drop}
-use lib.Seq.{getD-append-add, drop-cons, drop-drop, take-add}
+use lib.Seq.{getD-append-add, drop-cons, drop-drop, drop-length, take-add}
 use borrow.Author.Tests.{eqb-true, eq-eqb, ltb-true}
-use Rattle.rules.specs.declared.Flags.{Flags}
 use Rattle.rules.specs.declared.Work.{Work}
 use Rattle.rules.specs.declared.Work.the-variants.{Nothing, EraseSector, EraseBlock, EraseArray, ProgramPage, ProgramSecurity, LockSecurity, WriteConfiguration, AddPermanent}
-use Rattle.rules.specs.Fields.{flagsOf}
 use Rattle.rules.specs.Words.{bit, num, oneOf, Each, end, _next_}
 use Rattle.rules.proofs.Bools.{and-split, upto-at}
 use Rattle.rules.proofs.Rows.{at-one}
-use Rattle.record_code.specs.Layout.{bytes, numberAt, kindOf, numberOf, flagsNumber, workRight, workOf, flagsIn}
+use Rattle.record_code.specs.Layout.{bytes, numberAt, kindOf, numberOf, workRight, workOf}
 
 -- ---- numbers in bytes
 
@@ -48,6 +46,14 @@ bytes-number l small at (suc n) h =
     let m : (getD l at 0 + 256 * v) % 256 ≡ getD l at 0 = omega arith in
     let d : (getD l at 0 + 256 * v) / 256 ≡ v = omega arith in
     rw (drop-cons l at 0 (omega arith), ← add-one at, m, d, bytes-number l small (at + 1) n (omega arith))
+
+-- n bytes up to the end that hold 0 are all 0
+pub bytes-none : (l : List ℕ) (at n : ℕ) → length l ≡ at + n → numberAt l at n ≡ 0 → drop at l ≡ bytes n 0
+unfolding bytes
+bytes-none l at zero s e = let z : at ≡ length l = omega arith in rw z (drop-length l)
+bytes-none l at (suc n) s e =
+    let b : getD l at 0 ≡ 0 = omega arith in
+    rw (drop-cons l at 0 (omega arith), ← add-one at, b, bytes-none l (at + 1) n (omega arith) (omega arith))
 
 -- two parts in a row are one
 pub parts : (l : List ℕ) (at n m : ℕ) → take n (drop at l) ++ take m (drop (at + n) l) ≡ take (n + m) (drop at l)
@@ -99,38 +105,3 @@ module _ (n : ℕ) where
   -- a kind and a number that some work has are those of the work that they give
   pub work-kept : (k : ℕ) → Kept k
   work-kept k e = at-one Kept kinds k (upto-at 9 (λ m. oneOf m kinds) refl k (kind-small k n e)) each-kept e
-
--- ---- flags
-
-bit-small : (b : Bool) → num b ≤ 1
-bit-small true = omega arith
-bit-small false = omega arith
-
-bit-back : (n x : ℕ) (b : Bool) → x / 2 ^ n % 2 ≡ num b → bit n x ≡ b
-unfolding bit
-bit-back n x true e = eq-eqb _ 1 e
-bit-back n x false e = rw e
-
-pub flags-back : (f : Flags) → (flagsNumber f < 128) × (flagsIn (flagsNumber f) ≡ f)
-flags-back f =
-    let sqi = bit-small (f .sqi) in
-    let wel = bit-small (f .wel) in
-    let ioc = bit-small (f .ioc) in
-    let wpen = bit-small (f .wpen) in
-    let wpld = bit-small (f .wpld) in
-    let sec = bit-small (f .sec) in
-    let enable = bit-small (f .enable) in (
-      omega arith,
-      λ i. flagsOf
-          (bit-back 0 (flagsNumber f) (f .sqi) (omega arith) i)
-          (bit-back 1 (flagsNumber f) (f .wel) (omega arith) i)
-          (bit-back 2 (flagsNumber f) (f .ioc) (omega arith) i)
-          (bit-back 3 (flagsNumber f) (f .wpen) (omega arith) i)
-          (bit-back 4 (flagsNumber f) (f .wpld) (omega arith) i)
-          (bit-back 5 (flagsNumber f) (f .sec) (omega arith) i)
-          (bit-back 6 (flagsNumber f) (f .enable) (omega arith) i),
-    )
-
-pub flags-kept : (x : ℕ) → x < 128 → flagsNumber (flagsIn x) ≡ x
-unfolding bit
-flags-kept x h = eqb-true (flagsNumber (flagsIn x)) x (upto-at 128 (λ y. eqb (flagsNumber (flagsIn y)) y) refl x h)

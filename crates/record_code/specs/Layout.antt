@@ -5,13 +5,12 @@ use mathlib.Core.Path.{_≡_}
 use mathlib.Core.Bool.{Bool, not, _&&_, _||_}
 use mathlib.Core.List.{List, [], _∷_, _++_}
 use lib.Dec.{eqb, isEq, ltb}
-use lib.ListN.{length, getD, take}
+use lib.ListN.{length, getD, take, drop}
 use Rattle.rules.specs.declared.Chip.{Chip}
-use Rattle.rules.specs.declared.Flags.{Flags}
 use Rattle.rules.specs.declared.Rest.{Rest}
 use Rattle.rules.specs.declared.Work.{Work}
 use Rattle.rules.specs.declared.Work.the-variants.{Nothing, EraseSector, EraseBlock, EraseArray, ProgramPage, ProgramSecurity, LockSecurity, WriteConfiguration, AddPermanent}
-use Rattle.rules.specs.Fields.{locksOf, worksOf, flagsOf, restOf, chipOf}
+use Rattle.rules.specs.Fields.{locksOf, worksOf, restOf, chipOf, flagsNumber, flagsIn, flagsBound}
 use Rattle.rules.specs.Words.{bit, num, pick}
 
 -- ---- the layout
@@ -103,11 +102,6 @@ numberOf LockSecurity = 0
 numberOf (WriteConfiguration i w) = num i + 2 * num w
 numberOf (AddPermanent v) = v
 
--- from bit 0 on: SQI, WEL, IOC, WPEN, WPLD, SEC, and whether a 99 is taken next
-abbrev pub flagsNumber : Flags → ℕ
-flagsNumber f =
-    num (f .sqi) + 2 * num (f .wel) + 4 * num (f .ioc) + 8 * num (f .wpen) + 16 * num (f .wpld) + 32 * num (f .sec) + 64 * num (f .enable)
-
 -- what stands behind the page
 unfoldable pub restCode : Rest → List ℕ
 restCode r =
@@ -119,6 +113,10 @@ restCode r =
     ++ fieldOf "suspended kind" (kindOf (r .works .suspended))
     ++ fieldOf "flags" (flagsNumber (r .flags))
     ++ fieldOf "reserved" 0
+
+-- 0 in the reserved bytes
+abbrev pub NothingReserved : List ℕ → Type 0
+NothingReserved l = drop (placeOf "reserved") l ≡ fieldOf "reserved" 0
 
 unfoldable pub code : Chip → List ℕ
 code c = c .buffer ++ restCode (c .rest)
@@ -141,16 +139,13 @@ workOf k n =
     (pick (eqb k 8) (AddPermanent n)
     Nothing)))))))
 
-abbrev pub flagsIn : ℕ → Flags
-flagsIn x = flagsOf (bit 0 x) (bit 1 x) (bit 2 x) (bit 3 x) (bit 4 x) (bit 5 x) (bit 6 x)
-
--- two works that are right, seven flags, and 0 in the reserved bytes
+-- two works that are right, no bit beyond the flags, and 0 in the reserved bytes
 unfoldable pub isCode : List ℕ → Bool
 isCode l =
     eqb (length l) recordSize
     && (workRight (fieldIn l "running kind") (fieldIn l "running number")
     && workRight (fieldIn l "suspended kind") (fieldIn l "suspended number")
-    && ltb (fieldIn l "flags") 128
+    && ltb (fieldIn l "flags") flagsBound
     && eqb (fieldIn l "reserved") 0)
 
 unfoldable pub restIn : List ℕ → Rest

@@ -8,17 +8,19 @@ use rules::Works;
 ghost use mathlib.Core.Path.{_≡_};
 ghost use mathlib.Core.List.{_++_};
 ghost use Prim.Native.Nat.{_+_, _*_, _≤_};
-ghost use lib.Dec.{eqb};
-ghost use lib.ListN.{length, take};
+ghost use lib.Dec.{eqb, ltb};
+ghost use lib.ListN.{length, take, drop};
 ghost use Rattle.rules.specs.Words.{num};
-ghost use Rattle.record_code.specs.Layout.{bytes, numberAt, word, kindOf, numberOf, flagsNumber, flagsIn, workRight, workOf, restCode, restIn, isCode};
+ghost use Rattle.rules.specs.Fields.{flagsNumber, flagsIn, flagsBound};
+ghost use Rattle.rules.specs.Commands.{newChip};
+ghost use Rattle.record_code.specs.Layout.{bytes, numberAt, word, kindOf, numberOf, workRight, workOf, restCode, restIn, isCode, NothingReserved};
 
 // ---- from a record to bytes
 
-// A number in n bytes, behind those before it. At a known n the loop becomes one store.
+// A number in n bytes, between those before it and those behind. At a known n the loop becomes one store.
 fn put_number(coded: &mut [u8], at: usize, n: usize, x: u64)
     requires { ⌜ at + n ≤ length (now coded) ⌝ }
-    ensures { λ _. ⌜ take (at + n) (now (coded .exit)) ≡ take at (now (coded .entry)) ++ bytes n x ⌝ }
+    ensures { λ _. ⌜ (take (at + n) (now (coded .exit)) ≡ take at (now (coded .entry)) ++ bytes n x) × (drop (at + n) (now (coded .exit)) ≡ drop (at + n) (now (coded .entry))) ⌝ }
 {
     let mut left = x;
     let mut i: usize = 0;
@@ -86,9 +88,18 @@ fn flags_number(f: Flags) -> u64
         + 64 * bit_of(f.enable)
 }
 
-// What stands behind the page becomes the record's.
-pub fn put_rest(coded: &mut [u8], r: Rest)
+// What stands behind the page becomes a new chip's.
+pub fn put_new(coded: &mut [u8])
     requires { ⌜ length (now coded) ≡ 320 ⌝ }
+    ensures { λ _. ⌜ now (coded .exit) ≡ take 256 (now (coded .entry)) ++ restCode (newChip .rest) ⌝ }
+{
+    put_number(coded, 256, 8, 0x5555_ffff_ffff);
+    put_number(coded, 264, 56, 0);
+}
+
+// What stands behind the page becomes the record's. The reserved bytes are 0 already.
+pub fn put_rest(coded: &mut [u8], r: Rest)
+    requires { ⌜ (length (now coded) ≡ 320) × NothingReserved (now coded) ⌝ }
     ensures { λ _. ⌜ now (coded .exit) ≡ take 256 (now (coded .entry)) ++ restCode r ⌝ }
 {
     let works = r.works;
@@ -106,7 +117,6 @@ pub fn put_rest(coded: &mut [u8], r: Rest)
     put_number(coded, 288, 1, running_kind);
     put_number(coded, 289, 1, suspended_kind);
     put_number(coded, 290, 1, flags);
-    put_number(coded, 291, 29, 0);
 }
 
 // ---- from bytes to a record
@@ -177,6 +187,13 @@ fn flags_of(x: u8) -> Flags
     }
 }
 
+// No bit beyond the flags.
+fn flags_right(x: u8) -> bool
+    ensures { λ r. ⌜ r ≡ ltb x flagsBound ⌝ }
+{
+    (x as u64) < 128
+}
+
 // The reserved bytes are all 0. No early exit, so that the loop becomes a few wide instructions.
 fn nothing_reserved(coded: &[u8]) -> bool
     requires { ⌜ length (now coded) ≡ 320 ⌝ }
@@ -200,7 +217,7 @@ pub fn is_code(coded: &[u8]) -> bool
     }
     let running = work_right(coded[288], get_word(coded, 272));
     let suspended = work_right(coded[289], get_word(coded, 280));
-    running & suspended & (coded[290] < 128) & nothing_reserved(coded)
+    running & suspended & flags_right(coded[290]) & nothing_reserved(coded)
 }
 
 // What the record of the bytes holds behind its page.

@@ -1,18 +1,12 @@
 -- A row of text: bytes go behind those that are there, and what finds no room in 128 bytes is dropped.
 use Prim.Native.Nat.{ℕ, zero, suc, _+_, _-_, _/_, _%_, min}
-use Prim.Native.Char.{code}
-use Prim.Native.String.{String, [] as nil, _∷_ as _then_}
 use mathlib.Core.Bool.{Bool, _&&_}
 use mathlib.Core.List.{List, [], _∷_, _++_}
 use lib.Dec.{eqb, ltb, leb}
 use lib.ListN.{length, getD, set, replicate}
 use Rattle.rules.specs.Words.{pick}
+use Rattle.rules.specs.Texts.{ascii}
 use Rattle.rows.specs.declared.Row.{Row}
-
--- the bytes of a text in ASCII
-abbrev pub ascii : String → List ℕ
-ascii nil = []
-ascii (c then s) = code c ∷ ascii s
 
 -- ---- rows
 

@@ -1,4 +1,5 @@
 // A row of text by value, and what can be put behind it: texts, numbers, bytes. specs/Rows.antt says what each is.
+use rules::plain::smaller;
 ghost use mathlib.Core.Path.{_≡_};
 ghost use mathlib.Core.List.{[], _∷_};
 ghost use Prim.Native.Nat.{_+_, _≤_, min};
@@ -106,17 +107,11 @@ pub fn place(r: Row, k: usize, n: usize) -> Row
     hexadecimal(r, k, n as u64)
 }
 
-fn wide(b: u8) -> u64
-    ensures { λ r. ⌜ r ≡ b ⌝ }
-{
-    b as u64
-}
-
 // A byte as two digits.
 pub fn byte(r: Row, b: u8) -> Row
     ensures { λ q. ⌜ q ≡ put r (hex 2 b) ⌝ }
 {
-    hexadecimal(r, 2, wide(b))
+    hexadecimal(r, 2, b as u64)
 }
 
 pub fn count_within(n: usize, from: usize, most: usize) -> usize
@@ -125,8 +120,7 @@ pub fn count_within(n: usize, from: usize, most: usize) -> usize
     if n <= from {
         return 0;
     }
-    let rest = n - from;
-    if rest < most { rest } else { most }
+    smaller(n - from, most)
 }
 
 // At most `most` bytes from a place on; a place past the end shows nothing.
@@ -153,16 +147,10 @@ pub fn known_byte(r: Row, b: u8, mark: u8) -> Row
     byte(r, b)
 }
 
-pub fn least(a: usize, b: usize) -> usize
-    ensures { λ r. ⌜ r ≡ min a b ⌝ }
-{
-    if a < b { a } else { b }
-}
-
 pub fn marked_bytes(r: Row, l: &[u8], marks: &[u8], from: usize, most: usize) -> Row
     ensures { λ q. ⌜ q ≡ put r (marked (now (l .entry)) (now (marks .entry)) from (within (min (length (now (l .entry))) (length (now (marks .entry)))) from most)) ⌝ }
 {
-    let n = count_within(least(l.len(), marks.len()), from, most);
+    let n = count_within(smaller(l.len(), marks.len()), from, most);
     let mut q = r;
     let mut i: usize = 0;
     while i < n {

@@ -50,7 +50,8 @@ abbrev pub Passed : ℕ → List ℕ → Type 0
 Passed x [] = Unit {0}
 Passed x (k ∷ ks) = Passed x ks × (OneOf (k ∷ []) x → ⊥)
 
-passed-key : (x k : ℕ) (ks : List ℕ) → Passed x ks → oneOf k ks ≡ true → x ≡ k → ⊥
+-- and none that the list of keys holds
+pub passed-key : (x k : ℕ) (ks : List ℕ) → Passed x ks → oneOf k ks ≡ true → x ≡ k → ⊥
 passed-key x k [] p t e = absurd (false≢true t)
 passed-key x k (n ∷ ks) p t e = go (eqb k n) refl t (λ u. passed-key x k ks (p .0) u e)
   where

@@ -176,10 +176,10 @@ shifted g =
     (pick (ltb g 252) (single 31 0x1F0000 0x8000)
     (pair (40 + 2 * (g - 252)) (g * 0x2000)))))
 
-abbrev same-row : Block → Block → Bool
+abbrev pub same-row : Block → Block → Bool
 same-row b c = eqb (b .start) (c .start) && (eqb (b .size) (c .size) && (eqb (b .write) (c .write) && Bool·beq (b .paired) (c .paired)))
 
-row-ext : (b c : Block) → same-row b c ≡ true → b ≡ c
+pub row-ext : (b c : Block) → same-row b c ≡ true → b ≡ c
 row-ext b c e =
     let h₁ = and-split (eqb (b .start) (c .start)) _ e in
     let h₂ = and-split (eqb (b .size) (c .size)) _ (h₁ .1) in

@@ -20,8 +20,8 @@ use Rattle.rules.specs.Works.{isErase, isProgram, finished, finish}
 use Rattle.rules.specs.Frames.{frames, find, formOf, opcode, six}
 use Rattle.rules.specs.Reading.{known, unknown, placeCell}
 use Rattle.rules.specs.Programs.{blank, fill}
-use Rattle.rules.specs.Fields.{locksOf, worksOf, flagsOf, restOf, chipOf, withProtection, withPermanent, withRunning, withSuspended, withWel, withIoc, withWpen, withSec, withEnable}
-use Rattle.rules.specs.Commands.{powerUpIoc, act, bufferAfter, settled, rested}
+use Rattle.rules.specs.Fields.{locksOf, worksOf, restOf, chipOf, noFlags, withProtection, withPermanent, withRunning, withSuspended, withSqi, withWel, withIoc, withWpen, withSec, withEnable}
+use Rattle.rules.specs.Commands.{powerUpIoc, act, bufferAfter, settled, rested, newChip}
 use Rattle.rules.specs.Numbers.{State, Frame}
 use Rattle.rules.specs.Machine.{Outcome, frame, completion, powerCut}
 use Rattle.rules.proofs.Bools.{upto, upto-at}
@@ -135,22 +135,24 @@ pub completion-buffer : (s : State) → completion s .number ≡ 0
     → completion s .chip .buffer ≡ pick (isProgram (s .chip .rest .works .suspended)) (s .chip .buffer) blank
 completion-buffer s e = ap (λ (o : Outcome). o .chip .buffer) (completion-done-whole s e)
 
--- ---- the record after a reset: WPLD, SEC, WPEN and both protection registers stay, and nothing else
+-- ---- the record after a reset: the protocol, WEL, IOC, the enable, what runs and what is suspended are as at power-up, and nothing else moves
 
 pub reset-leaves : (s : State) (f : Frame) → frame s f .number ≡ 0 → opcode (f .sent) ≡ 0x99
-    → let g = s .chip .rest .flags in
-    frame s f .chip ≡ chipOf blank (restOf (s .chip .rest .locks) (worksOf Work.Nothing Work.Nothing) (flagsOf false false powerUpIoc (g .wpen) (g .wpld) (g .sec) false))
+    → frame s f .chip ≡ chipOf blank (withSqi false (withWel false (withIoc powerUpIoc (withEnable false (withRunning Work.Nothing (withSuspended Work.Nothing (s .chip .rest)))))))
 unfolding formOf find frames
 reset-leaves s f e o =
     ap (λ (q : Outcome). q .chip) (frame-done-whole s f e)
     ∙ ap (λ (x : ℕ). chipOf (bufferAfter (formOf x .kind) (f .sent) (s .chip .buffer)) (act (formOf x .kind) (f .sent) (withEnable false (s .chip .rest)))) o
 
--- ---- the record after a power cut: power-up, but for SEC, WPEN and the permanent register, which stay as the work left them
+-- ---- the record of a new chip; after a power cut it is that again, but for SEC, WPEN and the permanent register, which stay as the work left them
+
+pub new-is : newChip ≡ chipOf blank (restOf (locksOf 0x5555_FFFF_FFFF 0) (worksOf Work.Nothing Work.Nothing) noFlags)
+new-is = refl
 
 pub cut-leaves : (s : State) (k : ℕ) → powerCut s k .number ≡ 0
     → let left = pick (ltb 0 k) (settled (s .chip .rest .works .running) (s .chip .rest)) (s .chip .rest) in
     powerCut s k .chip
-    ≡ chipOf blank (restOf (locksOf 0x5555_FFFF_FFFF (left .locks .permanent)) (worksOf Work.Nothing Work.Nothing) (flagsOf false false powerUpIoc (left .flags .wpen) false (left .flags .sec) false))
+    ≡ chipOf blank (withSec (left .flags .sec) (withWpen (left .flags .wpen) (withPermanent (left .locks .permanent) (newChip .rest))))
 cut-leaves s k e = ap (λ (q : Outcome). q .chip) (cut-done-whole s k e)
 
 -- ---- 42, 98 and E8, bit by bit

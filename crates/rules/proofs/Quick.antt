@@ -6,16 +6,18 @@ use mathlib.Core.Bool.{Bool, true, false, not, _&&_}
 use mathlib.Core.List.{List, [], _∷_}
 use lib.Dec.{eqb}
 use Rattle.rules.specs.declared.Chip.{Chip}
+use Rattle.rules.specs.declared.Flags.{Flags}
 use Rattle.rules.specs.declared.Work.{Work}
 use Rattle.rules.specs.Words.{pick, every, Lent}
 use Rattle.rules.specs.Blocks.{arraySize, securitySize}
 use Rattle.rules.specs.Works.{finish}
-use Rattle.rules.specs.Fields.{locksOf, worksOf, flagsOf, restOf, chipOf}
+use Rattle.rules.specs.Fields.{locksOf, worksOf, restOf, chipOf, flagsNumber, flagsIn}
 use Rattle.rules.specs.WellFormed.{wellFormed}
 use Rattle.rules.specs.Numbers.{State, stateRight, frameRight, emptyFrame, nothingRuns, test, first, commandTests, frameTests, completionTests, cutTests}
 use Rattle.rules.specs.Machine.{Outcome, frame, completion, powerCut, workedArray, workedSecurity, Event, sends, completes, cuts, step, left, run}
 use Rattle.rules.specs.Cases.{newState, stateAfter, lastOf}
 use Rattle.rules.proofs.Bools.{and-split, and-both}
+use Rattle.rules.proofs.Fields.{flags-back}
 use Rattle.rules.proofs.Refusals.{framed, completed, cut}
 use Rattle.rules.proofs.WellFormed.{step-well-formed, new-well-formed}
 
@@ -48,8 +50,7 @@ readWork (Work.AddPermanent v) k = readNumber v (λ m. k (Work.AddPermanent m))
 unfoldable pub readChip : {A : Type 0} → Chip → (Chip → A) → A
 readChip c k =
     readBytes (c .buffer) (λ b. readNumber (c .rest .locks .protection) (λ p. readNumber (c .rest .locks .permanent) (λ q. readWork (c .rest .works .running) (λ r. readWork (c .rest .works .suspended) (λ s.
-    readFlag (c .rest .flags .sqi) (λ sqi. readFlag (c .rest .flags .wel) (λ wel. readFlag (c .rest .flags .ioc) (λ ioc. readFlag (c .rest .flags .wpen) (λ wpen. readFlag (c .rest .flags .wpld) (λ wpld.
-    readFlag (c .rest .flags .sec) (λ sec. readFlag (c .rest .flags .enable) (λ enable. k (chipOf b (restOf (locksOf p q) (worksOf r s) (flagsOf sqi wel ioc wpen wpld sec enable)))))))))))))))
+    readNumber (flagsNumber (c .rest .flags)) (λ f. k (chipOf b (restOf (locksOf p q) (worksOf r s) (flagsIn f)))))))))
 
 readFlag-is : {A : Type 0} (b : Bool) (k : Bool → A) → readFlag b k ≡ k b
 readFlag-is true k = refl
@@ -78,7 +79,7 @@ readChip-is : {A : Type 0} (c : Chip) (k : Chip → A) → readChip c k ≡ k c
 unfolding readChip
 readChip-is c k =
     readBytes-is (c .buffer) _ ∙ readNumber-is (c .rest .locks .protection) _ ∙ readNumber-is (c .rest .locks .permanent) _ ∙ readWork-is (c .rest .works .running) _ ∙ readWork-is (c .rest .works .suspended) _
-    ∙ readFlag-is (c .rest .flags .sqi) _ ∙ readFlag-is (c .rest .flags .wel) _ ∙ readFlag-is (c .rest .flags .ioc) _ ∙ readFlag-is (c .rest .flags .wpen) _ ∙ readFlag-is (c .rest .flags .wpld) _ ∙ readFlag-is (c .rest .flags .sec) _ ∙ readFlag-is (c .rest .flags .enable) _
+    ∙ readNumber-is (flagsNumber (c .rest .flags)) _ ∙ ap (λ (f : Flags). k (chipOf (c .buffer) (restOf (c .rest .locks) (c .rest .works) f))) (flags-back (c .rest .flags) .1)
 
 -- ---- the machine where record and lengths are right
 

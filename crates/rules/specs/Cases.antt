@@ -1,7 +1,7 @@
 -- How a case is written: a chip, events sent to it, and what is seen after the last of them. The tables are Starred, Sentences and Opcodes.
 use Prim.Native.Nat.{ℕ, _+_, _-_, _*_}
 use Prim.Native.Char.{code}
-use Prim.Native.String.{String, [] as nil, _∷_ as _then_}
+use Prim.Native.String.{String}
 use mathlib.Core.Path.{_≡_}
 use mathlib.Core.List.{List, [], _∷_, _++_}
 use lib.Dec.{eqb, ltb}
@@ -10,6 +10,7 @@ use Rattle.rules.specs.declared.Flags.{Flags}
 use Rattle.rules.specs.declared.Work.{Work}
 use Rattle.rules.specs.declared.Work.the-variants.{Nothing, EraseSector, EraseBlock, EraseArray, ProgramPage, ProgramSecurity, LockSecurity, WriteConfiguration, AddPermanent}
 use Rattle.rules.specs.Words.{num, pick, Each, written}
+use Rattle.rules.specs.Texts.{ascii}
 use Rattle.rules.specs.Blocks.{arraySize, securitySize}
 use Rattle.rules.specs.Works.{arrayRange}
 use Rattle.rules.specs.Commands.{newChip}
@@ -18,10 +19,6 @@ use Rattle.rules.specs.Machine.{Outcome, Event, sends, completes, cuts, 
 
 -- ---- events as a text: "open, 06, 02 00 01 FE 11 22 33, completion, cut 5"
 -- A frame is its bytes in hexadecimal, "11*3" for 11 11 11, "empty" for none; "open" is 06, 98
-
-abbrev pub letters : String → List ℕ
-letters nil = []
-letters (c then s) = code c ∷ letters s
 
 -- a letter in front of the first part; the separator begins a part of its own
 abbrev pub inFront : ℕ → ℕ → List (List ℕ) → List (List ℕ)
@@ -77,7 +74,7 @@ eventsInAll [] = []
 eventsInAll (t ∷ ts) = eventsIn (words t) ++ eventsInAll ts
 
 abbrev pub events : String → List Event
-events t = eventsInAll (split (code ",") (letters t))
+events t = eventsInAll (split (code ",") (ascii t))
 
 -- ---- what is looked at
 
@@ -166,10 +163,10 @@ inARow l i [] = []
 inARow l i (b ∷ bs) = (l i is b) ∷ inARow l (i + 1) bs
 
 abbrev pub replies : String → List Seen
-replies t = inARow byte 0 (bytesOf (words (letters t)))
+replies t = inARow byte 0 (bytesOf (words (ascii t)))
 
 abbrev pub marked : String → List Seen
-marked t = inARow mark 0 (bytesOf (words (letters t)))
+marked t = inARow mark 0 (bytesOf (words (ascii t)))
 
 -- what the record holds: its flags, both registers, what runs and what is suspended
 abbrev pub leaves : ℕ → ℕ → ℕ → ℕ → ℕ → List Seen

@@ -11,15 +11,16 @@ use Rattle.rules.specs.Words.{pick, oneOf, Each}
 use Rattle.rules.specs.Frames.{formOf}
 use Rattle.rules.specs.Numbers.{State, notListed}
 use Rattle.rules.specs.Machine.{Event, step}
-use Rattle.rules.specs.Cases.{letters, split, words, numeral, bytesOf, send, events, newState, stateAfter}
+use Rattle.rules.specs.Texts.{ascii}
+use Rattle.rules.specs.Cases.{split, words, numeral, bytesOf, send, events, newState, stateAfter}
 
 -- ---- the opcodes, of all 256 bytes, that are listed in each protocol
 
 unfoldable pub spiOpcodes : List ℕ
-spiOpcodes = bytesOf (words (letters "00 66 99 38 FF 05 35 72 9F 03 0B 6B 88 06 04 20 D8 C7 02 32 A5 85 01 42 E8 8D 98 B0 30"))
+spiOpcodes = bytesOf (words (ascii "00 66 99 38 FF 05 35 72 9F 03 0B 6B 88 06 04 20 D8 C7 02 32 A5 85 01 42 E8 8D 98 B0 30"))
 
 unfoldable pub sqiOpcodes : List ℕ
-sqiOpcodes = bytesOf (words (letters "00 66 99 FF 05 35 72 AF 0B 88 06 04 20 D8 C7 02 A5 85 01 42 E8 8D 98 B0 30"))
+sqiOpcodes = bytesOf (words (ascii "00 66 99 FF 05 35 72 AF 0B 88 06 04 20 D8 C7 02 A5 85 01 42 E8 8D 98 B0 30"))
 
 -- 3: opcode not listed, or not in this protocol; 4: "or more" stands at 02, 32 and A5
 pub record ListedOpcodes : Type 0 where
@@ -30,7 +31,7 @@ pub record ListedOpcodes : Type 0 where
 
 -- frames in a text, between commas
 abbrev pub framesIn : String → List (List ℕ)
-framesIn t = map (λ part. bytesOf (words part)) (split (code ",") (letters t))
+framesIn t = map (λ part. bytesOf (words part)) (split (code ",") (ascii t))
 
 -- in SPI; AF, which is not in it, as in SQI
 unfoldable pub inSpi : List (List ℕ)
@@ -63,7 +64,7 @@ pub record Line : Type 0 where
 
 -- the number of each frame; the frames; the chip in words; the events that make a new one such a chip
 abbrev pub line : String → List (List ℕ) → String → String → Line
-line ns fs chip start = record { chip = chip; start = events start; tried = fs; numbers = map (numeral 10 0) (words (letters ns)) }
+line ns fs chip start = record { chip = chip; start = events start; tried = fs; numbers = map (numeral 10 0) (words (ascii ns)) }
 
 unfoldable pub numbersByOpcode : List Line
 numbersByOpcode =

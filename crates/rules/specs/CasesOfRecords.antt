@@ -8,18 +8,18 @@ use mathlib.Core.List.{List, [], _∷_}
 use lib.Dec.{eqb}
 use lib.ListN.{length, getD, set}
 use Rattle.rules.specs.declared.Chip.{Chip}
-use Rattle.rules.specs.declared.Flags.{Flags}
 use Rattle.rules.specs.declared.Work.{Work}
 use Rattle.rules.specs.Words.{bit, pick, Each}
 use Rattle.rules.specs.Programs.{blank}
-use Rattle.rules.specs.Fields.{flagsOf, chipOf, withFlags, withProtection, withPermanent, withRunning, withSuspended}
+use Rattle.rules.specs.Fields.{flagsIn, chipOf, withFlags, withProtection, withPermanent, withRunning, withSuspended}
 use Rattle.rules.specs.Commands.{newChip}
 use Rattle.rules.specs.WellFormed.{wellFormed}
-use Rattle.rules.specs.Cases.{letters, split, words, numeral}
+use Rattle.rules.specs.Texts.{ascii}
+use Rattle.rules.specs.Cases.{split, words, numeral}
 
 -- ---- a record as a text: "protection 000000000001, runs 02 256, aside 20 3, buffer 7, flags 20"
 -- What is not named is as in a new chip with no lock; "new" has the locks of power-up. Work is its opcode and its number; "buffer 7" has 00 at
--- place 7 of the buffer; flags from bit 0: SQI, WEL, IOC, WPEN, WPLD, SEC, reset enable
+-- place 7 of the buffer; flags are their number
 
 abbrev pub workNamed : ℕ → ℕ → Work
 workNamed o n =
@@ -32,9 +32,6 @@ workNamed o n =
     (pick (eqb o 0x01) (Work.WriteConfiguration (bit 0 n) (bit 1 n))
     (pick (eqb o 0xE8) (Work.AddPermanent n) Work.Nothing)))))))
 
-abbrev pub flagsNamed : ℕ → Flags
-flagsNamed f = flagsOf (bit 0 f) (bit 1 f) (bit 2 f) (bit 3 f) (bit 4 f) (bit 5 f) (bit 6 f)
-
 -- one part of the text, by the first letters of its first word
 abbrev pub withPart : List (List ℕ) → Chip → Chip
 withPart [] c = c
@@ -46,7 +43,7 @@ withPart (w ∷ ws) c =
     (pick (eqb (getD w 0 0) (code "r")) (chipOf (c .buffer) (withRunning named (c .rest)))
     (pick (eqb (getD w 0 0) (code "a")) (chipOf (c .buffer) (withSuspended named (c .rest)))
     (pick (eqb (getD w 0 0) (code "b")) (chipOf (set blank decimal 0x00) (c .rest))
-    (pick (eqb (getD w 0 0) (code "f")) (chipOf (c .buffer) (withFlags (flagsNamed hex) (c .rest)))
+    (pick (eqb (getD w 0 0) (code "f")) (chipOf (c .buffer) (withFlags (flagsIn hex) (c .rest)))
     (pick (eqb (getD w 1 0) (code "r")) (chipOf (c .buffer) (withProtection hex (c .rest))) (chipOf (c .buffer) (withPermanent hex (c .rest))))))))
 
 abbrev pub withParts : List (List ℕ) → Chip → Chip
@@ -54,7 +51,7 @@ withParts [] c = c
 withParts (t ∷ ts) c = withParts ts (withPart (words t) c)
 
 abbrev pub recordOf : String → Chip
-recordOf t = withParts (split (code ",") (letters t)) (chipOf blank (withProtection 0 (newChip .rest)))
+recordOf t = withParts (split (code ",") (ascii t)) (chipOf blank (withProtection 0 (newChip .rest)))
 
 -- ---- how a row is written
 

@@ -14,7 +14,7 @@ use Rattle.rules.specs.Words.{bit, pick}
 use Rattle.rules.specs.Blocks.{blockOf, writeLocks, readLocks, allLocks, powerUpLocks}
 use Rattle.rules.specs.Works.{isProgram}
 use Rattle.rules.specs.Frames.{sentByte, address, securityAddress, six}
-use Rattle.rules.specs.Fields.{locksOf, worksOf, flagsOf, restOf, chipOf, withProtection, withPermanent, withRunning, withSuspended, withSqi, withWel, withIoc, withWpen, withWpld, withSec, withEnable}
+use Rattle.rules.specs.Fields.{locksOf, worksOf, restOf, chipOf, noFlags, withProtection, withPermanent, withRunning, withSuspended, withSqi, withWel, withIoc, withWpen, withWpld, withSec, withEnable}
 use Rattle.rules.specs.Programs.{blank, pageBuffer, securityBuffer}
 
 -- ---- power-up and reset
@@ -22,10 +22,10 @@ use Rattle.rules.specs.Programs.{blank, pageBuffer, securityBuffer}
 abbrev pub powerUpIoc : Bool
 powerUpIoc = false
 
--- the power-up state; SEC, WPEN and the permanent register are what they were
+-- the power-up state: idle, nothing suspended, every flag 0 but for IOC; SEC, WPEN and the permanent register are what they were
 abbrev pub poweredUp : Bool → Bool → ℕ → Rest
 poweredUp sec wpen permanent =
-    restOf (locksOf powerUpLocks permanent) (worksOf Work.Nothing Work.Nothing) (flagsOf false false powerUpIoc wpen false sec false)
+    withSec sec (withWpen wpen (withIoc powerUpIoc (restOf (locksOf powerUpLocks permanent) (worksOf Work.Nothing Work.Nothing) noFlags)))
 
 abbrev pub newChip : Chip
 newChip = chipOf blank (poweredUp false false 0)

@@ -1,6 +1,6 @@
--- The chip record from its parts, and with one field set: antt has no record update.
-use Prim.Native.Nat.{ℕ}
-use mathlib.Core.Bool.{Bool}
+-- The chip record from its parts, and with one field set: antt has no record update. The flags as one number.
+use Prim.Native.Nat.{ℕ, _+_, _*_}
+use mathlib.Core.Bool.{Bool, false}
 use mathlib.Core.List.{List}
 use Rattle.rules.specs.declared.Chip.{Chip}
 use Rattle.rules.specs.declared.Flags.{Flags}
@@ -8,6 +8,7 @@ use Rattle.rules.specs.declared.Locks.{Locks}
 use Rattle.rules.specs.declared.Rest.{Rest}
 use Rattle.rules.specs.declared.Work.{Work}
 use Rattle.rules.specs.declared.Works.{Works}
+use Rattle.rules.specs.Words.{bit, num}
 
 -- ---- from the parts, in their order
 
@@ -19,6 +20,9 @@ worksOf r s = record { running = r; suspended = s }
 
 abbrev pub flagsOf : Bool → Bool → Bool → Bool → Bool → Bool → Bool → Flags
 flagsOf sqi wel ioc wpen wpld sec enable = record { sqi = sqi; wel = wel; ioc = ioc; wpen = wpen; wpld = wpld; sec = sec; enable = enable }
+
+abbrev pub noFlags : Flags
+noFlags = flagsOf false false false false false false false
 
 abbrev pub restOf : Locks → Works → Flags → Rest
 restOf l w f = record { locks = l; works = w; flags = f }
@@ -63,3 +67,16 @@ withSec b r = withFlags (flagsOf (r .flags .sqi) (r .flags .wel) (r .flags .ioc)
 
 abbrev pub withEnable : Bool → Rest → Rest
 withEnable b r = withFlags (flagsOf (r .flags .sqi) (r .flags .wel) (r .flags .ioc) (r .flags .wpen) (r .flags .wpld) (r .flags .sec) b) r
+
+-- ---- the flags as bits, from bit 0 on: SQI, WEL, IOC, WPEN, WPLD, SEC, and whether a 99 is taken next
+
+abbrev pub flagsNumber : Flags → ℕ
+flagsNumber f =
+    num (f .sqi) + 2 * num (f .wel) + 4 * num (f .ioc) + 8 * num (f .wpen) + 16 * num (f .wpld) + 32 * num (f .sec) + 64 * num (f .enable)
+
+abbrev pub flagsIn : ℕ → Flags
+flagsIn x = flagsOf (bit 0 x) (bit 1 x) (bit 2 x) (bit 3 x) (bit 4 x) (bit 5 x) (bit 6 x)
+
+-- the first number that has a bit beyond them
+abbrev pub flagsBound : ℕ
+flagsBound = 128

@@ -1,5 +1,6 @@
 -- Document 01 as definitions, in its order. Words hold the tools; Starred holds the cases marked * under one statement.
 pub mod Words
+pub mod Texts
 pub mod Blocks
 pub mod Works
 pub mod Registers

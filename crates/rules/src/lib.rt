@@ -1,4 +1,5 @@
 // The declared types of the bench chip: what every crate of the repository uses. Their meaning is in specs/.
+pub mod plain;
 
 // An internal operation that runs or is suspended, with what it needs until it ends.
 // Sectors, blocks and pages are given by number: a block by its place in document 01's table, counted from 0.
@@ -28,12 +29,13 @@ pub struct Works {
 }
 
 pub struct Flags {
-    pub sqi: bool,
-    pub wel: bool,
-    pub ioc: bool,
-    pub wpen: bool,
     pub wpld: bool,
     pub sec: bool,
+    pub ioc: bool,
+    pub wpen: bool,
+    // those that frames change stand together
+    pub sqi: bool,
+    pub wel: bool,
     // a 99 is taken next
     pub enable: bool,
 }

@@ -2,5 +2,6 @@
 pub mod Picks
 pub mod Steps
 pub mod Parts
+pub mod Hinted
 pub mod Listing
 pub mod Unique

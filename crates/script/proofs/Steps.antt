@@ -4,8 +4,7 @@ use mathlib.Core.Path.{_≡_, sym, ap, _∙_}
 use mathlib.Core.Bool.{Bool, true, false}
 use mathlib.Core.List.{List}
 use Rattle.script.specs.declared.Reading.{Reading}
-use Rattle.grammar.specs.Words.{endsWords}
-use Rattle.script.specs.Lines.{Held, held, closed, closedAt, takenByte, stepped, wordEnded}
+use Rattle.script.specs.Lines.{Held, held, closed, overAt, closedAt, takenByte, stepped, wordEnded}
 use Rattle.script.proofs.Picks.{picked, passed-over}
 
 -- what a word's end leaves, by the reading that it gives back
@@ -17,12 +16,12 @@ pub closed-stores : (r : Reading) (f e k f′ e′ k′ : List ℕ) (q : Reading
     → held (wordEnded r) f′ e′ k′ ≡ closed (held r f e k)
 closed-stores r f e k f′ e′ k′ q p = ap (λ (q : Reading). held q f′ e′ k′) (sym (closed-reading r f e k f′ e′ k′ q p)) ∙ p
 
--- where the byte ends no words nothing is closed
-pub closed-at : (b : ℕ) (h h′ : Held) (t : Bool) → t ≡ endsWords b → t ≡ true → h′ ≡ closed h → h′ ≡ closedAt b h
+-- where the word before the byte is not over nothing is closed
+pub closed-at : (b : ℕ) (h h′ : Held) (t : Bool) → t ≡ overAt (h .reading) b → t ≡ true → h′ ≡ closed h → h′ ≡ closedAt b h
 unfolding closedAt
 closed-at b h h′ t et tt p = p ∙ picked (closed h) h et tt
 
-pub kept-at : (b : ℕ) (h : Held) (t : Bool) → t ≡ endsWords b → t ≡ false → h ≡ closedAt b h
+pub kept-at : (b : ℕ) (h : Held) (t : Bool) → t ≡ overAt (h .reading) b → t ≡ false → h ≡ closedAt b h
 unfolding closedAt
 kept-at b h t et tf = passed-over (closed h) h et tf
 

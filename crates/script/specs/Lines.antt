@@ -1,7 +1,7 @@
 -- A line as a fold over its bytes: what one byte does, what a word's end does, what is stored, and the line that is left at its end.
 use Prim.Native.Nat.{ℕ, _-_}
 use mathlib.Core.Path.{_≡_}
-use mathlib.Core.Bool.{Bool, true, false, not, _&&_}
+use mathlib.Core.Bool.{Bool, true, false, not, _&&_, _||_}
 use mathlib.Core.List.{List, [], _∷_}
 use lib.Dec.{eqb, ltb}
 use lib.ListN.{set, take, drop, replicate}
@@ -10,13 +10,13 @@ use Rattle.script.specs.declared.Line.{Line}
 use Rattle.script.specs.declared.Mode.{Mode}
 use Rattle.script.specs.declared.Mode.the-variants.{Open, Remark, Wrong}
 use Rattle.grammar.specs.declared.Next.{Next}
-use Rattle.grammar.specs.declared.Next.the-variants.{To, Stray, Mistake}
+use Rattle.grammar.specs.declared.Next.the-variants.{To, Mistake}
 use Rattle.grammar.specs.declared.Place.{Place}
 use Rattle.script.specs.declared.Reading.{Reading}
 use Rattle.grammar.specs.declared.Verb.{Verb}
 use Rattle.grammar.specs.declared.Word.{Word}
-use Rattle.grammar.specs.Words.{blank, endsWords, oneMore, noWord, noWordAt, wordWith, sortOf, byteOf}
-use Rattle.grammar.specs.Grammar.{nothingSaid, nextOf, canEnd, saidWith, ofFrame, ofExpected, isByte}
+use Rattle.grammar.specs.Words.{blank, endsWords, oneMore, noWord, wordWith, sortOf, byteOf}
+use Rattle.grammar.specs.Grammar.{nothingSaid, nextOf, canEnd, saidWith, ofFrame, ofExpected, isByte, isSign}
 
 -- ---- a byte
 
@@ -24,7 +24,7 @@ use Rattle.grammar.specs.Grammar.{nothingSaid, nextOf, canEnd, saidWith, ofFram
 abbrev pub begun : Reading
 begun = record { mode = Open; place = Place.First; read = 0; shown = replicate 24 0; word = noWord 0; said = nothingSaid }
 
--- in a remark, or after a mistake: only counted
+-- a blank, or any byte of a remark or after a mistake: only counted
 abbrev pub passedBy : Reading → Reading
 passedBy r = record { mode = r .mode; place = r .place; read = oneMore (r .read); shown = r .shown; word = r .word; said = r .said }
 
@@ -44,15 +44,10 @@ goesOn r b =
       said = r .said;
     }
 
--- one blank more, where no word is
-abbrev pub blankMore : Reading → Reading
-blankMore r =
-    record { mode = Open; place = r .place; read = oneMore (r .read); shown = r .shown; word = noWord (pick (eqb (r .word .blanks) 0) 1 2); said = r .said }
-
 -- a remark begins, where no word is
 abbrev pub remarkFrom : Reading → Reading
 remarkFrom r =
-    record { mode = Remark; place = r .place; read = oneMore (r .read); shown = r .shown; word = noWordAt (oneMore (r .read)); said = r .said }
+    record { mode = Remark; place = r .place; read = oneMore (r .read); shown = r .shown; word = noWord (oneMore (r .read)); said = r .said }
 
 abbrev pub isOpen : Mode → Bool
 isOpen Open = true
@@ -66,7 +61,7 @@ isWrong Wrong = true
 
 -- a byte while the line is open: # or a blank, where no word is, or a byte of a word
 unfoldable pub takenOpen : Reading → ℕ → Reading
-takenOpen r b = pick (eqb b 0x23) (remarkFrom r) (pick (blank b) (blankMore r) (goesOn r b))
+takenOpen r b = pick (eqb b 0x23) (remarkFrom r) (pick (blank b) (passedBy r) (goesOn r b))
 
 abbrev pub takenByte : Reading → ℕ → Reading
 takenByte r b = pick (isOpen (r .mode)) (takenOpen r b) (passedBy r)
@@ -81,13 +76,12 @@ abbrev pub wentTo : Reading → Place → Reading
 wentTo r to =
     record { mode = Open; place = to; read = r .read; shown = replicate 24 0; word = noWord 0; said = saidWith (r .place) (r .word) (r .said) }
 
--- what follows a word. A stray word starts a remark after two blanks, and is a mistake after one
+-- what follows a word: a word that cannot stand where it does is a mistake, and no remark
 abbrev pub goes : Reading → Next → Reading
 goes r (To p) = wentTo r p
-goes r Stray = pick (ltb 1 (r .word .blanks)) (withMode Remark r) (withMode Wrong r)
 goes r Mistake = withMode Wrong r
 
--- a word stands before the blank, the # or the line's end
+-- a word stands before this byte, or before the line's end
 abbrev pub hasWord : Reading → Bool
 hasWord r = isOpen (r .mode) && not (eqb (r .word .length) 0)
 
@@ -126,9 +120,12 @@ closed h =
 
 -- ---- the fold
 
--- the word before the byte b is over, where b ends words
+-- the word before the byte b is over: b ends words, or that word is a sign, which any byte ends
+abbrev pub overAt : Reading → ℕ → Bool
+overAt r b = endsWords b || isSign (sortOf (r .word))
+
 unfoldable pub closedAt : ℕ → Held → Held
-closedAt b h = pick (endsWords b) (closed h) h
+closedAt b h = pick (overAt (h .reading) b) (closed h) h
 
 -- one byte: the word before it may be over, then it is taken itself
 unfoldable pub stepped : Held → ℕ → Held

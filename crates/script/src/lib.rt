@@ -1,4 +1,5 @@
 // One line of a script, read byte by byte. The language and what each function gives are in specs/.
+mod hints;
 mod lines;
 
 pub use grammar::Place;
@@ -7,6 +8,8 @@ pub use grammar::Verb;
 use grammar::Word;
 use grammar::places;
 use grammar::words;
+pub use hints::hint_of;
+use rules::plain::smaller;
 ghost use mathlib.Core.Path.{_≡_};
 ghost use Rattle.script.specs.Lines.{begun, ReadPromise, EndPromise};
 
@@ -37,6 +40,14 @@ pub struct Line {
     pub length: usize,
     // where it begins, counted from 1
     pub column: usize,
+}
+
+// What a wrong word may have been meant to be.
+pub enum Hint {
+    Nothing,
+    TwoDigits,
+    Apart,
+    LowerCase,
 }
 
 // ---- a line half read
@@ -88,7 +99,7 @@ pub fn read(
 ) -> Reading
     ensures { λ q. ⌜ ReadPromise r (now (text .entry)) from to (now (frame .entry)) (now (expected .entry)) (now (known .entry)) q (now (frame .exit)) (now (expected .exit)) (now (known .exit)) ⌝ }
 {
-    let end = words::smaller(to, text.len());
+    let end = smaller(to, text.len());
     let mut now = r;
     let mut i = from;
     while i < end {

@@ -9,17 +9,15 @@ use grammar::Word;
 use grammar::places;
 use grammar::words;
 ghost use mathlib.Core.Path.{_≡_};
-ghost use lib.Dec.{eqb};
 ghost use Rattle.rules.specs.Words.{pick, num};
-ghost use Rattle.grammar.specs.declared.Next.the-variants.{Stray};
 ghost use Rattle.grammar.specs.declared.Verb.{Verb};
-ghost use Rattle.grammar.specs.Words.{oneMore, noWord, sortOf};
+ghost use Rattle.grammar.specs.Words.{oneMore, sortOf};
 ghost use Rattle.grammar.specs.Grammar.{isByte, nextOf};
-ghost use Rattle.script.specs.Lines.{passedBy, shownWith, goesOn, blankMore, remarkFrom, takenOpen, isOpen, isWrong, takenByte, closedAt, withMode, wentTo, goes, hasWord, wordEnded, stored, toFrame, toExpected, held, closed, stepped, lineOf};
+ghost use Rattle.script.specs.Lines.{passedBy, shownWith, goesOn, remarkFrom, takenOpen, isOpen, isWrong, takenByte, overAt, closedAt, withMode, wentTo, goes, hasWord, wordEnded, stored, toFrame, toExpected, held, closed, stepped, lineOf};
 
 // ---- one byte
 
-// A byte that says nothing more: of a remark, or after a mistake.
+// A byte that says nothing more: a blank, or of a remark, or after a mistake.
 fn passed(r: Reading) -> Reading
     ensures { λ q. ⌜ q ≡ passedBy r ⌝ }
 {
@@ -69,35 +67,6 @@ fn goes_on(r: Reading, b: u8) -> Reading
     }
 }
 
-// One blank more, at most 2.
-fn blank_more(w: Word) -> Word
-    ensures { λ q. ⌜ q ≡ noWord (pick (eqb (w .blanks) 0) 1 2) ⌝ }
-{
-    if w.blanks == 0 {
-        words::none(1)
-    } else {
-        words::none(2)
-    }
-}
-
-// One blank more, where no word is.
-fn blanked(r: Reading) -> Reading
-    ensures { λ q. ⌜ q ≡ blankMore r ⌝ }
-{
-    let place = r.place;
-    let shown = r.shown;
-    let word = r.word;
-    let said = r.said;
-    Reading {
-        mode: Mode::Open,
-        place,
-        read: words::one_more(r.read),
-        shown,
-        word: blank_more(word),
-        said,
-    }
-}
-
 // A remark begins, where no word is.
 fn remark_from(r: Reading) -> Reading
     ensures { λ q. ⌜ q ≡ remarkFrom r ⌝ }
@@ -111,7 +80,7 @@ fn remark_from(r: Reading) -> Reading
         place,
         read,
         shown,
-        word: words::none_at(read),
+        word: words::none(read),
         said,
     }
 }
@@ -124,7 +93,7 @@ fn taken_open(r: Reading, b: u8) -> Reading
         return remark_from(r);
     }
     if words::is_blank(b) {
-        return blanked(r);
+        return passed(r);
     }
     goes_on(r, b)
 }
@@ -186,24 +155,11 @@ fn went(r: Reading, to: Place) -> Reading
     }
 }
 
-// A word, no byte and no sign, that cannot stand where it stands: a remark after two blanks.
-fn strayed(r: Reading) -> Reading
-    ensures { λ q. ⌜ q ≡ goes r Stray ⌝ }
-{
-    let word = r.word;
-    if 1 < word.blanks {
-        with_mode(r, Mode::Remark)
-    } else {
-        with_mode(r, Mode::Wrong)
-    }
-}
-
 fn went_on(r: Reading, next: Next) -> Reading
     ensures { λ q. ⌜ q ≡ goes r next ⌝ }
 {
     match next {
         Next::To(to) => went(r, to),
-        Next::Stray => strayed(r),
         Next::Mistake => with_mode(r, Mode::Wrong),
     }
 }
@@ -290,7 +246,14 @@ pub fn close_word(
     word_ended(r)
 }
 
-// The word before this byte is over, where the byte ends words.
+// The byte ends the word before it, or that word is a sign.
+fn over_at(r: Reading, b: u8) -> bool
+    ensures { λ q. ⌜ q ≡ overAt r b ⌝ }
+{
+    let word = r.word;
+    words::ends_words(b) | places::is_sign(words::sort_of(word))
+}
+
 fn close_at(
     r: Reading,
     b: u8,
@@ -300,7 +263,7 @@ fn close_at(
 ) -> Reading
     ensures { λ q. ⌜ held q (now (frame .exit)) (now (expected .exit)) (now (known .exit)) ≡ closedAt b (held r (now (frame .entry)) (now (expected .entry)) (now (known .entry))) ⌝ }
 {
-    if words::ends_words(b) {
+    if over_at(r, b) {
         return close_word(r, frame, expected, known);
     }
     r

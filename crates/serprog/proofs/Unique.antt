@@ -6,7 +6,7 @@ use mathlib.Core.Bool.{Bool}
 use mathlib.Core.List.{List}
 use denote.Ref.{RefT}
 use Rattle.rules.proofs.Promises.{one, lent-one}
-use Rattle.blocks.proofs.Unique.{OneResult}
+use Rattle.rules.proofs.Outcomes.{OneResult}
 use Rattle.serprog.specs.declared.Bench.{Bench}
 use Rattle.serprog.specs.Operations.{Operated, leaves}
 use Rattle.serprog.proofs.commands.shape_of.Reads as shape-of

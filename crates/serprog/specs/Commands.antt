@@ -1,10 +1,11 @@
 -- The serprog commands that the programmer knows: a row for each, and the bytes that answer it. Lengths and numbers go low byte first.
 use Prim.Native.Nat.{ℕ, zero, suc, _+_, _*_}
 use mathlib.Core.Bool.{Bool, true, false, _&&_}
-use mathlib.Core.List.{List, [], _∷_}
+use mathlib.Core.List.{List, [], _∷_, _++_}
 use lib.Dec.{eqb, leb}
-use lib.ListN.{length, getD}
+use lib.ListN.{length, getD, replicate}
 use Rattle.rules.specs.Words.{bit, num, pick}
+use Rattle.rules.specs.Texts.{ascii}
 use Rattle.serprog.specs.declared.Command.{Command}
 use Rattle.serprog.specs.declared.Command.the-variants.{Nothing, Version, Map, Name, BufferSize, Buses, Sync, SetBus, Operation, SetFrequency, SetPins, Unlisted}
 use Rattle.serprog.specs.declared.Shape.{Shape}
@@ -79,7 +80,7 @@ mapBytes = mapFrom 32 0
 
 -- Fulkibono, and 00 up to 16 bytes
 unfoldable pub nameBytes : List ℕ
-nameBytes = 0x46 ∷ 0x75 ∷ 0x6C ∷ 0x6B ∷ 0x69 ∷ 0x62 ∷ 0x6F ∷ 0x6E ∷ 0x6F ∷ 0 ∷ 0 ∷ 0 ∷ 0 ∷ 0 ∷ 0 ∷ 0 ∷ []
+nameBytes = ascii "Fulkibono" ++ replicate 7 0x00
 
 abbrev pub rightOrNot : Bool → List ℕ
 rightOrNot right = pick right (ack ∷ []) (nak ∷ [])

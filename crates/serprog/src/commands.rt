@@ -47,17 +47,11 @@ pub fn shape_of(code: u8) -> Shape
     }
 }
 
-fn wide(x: u8) -> usize
-    ensures { λ r. ⌜ r ≡ x ⌝ }
-{
-    x as usize
-}
-
 // A length of 24 bits, low byte first.
 pub fn length_of(low: u8, middle: u8, high: u8) -> usize
     ensures { λ r. ⌜ r ≡ length24 low middle high ⌝ }
 {
-    wide(low) + wide(middle) * 256 + wide(high) * 65536
+    low as usize + middle as usize * 256 + high as usize * 65536
 }
 
 // Whether both lengths are within the chip's sizes.

@@ -4,6 +4,8 @@ use crate::dice::draw_bits;
 use crate::dice::draw_byte;
 use crate::dice::draw_place;
 use crate::dice::once_in;
+use crate::mapping::FLAGS;
+use crate::mapping::with_flags;
 use crate::places::block_size;
 use crate::places::block_start;
 use crate::places::write_lock;
@@ -17,23 +19,11 @@ const WRITE_LOCKS: u64 = 0x5555FFFFFFFF;
 // Idle, with random registers and flags.
 pub fn idle_record(seed: u64) -> Flat {
     let protection = draw_bits(seed, 50);
-    let flags = draw(seed, 51, 128);
-    Flat {
-        buffer: [255u8; 256],
-        protection,
-        permanent: protection & WRITE_LOCKS & draw_bits(seed, 52),
-        run_kind: 0,
-        run_number: 0,
-        sus_kind: 0,
-        sus_number: 0,
-        sqi: flags & 1 != 0,
-        wel: flags & 2 != 0,
-        ioc: flags & 4 != 0,
-        wpen: flags & 8 != 0,
-        wpld: flags & 16 != 0,
-        sec: flags & 32 != 0,
-        enable: flags & 64 != 0,
-    }
+    let flags = draw(seed, 51, FLAGS);
+    let mut idle = second::fresh();
+    idle.protection = protection;
+    idle.permanent = protection & WRITE_LOCKS & draw_bits(seed, 52);
+    with_flags(idle, flags)
 }
 
 // A sector, the block or a page of a block.

@@ -108,7 +108,27 @@ pub fn chip_of(s: Flat) -> Chip {
     Chip { buffer, rest }
 }
 
-// The seven bits of a record, as one number: the last field of a script's `record`.
+// One more than the largest number of flags.
+pub const FLAGS: u64 = 128;
+
+fn is_one(flags: u64, value: u64) -> bool {
+    flags & value != 0
+}
+
+// A record with the flags of a number.
+pub fn with_flags(s: Flat, flags: u64) -> Flat {
+    let mut next = s;
+    next.sqi = is_one(flags, 1);
+    next.wel = is_one(flags, 2);
+    next.ioc = is_one(flags, 4);
+    next.wpen = is_one(flags, 8);
+    next.wpld = is_one(flags, 16);
+    next.sec = is_one(flags, 32);
+    next.enable = is_one(flags, 64);
+    next
+}
+
+// The flags of a record as one number: the last field of a script's `record`.
 pub fn flags_of(s: Flat) -> u64 {
     let low = bit(s.sqi, 1) | bit(s.wel, 2) | bit(s.ioc, 4) | bit(s.wpen, 8);
     low | bit(s.wpld, 16) | bit(s.sec, 32) | bit(s.enable, 64)

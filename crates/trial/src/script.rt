@@ -23,6 +23,7 @@ use crate::lines::Line;
 use crate::mapping::chip_of;
 use crate::mapping::flat_of;
 use crate::mapping::same_fields;
+use crate::mapping::with_flags;
 use crate::words::decimal;
 use crate::words::hexadecimal;
 use crate::words::item_at;
@@ -34,10 +35,6 @@ pub const REPLY_BEFORE: u8 = 0x5A;
 
 pub const MARKS_BEFORE: u8 = 0x07;
 
-fn is_one(flags: u64, value: u64) -> bool {
-    flags & value != 0
-}
-
 // The seven numbers after `record` or `is`.
 pub fn read_record(line: &[u8]) -> Flat {
     let a = next(line, 0);
@@ -47,23 +44,14 @@ pub fn read_record(line: &[u8]) -> Flat {
     let e = next(line, d);
     let f = next(line, e);
     let g = next(line, f);
-    let flags = hexadecimal(line, g);
-    Flat {
-        buffer: [255u8; 256],
-        protection: hexadecimal(line, a),
-        permanent: hexadecimal(line, b),
-        run_kind: (hexadecimal(line, c) % 256) as u8,
-        run_number: hexadecimal(line, d),
-        sus_kind: (hexadecimal(line, e) % 256) as u8,
-        sus_number: hexadecimal(line, f),
-        sqi: is_one(flags, 1),
-        wel: is_one(flags, 2),
-        ioc: is_one(flags, 4),
-        wpen: is_one(flags, 8),
-        wpld: is_one(flags, 16),
-        sec: is_one(flags, 32),
-        enable: is_one(flags, 64),
-    }
+    let mut s = second::fresh();
+    s.protection = hexadecimal(line, a);
+    s.permanent = hexadecimal(line, b);
+    s.run_kind = (hexadecimal(line, c) % 256) as u8;
+    s.run_number = hexadecimal(line, d);
+    s.sus_kind = (hexadecimal(line, e) % 256) as u8;
+    s.sus_number = hexadecimal(line, f);
+    with_flags(s, hexadecimal(line, g))
 }
 
 // Both models get this record.

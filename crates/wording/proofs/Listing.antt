@@ -3,11 +3,12 @@ use Prim.Native.Nat.{ℕ}
 use mathlib.Core.Path.{_≡_, refl}
 use mathlib.Core.List.{[], _∷_, _++_}
 use lib.ListN.{replicate}
-use Rattle.rows.specs.Rows.{ascii, row, blanks, digits, hexDigit, hex, bytes, known, marked, printed, letters}
+use Rattle.rules.specs.Texts.{ascii}
+use Rattle.rows.specs.Rows.{row, blanks, digits, hexDigit, hex, bytes, known, marked, printed, letters}
 use Rattle.words.specs.Words.{lead, numbered, below, counted, plural, meaning, answer}
 use Rattle.wording.specs.Events.{capped, longer, wants, sentBytes, replyBytes, replied, frameRow, doneRow, cutRow, newRow, replyRow, moreRow}
 use Rattle.wording.specs.Differences.{expectedRow, differenceRow, lengthRow, numberRow}
-use Rattle.wording.specs.Lines.{cutOff, wrongText, wrongRow, allowed, allowedRow, wrongLines, totalsRow}
+use Rattle.wording.specs.Lines.{cutOff, wrongText, wrongRow, allowed, allowedRow, hint, hintRow, wrongLines, totalsRow}
 
 -- ---- events
 
@@ -103,6 +104,10 @@ too-early = refl
 allowed-there : allowedRow 6 ≡ row (ascii "       allowed: a number from 0 (done) to 12")
 unfolding allowedRow allowed below blanks
 allowed-there = refl
+
+hinted : hintRow 1 ≡ row (ascii "       hint: bytes stand apart, as DE AD BE EF")
+unfolding hintRow hint below blanks
+hinted = refl
 
 totals : totalsRow 12 2 0 0 ≡ row (ascii "12 events, 2 refused, 0 differences")
 unfolding totalsRow wrongLines blanks counted plural digits

@@ -1,50 +1,65 @@
--- No second outcome: whatever meets the guarantee of a public function of this crate at the same input is the same result.
--- All are equations. Assumes nothing.
-use Prim.Native.Nat.{ℕ}
-use mathlib.Core.List.{List}
-use lib.ListN.{length}
-use Rattle.rows.specs.declared.Row.{Row}
-use Rattle.wording.specs.Events.{frameRow, doneRow, cutRow, newRow, replyRow, moreRow}
-use Rattle.wording.specs.Differences.{expectedRow, differenceRow, lengthRow, numberRow}
-use Rattle.wording.specs.Lines.{wrongRow, allowedRow, totalsRow}
-use mathlib.Core.Path.{_≡_}
+-- No second outcome: whatever meets the guarantee of a public function of this crate at the same input is the same result. Assumes nothing.
 use Rattle.rules.proofs.Promises.{one}
+use Rattle.rules.proofs.Outcomes.{OneResult}
+use Rattle.wording.proofs.events.frame_row.Reads as frame-row
+use Rattle.wording.proofs.events.done_row.Reads as done-row
+use Rattle.wording.proofs.events.cut_row.Reads as cut-row
+use Rattle.wording.proofs.events.new_row.Reads as new-row
+use Rattle.wording.proofs.events.reply_row.Reads as reply-row
+use Rattle.wording.proofs.events.more_row.Reads as more-row
+use Rattle.wording.proofs.differences.expected_row.Reads as expected-row
+use Rattle.wording.proofs.differences.difference_row.Reads as difference-row
+use Rattle.wording.proofs.differences.length_row.Reads as length-row
+use Rattle.wording.proofs.differences.number_row.Reads as number-row
+use Rattle.wording.proofs.lines.wrong_row.Reads as wrong-row
+use Rattle.wording.proofs.lines.allowed_row.Reads as allowed-row
+use Rattle.wording.proofs.lines.hint_row.Reads as hint-row
+use Rattle.wording.proofs.lines.totals_row.Reads as totals-row
 
-pub frame-row-one : (line : ℕ) (sent : List ℕ) (wanted number : ℕ) (reply marks : List ℕ) (q q′ : Row) → q ≡ frameRow line sent wanted number reply marks → q′ ≡ frameRow line sent wanted number reply marks → q ≡ q′
-frame-row-one line sent wanted number reply marks q q′ e e′ = one e e′
+-- ---- events
 
-pub done-row-one : (line number : ℕ) (q q′ : Row) → q ≡ doneRow line number → q′ ≡ doneRow line number → q ≡ q′
-done-row-one line number q q′ e e′ = one e e′
+pub frame-row-one : OneResult frame-row.Post
+frame-row-one κ a x y r r′ p q = one p q
 
-pub cut-row-one : (line k number : ℕ) (q q′ : Row) → q ≡ cutRow line k number → q′ ≡ cutRow line k number → q ≡ q′
-cut-row-one line k number q q′ e e′ = one e e′
+pub done-row-one : OneResult done-row.Post
+done-row-one κ a x y r r′ p q = one p q
 
-pub new-row-one : (line : ℕ) (q q′ : Row) → q ≡ newRow line → q′ ≡ newRow line → q ≡ q′
-new-row-one line q q′ e e′ = one e e′
+pub cut-row-one : OneResult cut-row.Post
+cut-row-one κ a x y r r′ p q = one p q
 
-pub reply-row-one : (place : ℕ) (reply marks : List ℕ) (q q′ : Row) → q ≡ replyRow place reply marks → q′ ≡ replyRow place reply marks → q ≡ q′
-reply-row-one place reply marks q q′ e e′ = one e e′
+pub new-row-one : OneResult new-row.Post
+new-row-one κ a x y r r′ p q = one p q
 
-pub more-row-one : (hidden : ℕ) (q q′ : Row) → q ≡ moreRow hidden → q′ ≡ moreRow hidden → q ≡ q′
-more-row-one hidden q q′ e e′ = one e e′
+pub reply-row-one : OneResult reply-row.Post
+reply-row-one κ a x y r r′ p q = one p q
 
-pub expected-row-one : (place : ℕ) (expected known : List ℕ) (q q′ : Row) → q ≡ expectedRow place expected known → q′ ≡ expectedRow place expected known → q ≡ q′
-expected-row-one place expected known q q′ e e′ = one e e′
+pub more-row-one : OneResult more-row.Post
+more-row-one κ a x y r r′ p q = one p q
 
-pub difference-row-one : (place byte mark expected : ℕ) (q q′ : Row) → q ≡ differenceRow place byte mark expected → q′ ≡ differenceRow place byte mark expected → q ≡ q′
-difference-row-one place byte mark expected q q′ e e′ = one e e′
+-- ---- differences
 
-pub length-row-one : (expected replied : ℕ) (q q′ : Row) → q ≡ lengthRow expected replied → q′ ≡ lengthRow expected replied → q ≡ q′
-length-row-one expected replied q q′ e e′ = one e e′
+pub expected-row-one : OneResult expected-row.Post
+expected-row-one κ a x y r r′ p q = one p q
 
-pub number-row-one : (expected : ℕ) (q q′ : Row) → q ≡ numberRow expected → q′ ≡ numberRow expected → q ≡ q′
-number-row-one expected q q′ e e′ = one e e′
+pub difference-row-one : OneResult difference-row.Post
+difference-row-one κ a x y r r′ p q = one p q
 
-pub wrong-row-one : (line : ℕ) (word : List ℕ) (length column : ℕ) (q q′ : Row) → q ≡ wrongRow line word length column → q′ ≡ wrongRow line word length column → q ≡ q′
-wrong-row-one line word length column q q′ e e′ = one e e′
+pub length-row-one : OneResult length-row.Post
+length-row-one κ a x y r r′ p q = one p q
 
-pub allowed-row-one : (place : ℕ) (q q′ : Row) → q ≡ allowedRow place → q′ ≡ allowedRow place → q ≡ q′
-allowed-row-one place q q′ e e′ = one e e′
+pub number-row-one : OneResult number-row.Post
+number-row-one κ a x y r r′ p q = one p q
 
-pub totals-row-one : (events refused differences wrong : ℕ) (q q′ : Row) → q ≡ totalsRow events refused differences wrong → q′ ≡ totalsRow events refused differences wrong → q ≡ q′
-totals-row-one events refused differences wrong q q′ e e′ = one e e′
+-- ---- lines
+
+pub wrong-row-one : OneResult wrong-row.Post
+wrong-row-one κ a x y r r′ p q = one p q
+
+pub allowed-row-one : OneResult allowed-row.Post
+allowed-row-one κ a x y r r′ p q = one p q
+
+pub hint-row-one : OneResult hint-row.Post
+hint-row-one κ a x y r r′ p q = one p q
+
+pub totals-row-one : OneResult totals-row.Post
+totals-row-one κ a x y r r′ p q = one p q

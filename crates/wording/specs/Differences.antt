@@ -2,7 +2,8 @@
 use Prim.Native.Nat.{ℕ}
 use mathlib.Core.List.{List, _++_}
 use Rattle.rows.specs.declared.Row.{Row}
-use Rattle.rows.specs.Rows.{ascii, row, blanks, decimal, hex, known}
+use Rattle.rules.specs.Texts.{ascii}
+use Rattle.rows.specs.Rows.{row, blanks, decimal, hex, known}
 use Rattle.words.specs.Words.{below, counted, answer}
 use Rattle.wording.specs.Events.{part}
 

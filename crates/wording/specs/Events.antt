@@ -6,7 +6,8 @@ use lib.Dec.{eqb, ltb, leb}
 use lib.ListN.{length}
 use Rattle.rules.specs.Words.{pick}
 use Rattle.rows.specs.declared.Row.{Row}
-use Rattle.rows.specs.Rows.{ascii, row, blanks, decimal, hex, within, bytes, marked}
+use Rattle.rules.specs.Texts.{ascii}
+use Rattle.rows.specs.Rows.{row, blanks, decimal, hex, within, bytes, marked}
 use Rattle.words.specs.Words.{numbered, below, counted, answer}
 
 -- blanks behind n columns: to column 34, or two where the text is longer

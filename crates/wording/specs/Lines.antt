@@ -5,7 +5,8 @@ use lib.Dec.{eqb, leb}
 use lib.ListN.{length}
 use Rattle.rules.specs.Words.{pick}
 use Rattle.rows.specs.declared.Row.{Row}
-use Rattle.rows.specs.Rows.{ascii, row, decimal, within, letters}
+use Rattle.rules.specs.Texts.{ascii}
+use Rattle.rows.specs.Rows.{row, decimal, within, letters}
 use Rattle.words.specs.Words.{numbered, below, counted}
 
 -- two dots behind a word of which not all is shown
@@ -41,6 +42,16 @@ allowed place =
 
 unfoldable pub allowedRow : ℕ → Row
 allowedRow place = row (below ++ ascii "allowed: " ++ allowed place)
+
+-- what a wrong word may have been meant to be: 0 a byte, 1 several bytes, others: a word in lower case
+unfoldable pub hint : ℕ → List ℕ
+hint n =
+    pick (eqb n 0) (ascii "a byte is two hex digits, as 06")
+    (pick (eqb n 1) (ascii "bytes stand apart, as DE AD BE EF")
+    (ascii "words are lower case, as done"))
+
+unfoldable pub hintRow : ℕ → Row
+hintRow n = row (below ++ ascii "hint: " ++ hint n)
 
 -- said only where there are any
 unfoldable pub wrongLines : ℕ → List ℕ

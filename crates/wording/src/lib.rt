@@ -25,5 +25,6 @@ pub use events::more_row;
 pub use events::new_row;
 pub use events::reply_row;
 pub use lines::allowed_row;
+pub use lines::hint_row;
 pub use lines::totals_row;
 pub use lines::wrong_row;

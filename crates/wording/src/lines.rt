@@ -2,7 +2,7 @@
 use rows::Row;
 ghost use mathlib.Core.Path.{_≡_};
 ghost use Rattle.rows.specs.Rows.{put};
-ghost use Rattle.wording.specs.Lines.{cutOff, wrongText, wrongRow, allowed, allowedRow, wrongLines, totalsRow};
+ghost use Rattle.wording.specs.Lines.{cutOff, wrongText, wrongRow, allowed, allowedRow, hint, hintRow, wrongLines, totalsRow};
 
 // Two dots behind a word that is longer than what is shown of it.
 fn cut_off(r: Row, length: usize) -> Row
@@ -88,6 +88,27 @@ pub fn allowed_row(place: u8) -> Row
     let r = words::below();
     let r = rows::text(r, b"allowed: ");
     allowed(r, place)
+}
+
+// What a wrong word may have been meant to be.
+fn hint(r: Row, n: u8) -> Row
+    ensures { λ q. ⌜ q ≡ put r (hint n) ⌝ }
+{
+    if n == 0 {
+        return rows::text(r, b"a byte is two hex digits, as 06");
+    }
+    if n == 1 {
+        return rows::text(r, b"bytes stand apart, as DE AD BE EF");
+    }
+    rows::text(r, b"words are lower case, as done")
+}
+
+pub fn hint_row(n: u8) -> Row
+    ensures { λ q. ⌜ q ≡ hintRow n ⌝ }
+{
+    let r = words::below();
+    let r = rows::text(r, b"hint: ");
+    hint(r, n)
 }
 
 fn wrong_lines(r: Row, n: u64) -> Row

@@ -3,7 +3,8 @@ use Prim.Native.Nat.{ℕ, _/_, _%_}
 use mathlib.Core.List.{List, [], _++_}
 use lib.Dec.{eqb, ltb}
 use Rattle.rules.specs.Words.{pick}
-use Rattle.rows.specs.Rows.{ascii, blanks, decimal}
+use Rattle.rules.specs.Texts.{ascii}
+use Rattle.rows.specs.Rows.{blanks, decimal}
 
 -- blanks before a number that is right-aligned in five columns
 unfoldable pub lead : ℕ → List ℕ

@@ -3,7 +3,8 @@ use mathlib.Core.Path.{ap, _∙_}
 use mathlib.Core.List.{_++_}
 use Rattle.rules.specs.declared.Block.{Block}
 use Rattle.rules.specs.Blocks.{span}
-use Rattle.rows.specs.Rows.{ascii, put, decimal}
+use Rattle.rules.specs.Texts.{ascii}
+use Rattle.rows.specs.Rows.{put, decimal}
 use Rattle.rows.proofs.Laws.{then}
 use Rattle.answering.specs.Questions.{rangeText}
 use Rattle.answering.proofs.Laws.{block-in-array}

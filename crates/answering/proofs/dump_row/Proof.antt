@@ -11,8 +11,8 @@ use borrow.Author.Needs.{needs}
 use Rattle.answering.proofs.dump_row.Statement.{statement}
 use Rattle.answering.proofs.dump_row.Tie as tie
 
-least-requires : tie.Need-least-requires
-least-requires c κs = search needs
+smaller-requires : tie.Need-smaller-requires
+smaller-requires c κs = search needs
 
 count-within-requires : tie.Need-count-within-requires
 count-within-requires c κs = search needs
@@ -58,14 +58,14 @@ unfolding dumpRow dumped
 returns c = let a = c .before .before .before .before .before .before .before .before .before .before .before .before .before .args in
     let l = a .array .now in
     then _ _ _ _ _ (then _ _ _ _ _ (then _ _ _ _ _ (then _ _ _ _ _ (then _ _ _ _ _ (then _ _ _ _ _ (start _ _ _ (c .before .before .before .before .before .before .before .before .before .empty .ensures) (c .before .before .before .before .before .before .before .before .place .ensures)) (c .before .before .before .before .before .before .before .pad .ensures)) (c .before .before .before .before .before .before .plain-bytes .ensures)) (c .before .before .before .before .before .pad2 .ensures)) (c .before .before .before .text .ensures)) (c .before .before .printed-bytes .ensures)) (c .text2 .ensures)
-    ∙ ap (λ (k : ℕ). dumped (a .place) l (c .before .before .before .before .before .before .before .before .before .before .before .least .result) k) (c .before .before .before .before .before .before .before .before .before .before .count-within .ensures)
-    ∙ ap (λ (m : ℕ). dumped (a .place) l m (within (length l) (a .place) m)) (c .before .before .before .before .before .before .before .before .before .before .before .least .ensures)
+    ∙ ap (λ (k : ℕ). dumped (a .place) l (c .before .before .before .before .before .before .before .before .before .before .before .smaller .result) k) (c .before .before .before .before .before .before .before .before .before .before .count-within .ensures)
+    ∙ ap (λ (m : ℕ). dumped (a .place) l m (within (length l) (a .place) m)) (c .before .before .before .before .before .before .before .before .before .before .before .smaller .ensures)
 
 pub dump-row-spec : {M : Type 1} → statement M
 dump-row-spec =
     tie.close
     (tie.spec
-    least-requires
+    smaller-requires
     count-within-requires
     empty-requires
     place-requires

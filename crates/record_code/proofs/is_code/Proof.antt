@@ -28,15 +28,18 @@ get-word-requires-2 c κs = omega arith
 work-right-requires-2 : tie.Need-work-right-requires-2
 work-right-requires-2 c κs = tt
 
-shared-slice-read-result : tie.Need-shared-slice-read-result
-shared-slice-read-result c = omega arith
+shared-slice-read-flags-right : tie.Need-shared-slice-read-flags-right
+shared-slice-read-flags-right c = omega arith
+
+flags-right-requires : tie.Need-flags-right-requires
+flags-right-requires c κs = tt
 
 nothing-reserved-requires : tie.Need-nothing-reserved-requires
 nothing-reserved-requires c κs = omega arith
 
 returns-2 : tie.Need-returns-2
 unfolding isCode
-returns-2 c = let w₂ = c .before .before in
+returns-2 c = let w₂ = c .before .before .before in
     let w₁ = w₂ .before .before .before in
     rw (
       eq-eqb _ 320 (w₁ .before .before .before .if1 .left),
@@ -44,6 +47,7 @@ returns-2 c = let w₂ = c .before .before in
       w₁ .before .get-word .ensures,
       w₂ .work-right2 .ensures,
       w₂ .before .get-word2 .ensures,
+      c .before .flags-right .ensures,
       c .nothing-reserved .ensures,
     ) (simp add-zero)
 
@@ -58,6 +62,7 @@ is-code-spec =
     shared-slice-read-work-right-2
     get-word-requires-2
     work-right-requires-2
-    shared-slice-read-result
+    shared-slice-read-flags-right
+    flags-right-requires
     nothing-reserved-requires
     returns-2)

@@ -1,7 +1,6 @@
 -- After i turns i bytes are put, ?? where the mark is 0, a blank before each. Assumes nothing.
-use Prim.Native.Nat.{min}
 use Prim.Native.Nat.{ℕ, _≤_, _-_}
-use mathlib.Core.Path.{_≡_, refl, sym, ap, _∙_}
+use mathlib.Core.Path.{_≡_, ap, _∙_}
 use Rattle.rows.specs.Rows.{put, marked, within}
 use Rattle.rows.proofs.Laws.{nothing-more, marked-next}
 use borrow.Author.Needs.{needs}
@@ -15,8 +14,8 @@ Inv-loop l marks from most n q₀ i₀ q i = record { low : i ≤ n; is : q ≡ 
 abbrev μ-loop : tie.MeasureT-loop
 μ-loop l marks from most n q₀ i₀ q i = n - i
 
-least-requires : tie.Need-least-requires Inv-loop μ-loop
-least-requires c κs = search needs
+smaller-requires : tie.Need-smaller-requires Inv-loop μ-loop
+smaller-requires c κs = search needs
 
 count-within-requires : tie.Need-count-within-requires Inv-loop μ-loop
 count-within-requires c κs = search needs
@@ -59,7 +58,7 @@ returns c = let l = c .before .loop in
     let a = c .before .before .before .before .before .before .args in
     let n = c .before .before .count-within in
     let e : l .i ≡ n .result = omega arith in
-    l .inv .is ∙ ap (λ (k : ℕ). put (a .r) (marked (a .l .now) (a .marks .now) (a .from) k)) (e ∙ n .ensures ∙ ap (λ (s : ℕ). within s (a .from) (a .most)) (c .before .before .before .least .ensures))
+    l .inv .is ∙ ap (λ (k : ℕ). put (a .r) (marked (a .l .now) (a .marks .now) (a .from) k)) (e ∙ n .ensures ∙ ap (λ (s : ℕ). within s (a .from) (a .most)) (c .before .before .before .smaller .ensures))
 
 pub marked-bytes-spec : {M : Type 1} → statement M
 marked-bytes-spec =
@@ -67,7 +66,7 @@ marked-bytes-spec =
     (tie.spec
     Inv-loop
     μ-loop
-    least-requires
+    smaller-requires
     count-within-requires
     loop-holds
     add-requires

@@ -1,5 +1,9 @@
 -- A command, or a frame that is turned away. Assumes nothing.
-use mathlib.Core.Path.{sym, _∙_}
+use Prim.Native.Nat.{ℕ, _<_}
+use mathlib.Core.Path.{_≡_, sym, _∙_}
+use mathlib.Core.Bool.{true}
+use native.Mathlib.Omega.{arith}
+use lib.Dec.{ltb}
 use lib.ListN.{length}
 use borrow.Author.Tests.{ltb-true}
 use Rattle.rules.proofs.Bools.{and-split}
@@ -8,13 +12,15 @@ use borrow.Author.Needs.{needs}
 use Rattle.chip.proofs.turns.frame_turn.Statement.{statement}
 use Rattle.chip.proofs.turns.frame_turn.Tie as tie
 
+some-byte : (k n : ℕ) → ltb k n ≡ true → 0 < n
+some-byte k n t = let h = ltb-true k n t in omega arith
+
 pub frame-turn-spec : {M : Type 1} → statement M
 frame-turn-spec =
     tie.close
     (tie.spec
     (λ c κs. search needs)
-    (λ c κs. search needs)
-    (λ c κs. let b = and-split _ _ (c .before .before .before .if1 .taken) in let r = and-split _ _ (b .0) in record { paged = c .before .before .before .before .before .before .before .before .before .before .before .before .before .pre; right = sym (c .before .before .before .before .before .state-right .ensures) ∙ r .0; fits = sym (c .before .before .before .before .frame-right .ensures) ∙ r .1; some = ltb-true 0 (length (c .before .before .before .before .before .before .before .before .before .before .before .before .before .args .sent .now)) (b .1) })
+    (λ c κs. let b = and-split _ _ (c .before .before .before .if1 .taken) in let r = and-split _ _ (b .0) in record { paged = c .before .before .before .before .before .before .before .before .before .before .before .pre .paged; right = sym (c .before .before .before .before .before .before .before .before .before .before .before .pre .known) ∙ r .0; fits = sym (c .before .before .before .before .frame-right .ensures) ∙ r .1; some = some-byte _ (length (c .before .before .before .before .before .before .before .before .before .before .before .args .sent .now)) (b .1) })
     (λ c. search needs)
     (λ c. search needs)
     (λ c. search needs)
@@ -22,5 +28,4 @@ frame-turn-spec =
     (λ c κs. search needs)
     (λ c. search needs)
     (λ c. search needs)
-    (λ c. search needs)
-    (λ c. let a = c .before .before .before .before .before .before .before .before .before .before .before .before .before .before .before .before .before .args in record { outcome = frame-turned-away (a .r) (a .page .now) (a .array .now) (a .security .now) (a .sent .now) (a .reply .now) (a .marks .now) _ _ _ _ _ (c .before .before .before .before .before .before .before .before .before .state-right .ensures) (c .before .before .before .before .before .before .before .before .frame-right .ensures) (c .before .before .before .before .before .before .before .if1 .left) (c .before .before .before .before .turned-away .ensures) }))
+    (λ c. let a = c .before .before .before .before .before .before .before .before .before .before .before .before .before .before .before .args in record { outcome = frame-turned-away (a .r) (a .page .now) (a .array .now) (a .security .now) (a .sent .now) (a .reply .now) (a .marks .now) _ _ _ _ _ (c .before .before .before .before .before .before .before .before .before .before .before .before .before .before .before .pre .known) (c .before .before .before .before .before .before .before .before .frame-right .ensures) (c .before .before .before .before .before .before .before .if1 .left) (c .before .before .before .before .turned-away .ensures) }))

@@ -76,9 +76,6 @@ where-true-requires-5 c κs = search needs
 enum-told-12 : tie.Need-enum-told-12
 enum-told-12 c = search needs
 
-at-end-requires : tie.Need-at-end-requires
-at-end-requires c κs = search needs
-
 returns : tie.Need-returns
 returns c = rw (c .before .enum-told .given .1, sym (c .before .before .before .sort-of .ensures)) (c .first .ensures)
 
@@ -113,7 +110,7 @@ returns-11 : tie.Need-returns-11
 returns-11 c = rw (c .before .enum-told11 .given .1) (c .where-true5 .ensures)
 
 returns-12 : tie.Need-returns-12
-returns-12 c = rw (c .before .enum-told12 .given .1, sym (c .before .before .before .sort-of .ensures)) (c .at-end .ensures)
+returns-12 c = rw (c .enum-told12 .given .1)
 
 pub follows-spec : {M : Type 1} → statement M
 follows-spec =
@@ -143,7 +140,6 @@ follows-spec =
     enum-told-11
     where-true-requires-5
     enum-told-12
-    at-end-requires
     returns
     returns-2
     returns-3

@@ -23,17 +23,17 @@ is-awaited-requires c κs = search needs
 counted-requires-2 : tie.Need-counted-requires-2
 counted-requires-2 c κs = search needs
 
-at-most-requires : tie.Need-at-most-requires
-at-most-requires c κs = search needs
+smaller-requires : tie.Need-smaller-requires
+smaller-requires c κs = search needs
 
-at-most-requires-2 : tie.Need-at-most-requires-2
-at-most-requires-2 c κs = search needs
+smaller-requires-2 : tie.Need-smaller-requires-2
+smaller-requires-2 c κs = search needs
 
 cast-number : tie.Need-cast-number
-cast-number c = let h = c .at-most2 .ensures in omega arith
+cast-number c = let h = c .smaller2 .ensures in omega arith
 
-at-most-requires-3 : tie.Need-at-most-requires-3
-at-most-requires-3 c κs = search needs
+smaller-requires-3 : tie.Need-smaller-requires-3
+smaller-requires-3 c κs = search needs
 
 enum-told : tie.Need-enum-told
 enum-told c = search needs
@@ -105,7 +105,7 @@ returns-2 : tie.Need-returns-2
 returns-2 c = c .with-sent .ensures ∙ rw (c .before .before .before .before .before .before .before .before .counted .ensures, c .before .before .before .before .before .before .before .before .before .is-byte .ensures, c .before .before .before .before .before .before .before .before .before .before .before .sort-of .ensures, c .before .enum-told2 .given .1)
 
 returns-3 : tie.Need-returns-3
-returns-3 c = c .with-wanted .ensures ∙ rw (c .before .before .before .before .before .at-most .ensures, c .before .enum-told3 .given .1)
+returns-3 c = c .with-wanted .ensures ∙ rw (c .before .before .before .before .before .smaller .ensures, c .before .enum-told3 .given .1)
 
 returns-4 : tie.Need-returns-4
 returns-4 c = rw (c .enum-told4 .given .1)
@@ -117,7 +117,7 @@ returns-6 : tie.Need-returns-6
 returns-6 c = c .with-expected2 .ensures ∙ rw (c .before .before .before .before .before .before .counted2 .ensures, c .before .before .before .before .before .before .before .is-awaited .ensures, c .before .before .before .before .before .before .before .before .before .before .before .sort-of .ensures, c .before .enum-told6 .given .1)
 
 returns-7 : tie.Need-returns-7
-returns-7 c = c .with-number .ensures ∙ rw (c .before .before .before .before .at-most2 .ensures, c .before .enum-told7 .given .1)
+returns-7 c = c .with-number .ensures ∙ rw (c .before .before .before .before .smaller2 .ensures, c .before .enum-told7 .given .1)
 
 returns-8 : tie.Need-returns-8
 returns-8 c = rw (c .enum-told8 .given .1)
@@ -129,7 +129,7 @@ returns-10 : tie.Need-returns-10
 returns-10 c = c .with-start .ensures ∙ rw (c .before .enum-told10 .given .1)
 
 returns-11 : tie.Need-returns-11
-returns-11 c = c .with-count2 .ensures ∙ rw (c .before .before .before .at-most3 .ensures, c .before .enum-told11 .given .1)
+returns-11 c = c .with-count2 .ensures ∙ rw (c .before .before .before .smaller3 .ensures, c .before .enum-told11 .given .1)
 
 returns-12 : tie.Need-returns-12
 returns-12 c = rw (c .enum-told12 .given .1)
@@ -144,10 +144,10 @@ heard-spec =
     counted-requires
     is-awaited-requires
     counted-requires-2
-    at-most-requires
-    at-most-requires-2
+    smaller-requires
+    smaller-requires-2
     cast-number
-    at-most-requires-3
+    smaller-requires-3
     enum-told
     with-verb-requires
     enum-told-2

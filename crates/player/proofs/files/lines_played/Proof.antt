@@ -13,8 +13,8 @@ abbrev μ-loop : tie.MeasureT-loop
 begun-requires : tie.Need-begun-requires Inv-loop μ-loop
 begun-requires c κs = search needs
 
-unread-requires : tie.Need-unread-requires Inv-loop μ-loop
-unread-requires c κs = search needs
+nothing-came-requires : tie.Need-nothing-came-requires Inv-loop μ-loop
+nothing-came-requires c κs = search needs
 
 loop-holds : tie.Need-loop-holds Inv-loop μ-loop
 loop-holds c = search needs
@@ -50,7 +50,7 @@ lines-played-spec =
     Inv-loop
     μ-loop
     begun-requires
-    unread-requires
+    nothing-came-requires
     loop-holds
     sub-turns
     next-line-requires

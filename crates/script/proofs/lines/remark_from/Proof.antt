@@ -6,11 +6,11 @@ use Rattle.script.proofs.lines.remark_from.Tie as tie
 one-more-requires : tie.Need-one-more-requires
 one-more-requires c κs = search needs
 
-none-at-requires : tie.Need-none-at-requires
-none-at-requires c κs = search needs
+none-requires : tie.Need-none-requires
+none-requires c κs = search needs
 
 returns : tie.Need-returns
-returns c = rw (c .none-at .ensures, c .before .one-more .ensures)
+returns c = rw (c .none .ensures, c .before .one-more .ensures)
 
 pub remark-from-spec : {M : Type 1} → statement M
-remark-from-spec = tie.close (tie.spec one-more-requires none-at-requires returns)
+remark-from-spec = tie.close (tie.spec one-more-requires none-requires returns)

@@ -17,12 +17,12 @@ returns c = rw (eq-eqb _ _ (c .before .if1 .taken)) (c .remark-from .ensures)
 is-blank-requires : tie.Need-is-blank-requires
 is-blank-requires c κs = search needs
 
-blanked-requires : tie.Need-blanked-requires
-blanked-requires c κs = search needs
+passed-requires : tie.Need-passed-requires
+passed-requires c κs = search needs
 
 returns-2 : tie.Need-returns-2
 unfolding takenOpen
-returns-2 c = rw (ne-eqb _ _ (c .before .before .before .if1 .left)) (c .blanked .ensures ∙ picked _ _ (c .before .before .is-blank .ensures) (c .before .if2 .taken))
+returns-2 c = rw (ne-eqb _ _ (c .before .before .before .if1 .left)) (c .passed .ensures ∙ picked _ _ (c .before .before .is-blank .ensures) (c .before .if2 .taken))
 
 goes-on-requires : tie.Need-goes-on-requires
 goes-on-requires c κs = search needs
@@ -38,7 +38,7 @@ taken-open-spec =
     remark-from-requires
     returns
     is-blank-requires
-    blanked-requires
+    passed-requires
     returns-2
     goes-on-requires
     returns-3)

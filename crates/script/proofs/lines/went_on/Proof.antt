@@ -14,12 +14,6 @@ went-requires c κs = search needs
 enum-told : tie.Need-enum-told
 enum-told c = search needs
 
-strayed-requires : tie.Need-strayed-requires
-strayed-requires c κs = search needs
-
-enum-told-2 : tie.Need-enum-told-2
-enum-told-2 c = search needs
-
 with-mode-requires : tie.Need-with-mode-requires
 with-mode-requires c κs = search needs
 
@@ -27,10 +21,7 @@ returns : tie.Need-returns
 returns c = c .went .ensures ∙ ap (goes (c .before .before .before .before .args .r)) (sym (c .before .before .next .given .1))
 
 returns-2 : tie.Need-returns-2
-returns-2 c = c .strayed .ensures ∙ ap (goes (c .before .before .before .args .r)) (sym (c .before .enum-told .given .1))
-
-returns-3 : tie.Need-returns-3
-returns-3 c = c .with-mode .ensures ∙ ap (goes (c .before .before .before .args .r)) (sym (c .before .enum-told2 .given .1))
+returns-2 c = c .with-mode .ensures ∙ ap (goes (c .before .before .before .args .r)) (sym (c .before .enum-told .given .1))
 
 pub went-on-spec : {M : Type 1} → statement M
 went-on-spec =
@@ -39,9 +30,6 @@ went-on-spec =
     enum-known-next
     went-requires
     enum-told
-    strayed-requires
-    enum-told-2
     with-mode-requires
     returns
-    returns-2
-    returns-3)
+    returns-2)

@@ -1,9 +1,0 @@
--- A text of ASCII characters as its bytes.
-use Prim.Native.Nat.{ℕ}
-use Prim.Native.Char.{Char, code}
-use Prim.Native.String.{String, [], _∷_}
-use mathlib.Core.List.{List, [] as []ᴸ, _∷_ as _∷ᴸ_}
-
-abbrev pub ascii : String → List ℕ
-ascii [] = []ᴸ
-ascii (c ∷ s) = code c ∷ᴸ ascii s
