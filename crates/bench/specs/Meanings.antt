@@ -11,17 +11,17 @@ use Rattle.rules.specs.Texts.{ascii}
 unfoldable pub meaning : ℕ → List ℕ
 meaning n =
     pick (eqb n 0) (ascii "done")
-    (pick (eqb n 1) (ascii "record not well-formed, or a length outside the sizes")
+    (pick (eqb n 1) (ascii "record not well-formed, or a length outside \"Sizes\"")
     (pick (eqb n 2) (ascii "frame empty")
     (pick (eqb n 3) (ascii "opcode not listed, or not in this protocol")
     (pick (eqb n 4) (ascii "length not as listed")
-    (pick (eqb n 5) (ascii "busy")
+    (pick (eqb n 5) (ascii "BUSY, and opcode not 05, 66, 99, B0")
     (pick (eqb n 6) (ascii "99 with no enable")
     (pick (eqb n 7) (ascii "6B or 32 with IOC 0")
     (pick (eqb n 8) (ascii "suspension rule")
     (pick (eqb n 9) (ascii "WEL needed and 0")
-    (pick (eqb n 10) (ascii "closed: WPLD 1, SEC 1, or A5 to places 0 to 7")
-    (pick (eqb n 11) (ascii "write-locked")
+    (pick (eqb n 10) (ascii "42 or 98 with WPLD 1; A5 or 85 with SEC 1; A5 to places 0 to 7")
+    (pick (eqb n 11) (ascii "20, D8, 02, 32 in a write-locked block; C7 with a write lock set")
     (pick (eqb n 12) (ascii "completion with nothing running")
     []))))))))))))
 

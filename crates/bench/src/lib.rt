@@ -121,7 +121,7 @@ fn text_below_4(number: u8, text: &mut [u8]) -> usize
         0 => put_text(text, b"done"),
         1 => put_text(
             text,
-            b"record not well-formed, or a length outside the sizes",
+            b"record not well-formed, or a length outside \"Sizes\"",
         ),
         2 => put_text(text, b"frame empty"),
         _ => put_text(text, b"opcode not listed, or not in this protocol"),
@@ -135,7 +135,7 @@ fn text_below_8(number: u8, text: &mut [u8]) -> usize
 {
     match number {
         4 => put_text(text, b"length not as listed"),
-        5 => put_text(text, b"busy"),
+        5 => put_text(text, b"BUSY, and opcode not 05, 66, 99, B0"),
         6 => put_text(text, b"99 with no enable"),
         _ => put_text(text, b"6B or 32 with IOC 0"),
     }
@@ -155,8 +155,14 @@ pub extern "C" fn fulkibono_meaning(number: u8, text: &mut [u8]) -> usize
     match number {
         8 => put_text(text, b"suspension rule"),
         9 => put_text(text, b"WEL needed and 0"),
-        10 => put_text(text, b"closed: WPLD 1, SEC 1, or A5 to places 0 to 7"),
-        11 => put_text(text, b"write-locked"),
+        10 => put_text(
+            text,
+            b"42 or 98 with WPLD 1; A5 or 85 with SEC 1; A5 to places 0 to 7",
+        ),
+        11 => put_text(
+            text,
+            b"20, D8, 02, 32 in a write-locked block; C7 with a write lock set",
+        ),
         12 => put_text(text, b"completion with nothing running"),
         _ => 0,
     }

@@ -1,4 +1,5 @@
 -- Laws that the proofs cite.
 pub mod Firsts
 pub mod Cases
+pub mod Sames
 pub mod Unique

@@ -1,3 +1,4 @@
--- When what a script expects is met, and what is counted.
+-- When what a script expects is met, the record that it says, and what is counted.
 pub mod Expectations
+pub mod Records
 pub mod Tallies

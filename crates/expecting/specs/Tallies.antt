@@ -25,3 +25,17 @@ afterEvent t number unmet =
 -- a wrong line is no event
 abbrev pub afterWrong : Tally → Tally
 afterWrong t = record { events = t .events; refused = t .refused; differences = t .differences; wrong = added (t .wrong) 1 }
+
+-- expectations of a line that is no event
+abbrev pub afterUnmet : Tally → ℕ → Tally
+afterUnmet t unmet = record { events = t .events; refused = t .refused; differences = added (t .differences) unmet; wrong = t .wrong }
+
+-- two scripts
+abbrev pub sumOf : Tally → Tally → Tally
+sumOf t u =
+    record {
+      events = added (t .events) (u .events);
+      refused = added (t .refused) (u .refused);
+      differences = added (t .differences) (u .differences);
+      wrong = added (t .wrong) (u .wrong);
+    }

@@ -1,4 +1,6 @@
--- Laws of words.
+-- Laws of words and of the table.
+pub mod Picks
+pub mod Lookups
 pub mod Unique
 pub mod Spelled
 pub mod Keys

@@ -9,9 +9,9 @@ use lib.Dec.{ltb, lit<, lit≤}
 use lib.ListN.{length}
 use borrow.Author.Tests.{ltb-true}
 use Rattle.rules.proofs.Bools.{and-split}
-use Rattle.grammar.specs.declared.Sort.{Sort}
 use Rattle.grammar.specs.declared.Word.{Word}
-use Rattle.grammar.specs.Words.{digitOf, most, oneMore, tensOf, noWord, wordWith, sortOf, byteOf}
+use Rattle.grammar.specs.Words.{digitOf, most, oneMore, tensOf, noWord, wordWith, byteOf}
+use Rattle.grammar.specs.Table.{byte, hasClass}
 
 -- the word w with more bytes, the first of them at that column
 unfoldable pub spelled : Word → ℕ → List ℕ → Word
@@ -85,32 +85,32 @@ hexadecimal-from w c (b ∷ bs) =
 pub hexadecimal-is : (n c : ℕ) (bs : List ℕ) → spelled (noWord n) c bs .hexadecimal ≡ digits 16 bs
 hexadecimal-is n c bs = hexadecimal-from (noWord n) c bs
 
--- ---- hex numbers of at most six digits
+-- ---- hex numbers of at most sixteen digits
 
 -- the number that hex digits stand for, after those of n
 unfoldable pub hexFrom : ℕ → List ℕ → ℕ
 hexFrom n [] = n
 hexFrom n (b ∷ bs) = hexFrom (n * 16 + digitOf b) bs
 
-hex-from : (w : Word) (c x r : ℕ) (bs : List ℕ) → digits 16 bs ≡ true → w .hex ≡ x → x < 16 ^ r → r + length bs ≤ 6 → spelled w c bs .hex ≡ hexFrom x bs
+hex-from : (w : Word) (c x r : ℕ) (bs : List ℕ) → digits 16 bs ≡ true → w .hex ≡ x → x < 16 ^ r → r + length bs ≤ 16 → spelled w c bs .hex ≡ hexFrom x bs
 unfolding spelled wordWith hexFrom digits
 hex-from w c x r [] d e lt le = e
 hex-from w c x r (b ∷ bs) d e lt le =
     let both = and-split (ltb (digitOf b) 16) (digits 16 bs) d in
     let h = ltb-true (digitOf b) 16 (both .0) in
-    let small : 16 ^ r ≤ 16 ^ 5 = pow-le-pow-right {n = 16} (lit< tt) {i = r} {j = 5} (omega arith) in
-    let s : w .hex % 1048576 * 16 + digitOf b ≡ x * 16 + digitOf b = omega arith in
+    let small : 16 ^ r ≤ 16 ^ 15 = pow-le-pow-right {n = 16} (lit< tt) {i = r} {j = 15} (omega arith) in
+    let s : w .hex % 1152921504606846976 * 16 + digitOf b % 16 ≡ x * 16 + digitOf b = omega arith in
     let t : x * 16 + digitOf b < 16 ^ suc r = rw (pow-suc 16 r) (omega arith) in
     hex-from (wordWith w b c) (oneMore c) (x * 16 + digitOf b) (suc r) bs (both .1) s t (omega arith)
 
-pub hex-is : (n c : ℕ) (bs : List ℕ) → digits 16 bs ≡ true → length bs ≤ 6 → spelled (noWord n) c bs .hex ≡ hexFrom 0 bs
+pub hex-is : (n c : ℕ) (bs : List ℕ) → digits 16 bs ≡ true → length bs ≤ 16 → spelled (noWord n) c bs .hex ≡ hexFrom 0 bs
 hex-is n c bs d h = hex-from (noWord n) c 0 0 bs d refl (lit< tt) (omega arith)
 
 -- two hex digits are a byte, and this one
-pub byte-is : (n c a b : ℕ) → digits 16 (a ∷ b ∷ []) ≡ true
-    → (sortOf (spelled (noWord n) c (a ∷ b ∷ [])) ≡ Sort.Byte) × (byteOf (spelled (noWord n) c (a ∷ b ∷ [])) ≡ digitOf a * 16 + digitOf b)
-unfolding sortOf byteOf digits hexFrom
-byte-is n c a b d =
+pub byte-is : (n c m a b : ℕ) → digits 16 (a ∷ b ∷ []) ≡ true
+    → (hasClass byte (spelled (noWord n) c (a ∷ b ∷ [])) m ≡ true) × (byteOf (spelled (noWord n) c (a ∷ b ∷ [])) ≡ digitOf a * 16 + digitOf b)
+unfolding hasClass digits hexFrom
+byte-is n c m a b d =
     let w : Word = spelled (noWord n) c (a ∷ b ∷ []) in
     let x : w .hexadecimal ≡ true = hexadecimal-is n c (a ∷ b ∷ []) ∙ d in
     let l : w .length ≡ 2 = length-is n c (a ∷ b ∷ []) in
@@ -119,4 +119,4 @@ byte-is n c a b d =
     let q = and-split (ltb (digitOf b) 16) true (p .1) in
     let s = ltb-true (digitOf a) 16 (p .0) in
     let t = ltb-true (digitOf b) 16 (q .0) in
-    (rw (x, l), rw (x, h) (omega arith))
+    (rw (x, l), rw h (omega arith))

@@ -3,19 +3,16 @@ use Rattle.rules.proofs.Promises.{one}
 use Rattle.rules.proofs.Outcomes.{OneResult}
 use Rattle.grammar.proofs.words.one_more.Reads as one-more
 use Rattle.grammar.proofs.words.is_blank.Reads as is-blank
+use Rattle.grammar.proofs.words.ends_line.Reads as ends-line
 use Rattle.grammar.proofs.words.ends_words.Reads as ends-words
+use Rattle.grammar.proofs.words.key_after.Reads as key-after
 use Rattle.grammar.proofs.words.none.Reads as none
 use Rattle.grammar.proofs.words.longer.Reads as longer
-use Rattle.grammar.proofs.words.sort_of.Reads as sort-of
+use Rattle.grammar.proofs.words.sign.Reads as sign
 use Rattle.grammar.proofs.words.byte_of.Reads as byte-of
-use Rattle.grammar.proofs.places.nothing.Reads as nothing
-use Rattle.grammar.proofs.places.follows.Reads as follows
-use Rattle.grammar.proofs.places.can_end.Reads as can-end
-use Rattle.grammar.proofs.places.is_byte.Reads as is-byte
-use Rattle.grammar.proofs.places.is_sign.Reads as is-sign
-use Rattle.grammar.proofs.places.framed.Reads as framed
-use Rattle.grammar.proofs.places.awaited.Reads as awaited
-use Rattle.grammar.proofs.places.heard.Reads as heard
+use Rattle.grammar.proofs.table.follows.Reads as follows
+use Rattle.grammar.proofs.table.can_end.Reads as can-end
+use Rattle.grammar.proofs.table.heard.Reads as heard
 
 -- ---- words
 
@@ -25,8 +22,14 @@ one-more-one κ a x y r r′ p q = one p q
 pub is-blank-one : OneResult is-blank.Post
 is-blank-one κ a x y r r′ p q = one p q
 
+pub ends-line-one : OneResult ends-line.Post
+ends-line-one κ a x y r r′ p q = one p q
+
 pub ends-words-one : OneResult ends-words.Post
 ends-words-one κ a x y r r′ p q = one p q
+
+pub key-after-one : OneResult key-after.Post
+key-after-one κ a x y r r′ p q = one p q
 
 pub none-one : OneResult none.Post
 none-one κ a x y r r′ p q = one p q
@@ -34,34 +37,19 @@ none-one κ a x y r r′ p q = one p q
 pub longer-one : OneResult longer.Post
 longer-one κ a x y r r′ p q = one p q
 
-pub sort-of-one : OneResult sort-of.Post
-sort-of-one κ a x y r r′ p q = one p q
+pub sign-one : OneResult sign.Post
+sign-one κ a x y r r′ p q = one p q
 
 pub byte-of-one : OneResult byte-of.Post
 byte-of-one κ a x y r r′ p q = one p q
 
--- ---- places
-
-pub nothing-one : OneResult nothing.Post
-nothing-one κ a x y r r′ p q = one p q
+-- ---- table
 
 pub follows-one : OneResult follows.Post
 follows-one κ a x y r r′ p q = one p q
 
 pub can-end-one : OneResult can-end.Post
 can-end-one κ a x y r r′ p q = one p q
-
-pub is-byte-one : OneResult is-byte.Post
-is-byte-one κ a x y r r′ p q = one p q
-
-pub is-sign-one : OneResult is-sign.Post
-is-sign-one κ a x y r r′ p q = one p q
-
-pub framed-one : OneResult framed.Post
-framed-one κ a x y r r′ p q = one p q
-
-pub awaited-one : OneResult awaited.Post
-awaited-one κ a x y r r′ p q = one p q
 
 pub heard-one : OneResult heard.Post
 heard-one κ a x y r r′ p q = one p q

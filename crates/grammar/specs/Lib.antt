@@ -1,3 +1,6 @@
 -- The words of a script's line and its grammar. The language as a whole is told in crate `script`, specs/Lib.
 pub mod Words
-pub mod Grammar
+pub mod Places
+pub mod Slots
+pub mod Verbs
+pub mod Table

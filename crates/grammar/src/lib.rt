@@ -1,49 +1,6 @@
-// The words of a script's line, and its grammar: what may follow what, and what each word says. The definitions are in specs/.
-pub mod places;
+// The words of a script's line, and its grammar as a table: what may follow what, and what each word says. The definitions are in specs/.
+pub mod table;
 pub mod words;
-
-pub enum Verb {
-    Blank,
-    Frame,
-    Done,
-    Cut,
-    New,
-    Status,
-    Work,
-    Locks,
-    Dump,
-    Full,
-    Short,
-    Wrong,
-}
-
-// A place in a line: what the words so far leave to come.
-pub enum Place {
-    // the line's first word
-    First,
-    // after a frame's byte
-    Sent,
-    // after `>`
-    ReplyCount,
-    // after `> N`
-    Replied,
-    // after `=`
-    Expected,
-    // after an expected byte
-    MoreExpected,
-    // after `!`
-    Refusal,
-    // after `done` or `cut N`
-    AfterEvent,
-    // after `cut`
-    CutCount,
-    // after `dump`
-    DumpPlace,
-    // after `dump A`
-    DumpCount,
-    // nothing may follow but a remark
-    End,
-}
 
 // A word half read; none while its length is 0.
 pub struct Word {
@@ -56,45 +13,20 @@ pub struct Word {
     // only decimal digits so far, and their number, at most 2^64 - 1
     pub decimal: bool,
     pub number: u64,
-    // only hex digits so far, and the number of the last six
+    // only hex digits so far, and the number of the last sixteen
     pub hexadecimal: bool,
-    pub hex: usize,
+    pub hex: u64,
 }
 
-// What the words so far say.
-pub struct Said {
-    pub verb: Verb,
-    pub sent: usize,
-    pub wanted: usize,
-    pub expects: bool,
-    pub expected: usize,
-    pub judged: bool,
-    pub number: u8,
-    pub count: u64,
-    pub start: usize,
-}
-
-pub enum Sort {
-    // two hex digits
-    Byte,
-    // ??
-    Any,
-    // >
-    Reply,
-    // =
-    Expect,
-    // !
-    Refuse,
-    Done,
-    Cut,
-    Dump,
-    // a word that is a whole line
-    Alone(Verb),
-    Other,
-}
-
-pub enum Next {
-    To(Place),
-    // the word cannot stand here
-    Mistake,
+// A row of the table, without its place.
+pub struct Entry {
+    // of the word; 255: no row has it
+    pub class: u8,
+    // the place that comes next
+    pub next: u8,
+    // what the word stores
+    pub store: u8,
+    // what it writes, and where
+    pub slot: u8,
+    pub source: u8,
 }

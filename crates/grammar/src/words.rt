@@ -1,12 +1,10 @@
-// Words: their bytes, their numbers, their sorts. specs/Words.antt.
-use crate::Sort;
-use crate::Verb;
+// Words: their bytes, their numbers. specs/Words.antt.
 use crate::Word;
 ghost use mathlib.Core.Path.{_≡_};
 ghost use Prim.Native.Nat.{_+_, _*_, _%_, _^_, min};
 ghost use lib.Dec.{eqb};
 ghost use Rattle.rules.specs.Words.{pick};
-ghost use Rattle.grammar.specs.Words.{blank, endsWords, digitOf, oneMore, tensOf, noWord, wordWith, byKey, sortOf, byteOf};
+ghost use Rattle.grammar.specs.Words.{blank, lineEnd, sign, endsWords, digitOf, oneMore, tensOf, keyWith, noWord, wordWith, isSign, byteOf};
 
 // One more, at most 2^64 - 1.
 pub fn one_more(n: usize) -> usize
@@ -15,18 +13,32 @@ pub fn one_more(n: usize) -> usize
     if n < 18446744073709551615 { n + 1 } else { n }
 }
 
-// Space, tab, vertical tab, form feed, CR.
+// Space, tab, vertical tab, form feed.
 pub fn is_blank(b: u8) -> bool
     ensures { λ r. ⌜ r ≡ blank b ⌝ }
 {
-    (b == 32) | ((b == 9) | ((b == 11) | ((b == 12) | (b == 13))))
+    (b == 32) | ((b == 9) | ((b == 11) | (b == 12)))
 }
 
-// #, one of the signs ! = >, or a blank.
+// LF, CR.
+pub fn ends_line(b: u8) -> bool
+    ensures { λ r. ⌜ r ≡ lineEnd b ⌝ }
+{
+    (b == 10) | (b == 13)
+}
+
+// One of the signs > = ! / * ~.
+fn is_sign(b: u8) -> bool
+    ensures { λ r. ⌜ r ≡ sign b ⌝ }
+{
+    (b == 62) | ((b == 61) | ((b == 33) | ((b == 47) | ((b == 42) | (b == 126)))))
+}
+
+// #, a sign, a blank or a line's end.
 pub fn ends_words(b: u8) -> bool
     ensures { λ r. ⌜ r ≡ endsWords b ⌝ }
 {
-    (b == 35) | ((b == 33) | ((b == 61) | ((b == 62) | is_blank(b))))
+    (b == 35) | (is_sign(b) | (is_blank(b) | ends_line(b)))
 }
 
 // What a hex digit stands for; 16 for any other byte.
@@ -78,16 +90,16 @@ fn column_after(length: usize, old: usize, column: usize) -> usize
     if length == 0 { column } else { old }
 }
 
-fn key_after(key: u64, b: u8) -> u64
-    ensures { λ r. ⌜ r ≡ key % 2 ^ 48 * 256 + b ⌝ }
+pub fn key_after(key: u64, b: u8) -> u64
+    ensures { λ r. ⌜ r ≡ keyWith key b ⌝ }
 {
-    key % 281474976710656 * 256 + b as u64
+    key % 72057594037927936 * 256 + b as u64
 }
 
-fn hex_after(hex: usize, d: u8) -> usize
-    ensures { λ r. ⌜ r ≡ hex % 2 ^ 20 * 16 + d ⌝ }
+fn hex_after(hex: u64, d: u8) -> u64
+    ensures { λ r. ⌜ r ≡ hex % 2 ^ 60 * 16 + d % 16 ⌝ }
 {
-    hex % 1048576 * 16 + d as usize
+    hex % 1152921504606846976 * 16 + (d % 16) as u64
 }
 
 // No word; where a remark begins, its column.
@@ -121,48 +133,16 @@ pub fn longer(w: Word, b: u8, column: usize) -> Word
     }
 }
 
-// The sort of a word of at most six bytes that is no byte, by its bytes as one number, after a 01:
-// > = ! ?? done cut dump new status work locks full short.
-fn by_key(key: u64) -> Sort
-    ensures { λ r. ⌜ r ≡ byKey key ⌝ }
+// The word is a sign.
+pub fn sign(w: Word) -> bool
+    ensures { λ r. ⌜ r ≡ isSign w ⌝ }
 {
-    match key {
-        0x013e => Sort::Reply,
-        0x013d => Sort::Expect,
-        0x0121 => Sort::Refuse,
-        0x013f3f => Sort::Any,
-        0x01646f6e65 => Sort::Done,
-        0x01637574 => Sort::Cut,
-        0x0164756d70 => Sort::Dump,
-        0x016e6577 => Sort::Alone(Verb::New),
-        0x01737461747573 => Sort::Alone(Verb::Status),
-        0x01776f726b => Sort::Alone(Verb::Work),
-        0x016c6f636b73 => Sort::Alone(Verb::Locks),
-        0x0166756c6c => Sort::Alone(Verb::Full),
-        0x0173686f7274 => Sort::Alone(Verb::Short),
-        _ => Sort::Other,
-    }
+    (w.length == 1) & is_sign((w.key % 256) as u8)
 }
 
-pub fn sort_of(w: Word) -> Sort
-    ensures { λ r. ⌜ r ≡ sortOf w ⌝ }
-{
-    if w.hexadecimal & (w.length == 2) {
-        return Sort::Byte;
-    }
-    if 6 < w.length {
-        return Sort::Other;
-    }
-    by_key(w.key)
-}
-
-// The byte that two hex digits stand for; 0 for ??.
+// The byte that two hex digits stand for.
 pub fn byte_of(w: Word) -> u8
     ensures { λ r. ⌜ r ≡ byteOf w ⌝ }
 {
-    if w.hexadecimal {
-        (w.hex % 256) as u8
-    } else {
-        0
-    }
+    (w.hex % 256) as u8
 }

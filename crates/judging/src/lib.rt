@@ -1,5 +1,5 @@
 // The refusals 3 to 11 of a frame, each by its opcode.
-mod named;
+pub mod named;
 
 use rules::Answer;
 use rules::Form;

@@ -1,13 +1,14 @@
-// The bench between two lines: the chip's record, the line's number and what was counted.
+// The bench between two lines.
 use expecting::Tally;
 use rules::After;
 use rules::Chip;
 ghost use mathlib.Core.Path.{_≡_};
 ghost use Rattle.rules.specs.Numbers.{answerNumber};
 
-pub type Memory = [u8; 2097152];
+// A byte more than the chip has, so that a longer memory can be lent.
+pub type Memory = [u8; 2097153];
 
-pub type Identity = [u8; 2048];
+pub type Identity = [u8; 2049];
 
 // A byte more than a frame or a reply may have, so that longer ones are seen to be too long.
 pub type Lent = [u8; 65537];
@@ -16,16 +17,24 @@ pub struct Bench {
     pub chip: Chip,
     pub tally: Tally,
     pub line: u64,
+    // how many bytes of the memories are lent
+    pub array: usize,
+    pub security: usize,
     // long replies are shown in full
     pub full: bool,
+    // a refusal that no line expects is a difference
+    pub strict: bool,
 }
 
-pub fn begun() -> Bench {
+pub fn begun(strict: bool) -> Bench {
     Bench {
         chip: chip::new(),
         tally: expecting::no_events(),
         line: 0,
+        array: 2097152,
+        security: 2048,
         full: false,
+        strict,
     }
 }
 
@@ -38,14 +47,20 @@ pub fn number_of(after: After) -> u8
 
 // The bench after an event that gave these.
 pub fn counted(b: Bench, after: After, unmet: u64) -> Bench {
-    let t = b.tally;
+    let t = expecting::with_event(b.tally, number_of(after), unmet);
     let c = after.chip;
-    Bench {
-        chip: c,
-        tally: expecting::with_event(t, number_of(after), unmet),
-        line: b.line,
-        full: b.full,
-    }
+    let mut next = b;
+    next.chip = c;
+    next.tally = t;
+    next
+}
+
+// So many expectations of a line that is no event are not met.
+pub fn with_unmet(b: Bench, unmet: u64) -> Bench {
+    let t = expecting::with_unmet(b.tally, unmet);
+    let mut next = b;
+    next.tally = t;
+    next
 }
 
 pub fn at_next_line(b: Bench) -> Bench {
@@ -67,9 +82,21 @@ pub fn with_full(b: Bench, full: bool) -> Bench {
     next
 }
 
-pub fn with_new_chip(b: Bench) -> Bench {
-    let c = chip::new();
+pub fn with_strict(b: Bench) -> Bench {
+    let mut next = b;
+    next.strict = true;
+    next
+}
+
+pub fn with_chip(b: Bench, c: Chip) -> Bench {
     let mut next = b;
     next.chip = c;
+    next
+}
+
+pub fn with_lengths(b: Bench, array: u64, security: u64) -> Bench {
+    let mut next = b;
+    next.array = array as usize;
+    next.security = security as usize;
     next
 }

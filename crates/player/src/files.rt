@@ -5,35 +5,53 @@ use crate::bench::Lent;
 use crate::bench::Memory;
 use crate::bench::at_next_line;
 use crate::bench::begun;
-use crate::lines::line_played;
-use crate::reading::Input;
-use crate::reading::next_line;
-use crate::reading::nothing_came;
+use crate::bytes::at;
+use crate::bytes::within;
+use crate::play::line_played;
 use crate::say::say;
 use crate::say::say_row;
+use crate::told::remark_told;
+use expecting::Tally;
+use script::Reading;
 
-// The lines of a script, one after another; the turns count down as in reading::line_read.
-fn lines_played(
-    fd: i32,
-    input: &mut Input,
+pub type Input = [u8; 65536];
+
+// What is played: the bench, and the line half read.
+pub struct Playing {
+    pub bench: Bench,
+    pub reading: Reading,
+}
+
+// How scripts are played, and what they came to.
+pub struct Session {
+    pub strict: bool,
+    pub prompt: bool,
+    pub scripts: u64,
+    pub tally: Tally,
+}
+
+fn remark_part_told(n: usize, remark: &[u8]) {
+    let m = within(n, remark);
+    remark_told(&remark[..m]);
+}
+
+fn line_ended(
+    p: Playing,
     array: &mut Memory,
     security: &mut Identity,
-    frame: &mut Lent,
-    expected: &mut Lent,
-    known: &mut Lent,
+    frame: &Lent,
+    expected: &Lent,
+    known: &Lent,
+    remark: &Lent,
     reply: &mut Lent,
     marks: &mut Lent,
-) -> Bench {
-    let mut turns = u64::MAX;
-    let mut now = begun();
-    let mut rest = nothing_came();
-    while turns > 0 && rest.more {
-        turns -= 1;
-        let heard = next_line(rest, fd, input, frame, expected, known);
-        let line = heard.line;
-        rest = heard.rest;
-        now = line_played(
-            at_next_line(now),
+) -> Playing {
+    let reading = p.reading;
+    let line = script::line_of(reading);
+    remark_part_told(line.remark, remark);
+    Playing {
+        bench: line_played(
+            at_next_line(p.bench),
             line,
             array,
             security,
@@ -42,37 +60,138 @@ fn lines_played(
             known,
             reply,
             marks,
+        ),
+        reading,
+    }
+}
+
+fn prompted(prompt: bool) {
+    if prompt {
+        say(b"> ");
+    }
+}
+
+// One byte of the input; the line that it ends is played.
+fn byte_played(
+    p: Playing,
+    b: u8,
+    array: &mut Memory,
+    security: &mut Identity,
+    frame: &mut Lent,
+    expected: &mut Lent,
+    known: &mut Lent,
+    remark: &mut Lent,
+    reply: &mut Lent,
+    marks: &mut Lent,
+) -> Playing {
+    let reading = script::step(p.reading, b, frame, expected, known, remark);
+    let bench = p.bench;
+    let now = Playing { bench, reading };
+    if reading.ended {
+        return line_ended(
+            now,
+            array,
+            security,
+            frame,
+            expected,
+            known,
+            remark,
+            reply,
+            marks,
         );
     }
     now
 }
 
-fn totals_told(b: Bench) {
-    let t = b.tally;
-    say_row(wording::totals_row(t.events, t.refused, t.differences, t.wrong));
+fn failure_told(got: isize) {
+    if got < 0 {
+        say(b"       cannot be read to its end\n");
+    }
 }
 
-// A script to its end, on a new chip with all memory FF.
-fn script_played(fd: i32) {
+fn byte_at(input: &Input, i: usize) -> u8 {
+    at(input, i)
+}
+
+// How many bytes came.
+fn refilled(fd: i32, input: &mut Input) -> usize {
+    let got = libc::read(fd, input);
+    failure_told(got);
+    io::count(got, input)
+}
+
+// A proved loop has to end, and nothing says that an input does: so it counts its turns down, from a number that no run uses up.
+fn script_played(fd: i32, strict: bool, prompt: bool) -> Tally {
     let mut input = [0u8; 65536];
-    let mut array = [255u8; 2097152];
-    let mut security = [255u8; 2048];
+    let mut array = [255u8; 2097153];
+    let mut security = [255u8; 2049];
     let mut frame = [0u8; 65537];
     let mut expected = [0u8; 65537];
     let mut known = [0u8; 65537];
+    let mut remark = [0u8; 65537];
     let mut reply = [0u8; 65537];
     let mut marks = [0u8; 65537];
-    totals_told(lines_played(
-        fd,
-        &mut input,
-        &mut array,
-        &mut security,
-        &mut frame,
-        &mut expected,
-        &mut known,
-        &mut reply,
-        &mut marks,
-    ));
+    let mut now = Playing {
+        bench: begun(strict),
+        reading: script::start(),
+    };
+    let mut turns = u64::MAX;
+    let mut i: usize = 0;
+    let mut n: usize = 0;
+    let mut more = true;
+    while turns > 0 && more {
+        turns -= 1;
+        if i < n {
+            now = byte_played(
+                now,
+                byte_at(&input, i),
+                &mut array,
+                &mut security,
+                &mut frame,
+                &mut expected,
+                &mut known,
+                &mut remark,
+                &mut reply,
+                &mut marks,
+            );
+            i = std::num::wrapping_add_usize(i, 1);
+        } else {
+            prompted(prompt);
+            n = refilled(fd, &mut input);
+            i = 0;
+            more = n != 0;
+        }
+    }
+    let reading = now.reading;
+    if (reading.read != 0) & !reading.ended {
+        let reading = script::finish(reading, &mut frame, &mut expected, &mut known);
+        let bench = now.bench;
+        now = line_ended(
+            Playing { bench, reading },
+            &mut array,
+            &mut security,
+            &frame,
+            &expected,
+            &known,
+            &remark,
+            &mut reply,
+            &mut marks,
+        );
+    }
+    let bench = now.bench;
+    bench.tally
+}
+
+// ---- the scripts
+
+// The last row: events, refusals, differences, and wrong lines where there are any.
+fn totals_told(r: rows::Row, t: Tally) {
+    let r = rows::form(r, 192, t.events, t.refused, t.differences);
+    if t.wrong == 0 {
+        say_row(r);
+        return;
+    }
+    say_row(rows::form(r, 193, t.wrong, 0, 0));
 }
 
 fn is_dash(name: &[u8]) -> bool {
@@ -108,48 +227,103 @@ fn descriptor_of(name: &[u8]) -> i32 {
     os::open_read(name)
 }
 
-// Its name stands above a script that is one of several.
-fn file_played(name: &[u8], many: bool) {
+// Its name, the heading and its rows; an empty row stands between two scripts.
+fn input_played(s: Session, fd: i32) -> Session {
+    say_row(rows::plain(22, 0, 0, 0));
+    let t = script_played(fd, s.strict, s.prompt);
+    totals_told(rows::empty(), t);
+    let sum = expecting::sum_of(s.tally, t);
+    let mut next = s;
+    next.scripts = std::num::wrapping_add_u64(s.scripts, 1);
+    next.tally = sum;
+    next
+}
+
+fn file_played(s: Session, name: &[u8]) -> Session {
+    if s.scripts != 0 {
+        say(b"\n");
+    }
     let fd = descriptor_of(name);
     if fd < 0 {
         unopened_told(name);
-        return;
+        return s;
     }
-    if many {
-        say(name);
-        say(b"\n");
-    }
-    script_played(fd);
+    say(name);
+    say(b"\n");
+    let next = input_played(s, fd);
     libc::close(fd);
+    next
 }
 
-fn argument_played(i: usize, many: bool) {
+fn same(a: &[u8], b: &[u8]) -> bool {
+    if a.len() != b.len() {
+        return false;
+    }
+    let mut i: usize = 0;
+    while i < a.len() {
+        if a[i] != at(b, i) {
+            return false;
+        }
+        i += 1;
+    }
+    true
+}
+
+// An option, or a script.
+fn word_played(s: Session, word: &[u8]) -> Session {
+    let mut next = s;
+    if same(word, b"--strict") {
+        next.strict = true;
+        return next;
+    }
+    if same(word, b"--prompt") {
+        next.prompt = true;
+        return next;
+    }
+    file_played(s, word)
+}
+
+fn argument_played(s: Session, i: usize) -> Session {
     let mut name = io::buffer();
     let n = os::arg(i, &mut name);
     if os::errno() != 0 {
         say(b"a name is too long\n");
-        return;
+        return s;
     }
-    file_played(&name[..n], many);
+    word_played(s, &name[..n])
 }
 
-// The arguments but the program's own name; an empty row stands between two scripts.
-fn arguments_played(n: usize) {
+// The arguments but the program's own name.
+fn arguments_played(s: Session, n: usize) -> Session {
+    let mut now = s;
     let mut i: usize = 1;
     while i < n {
-        if 1 < i {
-            say(b"\n");
-        }
-        argument_played(i, 2 < n);
+        now = argument_played(now, i);
         i += 1;
     }
+    now
+}
+
+// Several scripts have a row for all of them.
+fn all_told(s: Session) {
+    if s.scripts < 2 {
+        return;
+    }
+    say(b"\n");
+    totals_told(rows::plain(205, s.scripts, 0, 0), s.tally);
 }
 
 pub fn all_played() {
+    let s = Session {
+        strict: false,
+        prompt: false,
+        scripts: 0,
+        tally: expecting::no_events(),
+    };
     let n = os::arg_count();
     if n < 2 {
-        script_played(libc::STDIN_FILENO);
+        input_played(s, libc::STDIN_FILENO);
         return;
     }
-    arguments_played(n);
+    all_told(arguments_played(s, n));
 }

@@ -1,15 +1,47 @@
 // What a script can ask: nothing on the chip changes.
 use crate::bench::Bench;
-use crate::bench::Memory;
+use crate::say::say_below;
+use crate::say::say_numbered;
 use crate::say::say_row;
+use rules::plain::smaller;
 
-pub fn status_told(b: Bench) {
-    let c = b.chip;
-    let rest = c.rest;
-    let flags = rest.flags;
-    say_row(wording::status_row(b.line, acting::status_of(rest)));
-    say_row(wording::configuration_row(acting::configuration_of(rest)));
-    say_row(wording::protocol_row(flags.sqi, flags.enable));
+// A row for each bit that is set: its form is the first one's and the bit's number.
+fn bits_told(value: u8, first: usize, n: usize) {
+    let mut left = value;
+    let mut i: usize = 0;
+    while i < n {
+        if left % 2 == 1 {
+            say_below(std::num::wrapping_add_usize(first, i), 0, 0, 0);
+        }
+        left /= 2;
+        i += 1;
+    }
+}
+
+fn protocol_told(sqi: bool, enable: bool) {
+    let r = if sqi {
+        rows::below(152, 0, 0, 0)
+    } else {
+        rows::below(151, 0, 0, 0)
+    };
+    if enable {
+        say_row(rows::form(r, 153, 0, 0, 0));
+    } else {
+        say_row(rows::form(r, 154, 0, 0, 0));
+    }
+}
+
+// The configuration's bits 1, 3 and 7 as three.
+fn three(c: u8) -> u8 {
+    c / 2 % 2 + c / 8 % 2 * 2 + c / 128 * 4
+}
+
+pub fn status_told(line: u64, status: u8, configuration: u8, sqi: bool, enable: bool) {
+    say_numbered(line, 140, status as u64, 0, 0);
+    bits_told(status, 141, 6);
+    say_below(147, configuration as u64, 0, 0);
+    bits_told(three(configuration), 148, 3);
+    protocol_told(sqi, enable);
 }
 
 pub fn work_told(b: Bench) {
@@ -18,15 +50,18 @@ pub fn work_told(b: Bench) {
     let works = rest.works;
     let running = works.running;
     let suspended = works.suspended;
-    say_row(wording::running_row(b.line, running));
-    say_row(wording::suspended_row(suspended));
+    say_row(rows::work_places(rows::numbered(b.line, 156, 0, 0, 0), running));
+    say_row(rows::work_places(rows::below(157, 0, 0, 0), suspended));
 }
 
-fn blocks_told(protection: u64, permanent: u64) {
-    let mut n: usize = 0;
-    while n < 40 {
-        say_row(wording::lock_row(n, protection, permanent));
-        n += 1;
+fn runs_told(protection: u64, permanent: u64) {
+    let mut turns: usize = 256;
+    let mut g: usize = 0;
+    while turns > 0 && g < 256 {
+        turns -= 1;
+        let h = rows::lock_run(g, protection, permanent);
+        say_row(rows::run(g, h, rows::lock_state(g, protection, permanent)));
+        g = h;
     }
 }
 
@@ -35,33 +70,55 @@ pub fn locks_told(b: Bench) {
     let rest = c.rest;
     let locks = rest.locks;
     let flags = rest.flags;
-    say_row(wording::locks_row(b.line, locks.protection, locks.permanent));
-    blocks_told(locks.protection, locks.permanent);
-    say_row(wording::lock_down_row(flags.wpld));
+    say_numbered(b.line, 158, locks.protection, locks.permanent, 0);
+    runs_told(locks.protection, locks.permanent);
+    if flags.wpld {
+        say_below(168, 0, 0, 0);
+    } else {
+        say_below(169, 0, 0, 0);
+    }
 }
 
-// How many of the places from start on the array has.
-fn there(start: usize, count: u64) -> usize {
-    rows::count_within(2097152, start, count as usize)
-}
-
-fn dump_rows(start: usize, n: usize, array: &[u8]) {
+fn dump_rows(start: usize, n: usize, memory: &[u8]) {
     let mut i: usize = 0;
     while i < n / 16 {
-        say_row(wording::dump_row(std::num::wrapping_add_usize(start, i * 16), array, 16));
+        say_row(rows::dump(std::num::wrapping_add_usize(start, i * 16), memory, 16));
         i += 1;
     }
     if n % 16 != 0 {
-        say_row(wording::dump_row(
+        say_row(rows::dump(
             std::num::wrapping_add_usize(start, n - n % 16),
-            array,
+            memory,
             n % 16,
         ));
     }
 }
 
-pub fn dump_told(b: Bench, start: usize, count: u64, array: &Memory) {
-    let n = there(start, count);
-    say_row(wording::dump_head_row(b.line, start, n as u64));
-    dump_rows(start, n, array);
+// How many bytes are shown: all of a full dump, else 64 where they are compared and 4,096 where not.
+fn shown(n: usize, full: bool, compared: bool) -> usize {
+    if full {
+        return n;
+    }
+    if compared {
+        return smaller(n, 64);
+    }
+    smaller(n, 4096)
+}
+
+// Bytes as stored, from a place on. The heading tells how many there are.
+pub fn dump_told(
+    b: Bench,
+    heading: usize,
+    start: usize,
+    count: usize,
+    compared: bool,
+    memory: &[u8],
+) {
+    let n = rows::count_within(memory.len(), start, count);
+    let m = shown(n, b.full, compared);
+    say_numbered(b.line, heading, start as u64, n as u64, 0);
+    dump_rows(start, m, memory);
+    if m < n {
+        say_below(196, (n - m) as u64, 0, 0);
+    }
 }

@@ -12,7 +12,7 @@ ghost use Rattle.rules.specs.Words.{overlap};
 ghost use Rattle.rules.specs.Fields.{chipOf};
 ghost use Rattle.rules.specs.WellFormed.{numbersRight, locksRight, besideRight, securityRight, bufferRight, worksRight, wellFormed};
 
-fn numbers_right(w: Work) -> bool
+pub fn numbers_right(w: Work) -> bool
     ensures { λ r. ⌜ r ≡ numbersRight w ⌝ }
 {
     match w {
@@ -50,7 +50,7 @@ fn overlaps(r: Range, s: Range) -> bool
 }
 
 // They do not overlap and are one erase and one program, where something runs beside suspended work.
-fn beside_right(r: Work, s: Work) -> bool
+pub fn beside_right(r: Work, s: Work) -> bool
     requires { ⌜ (numbersRight r ≡ true) × (numbersRight s ≡ true) ⌝ }
     ensures { λ b. ⌜ b ≡ besideRight r s ⌝ }
 {
@@ -63,7 +63,7 @@ fn beside_right(r: Work, s: Work) -> bool
 }
 
 // Running Security ID work has SEC 0, and an A5 of page 0 leaves the first eight bytes.
-fn security_right(r: Work, sec: bool, page: &[u8]) -> bool
+pub fn security_right(r: Work, sec: bool, page: &[u8]) -> bool
     requires { ⌜ length (now page) ≡ 256 ⌝ }
     ensures { λ b. ⌜ b ≡ securityRight r sec (now (page .entry)) ⌝ }
 {

@@ -89,22 +89,22 @@ digits-step r q s (suc k) n h l e g =
 
 -- ---- how long a row is
 
-pub push-length : (r : Row) (b : ℕ) → r .length ≤ 128 → push r b .length ≡ min (r .length + 1) 128
+pub push-length : (r : Row) (b : ℕ) → r .length ≤ 80 → push r b .length ≡ min (r .length + 1) 80
 unfolding push
-push-length r b h = go (ltb (r .length) 128) refl
+push-length r b h = go (ltb (r .length) 80) refl
   where
-    go : (t : Bool) → ltb (r .length) 128 ≡ t → push r b .length ≡ min (r .length + 1) 128
-    go true e = let k = ltb-true (r .length) 128 e in rw e (omega arith)
-    go false e = let k = ltb-false (r .length) 128 e in rw e (omega arith)
+    go : (t : Bool) → ltb (r .length) 80 ≡ t → push r b .length ≡ min (r .length + 1) 80
+    go true e = let k = ltb-true (r .length) 80 e in rw e (omega arith)
+    go false e = let k = ltb-false (r .length) 80 e in rw e (omega arith)
 
-pub put-length : (r : Row) (t : List ℕ) → r .length ≤ 128 → put r t .length ≡ min (r .length + length t) 128
+pub put-length : (r : Row) (t : List ℕ) → r .length ≤ 80 → put r t .length ≡ min (r .length + length t) 80
 unfolding put
 put-length r [] h = omega arith
 put-length r (b ∷ t) h =
     let e = push-length r b h in
     put-length (push r b) t (omega arith) ∙ omega arith
 
--- the row of a text is as long as the text, up to 128
-pub row-length : (t : List ℕ) → row t .length ≡ min (length t) 128
+-- the row of a text is as long as the text, up to 80
+pub row-length : (t : List ℕ) → row t .length ≡ min (length t) 80
 unfolding blank
 row-length t = put-length blank t (omega arith) ∙ omega arith

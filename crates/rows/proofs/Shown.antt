@@ -16,20 +16,20 @@ use Rattle.rows.proofs.Laws.{row-length}
 
 -- ---- a row
 
-push-full : (r : Row) (b : ℕ) → 128 ≤ r .length → push r b ≡ r
+push-full : (r : Row) (b : ℕ) → 80 ≤ r .length → push r b ≡ r
 unfolding push
-push-full r b h = rw (le-ltb (r .length) 128 h)
+push-full r b h = rw (le-ltb (r .length) 80 h)
 
-push-text : (r : Row) (b : ℕ) → r .length < 128 → push r b .text ≡ set (r .text) (r .length) b
+push-text : (r : Row) (b : ℕ) → r .length < 80 → push r b .text ≡ set (r .text) (r .length) b
 unfolding push
-push-text r b h = rw (lt-ltb (r .length) 128 h)
+push-text r b h = rw (lt-ltb (r .length) 80 h)
 
-push-more : (r : Row) (b : ℕ) → r .length < 128 → push r b .length ≡ r .length + 1
+push-more : (r : Row) (b : ℕ) → r .length < 80 → push r b .length ≡ r .length + 1
 unfolding push
-push-more r b h = rw (lt-ltb (r .length) 128 h)
+push-more r b h = rw (lt-ltb (r .length) 80 h)
 
 -- a text behind a used part a and before k bytes of 0
-filled : (t a : List ℕ) (k : ℕ) (r : Row) → r .text ≡ a ++ replicate k 0 → r .length ≡ length a → length a + k ≡ 128
+filled : (t a : List ℕ) (k : ℕ) (r : Row) → r .text ≡ a ++ replicate k 0 → r .length ≡ length a → length a + k ≡ 80
     → put r t .text ≡ a ++ take k t ++ replicate (k - length t) 0
 unfolding put
 filled [] a k r e l s =
@@ -50,16 +50,16 @@ filled (b ∷ t) a (suc k) r e l s =
     ∙ ap (λ (i : ℕ). a ++ (b ∷ take k t) ++ replicate i 0) z
 
 -- the row of a text is the text, as much as finds room, and 0 behind it
-pub row-text : (t : List ℕ) → row t .text ≡ take 128 t ++ replicate (128 - length t) 0
+pub row-text : (t : List ℕ) → row t .text ≡ take 80 t ++ replicate (80 - length t) 0
 unfolding blank
-row-text t = filled t [] 128 blank refl refl refl
+row-text t = filled t [] 80 blank refl refl refl
 
--- a text of at most 128 bytes is what its row shows
-pub shows : (t : List ℕ) → length t ≤ 128 → take (row t .length) (row t .text) ≡ t
+-- a text of at most 80 bytes is what its row shows
+pub shows : (t : List ℕ) → length t ≤ 80 → take (row t .length) (row t .text) ≡ t
 shows t h =
     let e : row t .length ≡ length t = row-length t ∙ omega arith in
-    ap (λ (n : ℕ). take n (row t .text)) e ∙ ap (λ (x : List ℕ). take (length t) x) (row-text t ∙ ap (λ (x : List ℕ). x ++ replicate (128 - length t) 0) (take-all 128 t h))
-    ∙ take-append-seam t (replicate (128 - length t) 0)
+    ap (λ (n : ℕ). take n (row t .text)) e ∙ ap (λ (x : List ℕ). take (length t) x) (row-text t ∙ ap (λ (x : List ℕ). x ++ replicate (80 - length t) 0) (take-all 80 t h))
+    ∙ take-append-seam t (replicate (80 - length t) 0)
 
 -- ---- numbers
 

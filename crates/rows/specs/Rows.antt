@@ -1,4 +1,4 @@
--- A row of text: bytes go behind those that are there, and what finds no room in 128 bytes is dropped.
+-- A row of text: bytes go behind those that are there, and what finds no room in 80 bytes is dropped.
 use Prim.Native.Nat.{ℕ, zero, suc, _+_, _-_, _/_, _%_, min}
 use mathlib.Core.Bool.{Bool, _&&_}
 use mathlib.Core.List.{List, [], _∷_, _++_}
@@ -11,11 +11,11 @@ use Rattle.rows.specs.declared.Row.{Row}
 -- ---- rows
 
 unfoldable pub blank : Row
-blank = record { text = replicate 128 0; length = 0 }
+blank = record { text = replicate 80 0; length = 0 }
 
 -- one byte more
 unfoldable pub push : Row → ℕ → Row
-push r b = pick (ltb (r .length) 128) (record { text = set (r .text) (r .length) b; length = r .length + 1 }) r
+push r b = pick (ltb (r .length) 80) (record { text = set (r .text) (r .length) b; length = r .length + 1 }) r
 
 -- a text behind what is there
 unfoldable pub put : Row → List ℕ → Row
@@ -69,6 +69,10 @@ known b mark = pick (eqb mark 0) (ascii "??") (hex 2 b)
 unfoldable pub marked : List ℕ → List ℕ → ℕ → ℕ → List ℕ
 marked l marks from zero = []
 marked l marks from (suc n) = marked l marks from n ++ (0x20 ∷ known (getD l (from + n) 0) (getD marks (from + n) 0))
+
+-- at most `most` bytes of a reply from a place on
+abbrev pub part : List ℕ → List ℕ → ℕ → ℕ → List ℕ
+part l marks from most = marked l marks from (within (min (length l) (length marks)) from most)
 
 -- a byte as it is printed: a dot for what is no printable ASCII
 unfoldable pub printed : ℕ → ℕ

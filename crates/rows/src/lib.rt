@@ -1,5 +1,35 @@
-// A row of text by value, and what can be put behind it: texts, numbers, bytes. specs/Rows.antt says what each is.
+// Rows of text by value, and what can be put behind them: texts, numbers, bytes (specs/Rows.antt), and forms (specs/Forms.antt).
+mod commands;
+mod events;
+mod forms;
+mod page;
+mod questions;
+mod why;
+mod works;
+
+pub use commands::answer;
+pub use commands::reply_on_row;
+pub use events::below;
+pub use events::cut;
+pub use events::dump;
+pub use events::ended;
+pub use events::expected;
+pub use events::fits;
+pub use events::numbered;
+pub use events::plain;
+pub use events::remark;
+pub use events::reply;
+pub use events::sent;
+pub use events::wrong;
+pub use page::form;
+pub use questions::lock_run;
+pub use questions::lock_state;
+pub use questions::run;
 use rules::plain::smaller;
+pub use why::malformed;
+pub use why::reason;
+pub use works::work;
+pub use works::work_places;
 ghost use mathlib.Core.Path.{_≡_};
 ghost use mathlib.Core.List.{[], _∷_};
 ghost use Prim.Native.Nat.{_+_, _≤_, min};
@@ -8,15 +38,40 @@ ghost use Rattle.rows.specs.Rows.{blank, push, put, blanks, digits, deci
 
 // The first `length` bytes of the text are the row.
 pub struct Row {
-    pub text: [u8; 128],
+    pub text: [u8; 80],
     pub length: usize,
+}
+
+// A form half filled.
+pub struct Filling {
+    pub row: Row,
+    // lines of the page to pass, and whether the form's line is over
+    pub skip: usize,
+    pub over: bool,
+    // a % came last
+    pub percent: bool,
+    // the number put last, and those to come
+    pub last: u64,
+    pub a: u64,
+    pub b: u64,
+    pub c: u64,
+}
+
+// How work is told.
+pub struct Told {
+    pub kind: usize,
+    pub a: u64,
+    pub b: u64,
+    pub start: usize,
+    pub size: usize,
+    pub security: usize,
 }
 
 pub fn empty() -> Row
     ensures { λ r. ⌜ r ≡ blank ⌝ }
 {
     Row {
-        text: [0u8; 128],
+        text: [0u8; 80],
         length: 0,
     }
 }
@@ -25,7 +80,7 @@ fn add(r: Row, b: u8) -> Row
     ensures { λ q. ⌜ q ≡ push r b ⌝ }
 {
     let at = r.length;
-    if at < 128 {
+    if at < 80 {
         let mut q = r;
         q.text[at] = b;
         q.length = at + 1;

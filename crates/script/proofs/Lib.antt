@@ -1,7 +1,6 @@
--- Laws of a line's reading.
-pub mod Picks
+-- Laws of the reading.
+pub mod Filled
 pub mod Steps
-pub mod Parts
 pub mod Hinted
-pub mod Listing
 pub mod Unique
+pub mod Listing

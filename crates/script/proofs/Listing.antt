@@ -1,20 +1,29 @@
 -- The definitions give each row of the tables: computed. Assumes nothing.
 use mathlib.Core.Path.{_≡_, refl}
-use mathlib.Core.List.{List, map}
-use Rattle.grammar.specs.Words.{blank, digitOf, most, oneMore, tensOf, wordWith, byKey, sortOf, byteOf}
-use Rattle.script.specs.Lines.{takenOpen, wordEnded, closed, closedAt, stepped, readOn, lineOf}
-use Rattle.script.specs.Hints.{lower, lowered, hintOf}
-use Rattle.script.specs.declared.Hint.{Hint}
-use Rattle.script.specs.Listing.{Row, WrongRow, HintRow, Shown, Mistaken, showLine, showMistake, showHint, lines, wrongLines, hints}
+use mathlib.Core.List.{map}
+use lib.ListN.{replicate}
+use Rattle.grammar.specs.Words.{digitOf, most, oneMore, tensOf, wordWith}
+use Rattle.grammar.specs.Table.{wordList, keys, position, called, hasClass, table, ends, firstOf, nextOf, valueOf, slotsWith}
+use Rattle.script.specs.Lines.{countAfter, byteAfter, kindAfter, markAfter, takenOpen, taken, went, closed, takenInto, advanced, filled, stored, stepped, remarkAfter, readOn, lineOf, fresh}
+use Rattle.script.specs.Hints.{lower, lowered, stands, takesByte, ofDigits, hintOf}
+use Rattle.script.specs.Listing.{Row, WrongRow, HintRow, EndRow, showLine, showMistake, showHint, verbsFrom, remarkFrom, lines, wrongLines, hints, lineEnds, remarks}
 
 pub lines-say : map (λ (r : Row). showLine (r .text)) lines ≡ map (λ (r : Row). r .is) lines
-unfolding blank digitOf most oneMore tensOf wordWith byKey sortOf byteOf takenOpen wordEnded closed closedAt stepped readOn lineOf
+unfolding digitOf most oneMore tensOf wordWith wordList keys position called hasClass table ends firstOf nextOf valueOf slotsWith countAfter byteAfter kindAfter markAfter takenOpen taken went closed takenInto advanced filled stored stepped readOn lineOf lines
 lines-say = refl
 
 pub wrong-lines-say : map (λ (r : WrongRow). showMistake (r .text)) wrongLines ≡ map (λ (r : WrongRow). r .is) wrongLines
-unfolding blank digitOf most oneMore tensOf wordWith byKey sortOf byteOf takenOpen wordEnded closed closedAt stepped readOn lineOf
+unfolding digitOf most oneMore tensOf wordWith wordList keys position called hasClass table ends firstOf nextOf valueOf slotsWith countAfter byteAfter kindAfter markAfter takenOpen taken went closed takenInto advanced filled stored stepped readOn lineOf wrongLines
 wrong-lines-say = refl
 
 pub hints-say : map (λ (r : HintRow). showHint (r .text)) hints ≡ map (λ (r : HintRow). r .is) hints
-unfolding blank digitOf most oneMore tensOf wordWith byKey sortOf byteOf takenOpen wordEnded closed closedAt stepped readOn lineOf lower lowered hintOf
+unfolding digitOf most oneMore tensOf wordWith wordList keys position called hasClass table ends firstOf nextOf valueOf slotsWith countAfter byteAfter kindAfter markAfter takenOpen taken went closed takenInto advanced filled stored stepped readOn lineOf lower lowered stands takesByte ofDigits hintOf hints
 hints-say = refl
+
+pub line-ends-say : map (λ (r : EndRow). verbsFrom (fresh 0) (r .text)) lineEnds ≡ map (λ (r : EndRow). r .is) lineEnds
+unfolding digitOf most oneMore tensOf wordWith wordList keys position called hasClass table ends firstOf nextOf valueOf slotsWith countAfter byteAfter kindAfter markAfter takenOpen taken went closed takenInto advanced filled stored stepped readOn lineOf verbsFrom lineEnds
+line-ends-say = refl
+
+pub remarks-say : map (λ (r : EndRow). remarkFrom (fresh 0) (replicate 8 0) (r .text)) remarks ≡ map (λ (r : EndRow). r .is) remarks
+unfolding digitOf most oneMore tensOf wordWith wordList keys position called hasClass table ends firstOf nextOf valueOf slotsWith countAfter byteAfter kindAfter markAfter takenOpen taken went closed takenInto advanced filled stored stepped readOn lineOf remarkFrom remarkAfter remarks
+remarks-say = refl

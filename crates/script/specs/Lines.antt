@@ -1,96 +1,149 @@
--- A line as a fold over its bytes: what one byte does, what a word's end does, what is stored, and the line that is left at its end.
-use Prim.Native.Nat.{ℕ, _-_}
+-- The input as a fold over its bytes: what one byte does, what a word's end does, what is stored, and what a line says at its end.
+use Prim.Native.Nat.{ℕ, zero, suc, _+_, _-_, _%_, min}
 use mathlib.Core.Path.{_≡_}
 use mathlib.Core.Bool.{Bool, true, false, not, _&&_, _||_}
 use mathlib.Core.List.{List, [], _∷_}
 use lib.Dec.{eqb, ltb}
-use lib.ListN.{set, take, drop, replicate}
-use Rattle.rules.specs.Words.{pick, num}
-use Rattle.script.specs.declared.Line.{Line}
-use Rattle.script.specs.declared.Mode.{Mode}
-use Rattle.script.specs.declared.Mode.the-variants.{Open, Remark, Wrong}
-use Rattle.grammar.specs.declared.Next.{Next}
-use Rattle.grammar.specs.declared.Next.the-variants.{To, Mistake}
-use Rattle.grammar.specs.declared.Place.{Place}
+use lib.ListN.{getD, set, replicate}
+use Rattle.rules.specs.Words.{pick}
+use Rattle.grammar.specs.declared.Entry.{Entry}
+use Rattle.grammar.specs.Words.{blank, lineEnd, endsWords, oneMore, noWord, wordWith, isSign, byteOf}
+use Rattle.grammar.specs.Places.{lineStart}
+use Rattle.grammar.specs.Slots.{verb}
+use Rattle.grammar.specs.Verbs as verbs
+use Rattle.grammar.specs.Table.{sends, sendsAgain, expects, expectsAny, expectsUnknown, expectsAgain, nextOf, canEnd, slotsWith}
 use Rattle.script.specs.declared.Reading.{Reading}
-use Rattle.grammar.specs.declared.Verb.{Verb}
-use Rattle.grammar.specs.declared.Word.{Word}
-use Rattle.grammar.specs.Words.{blank, endsWords, oneMore, noWord, wordWith, sortOf, byteOf}
-use Rattle.grammar.specs.Grammar.{nothingSaid, nextOf, canEnd, saidWith, ofFrame, ofExpected, isByte, isSign}
+use Rattle.script.specs.declared.Line.{Line}
 
--- ---- a byte
+-- ---- modes
 
--- a line of which nothing is read
-abbrev pub begun : Reading
-begun = record { mode = Open; place = Place.First; read = 0; shown = replicate 24 0; word = noWord 0; said = nothingSaid }
+-- words may come
 
--- a blank, or any byte of a remark or after a mistake: only counted
-abbrev pub passedBy : Reading → Reading
-passedBy r = record { mode = r .mode; place = r .place; read = oneMore (r .read); shown = r .shown; word = r .word; said = r .said }
+abbrev pub inWords : ℕ
+inWords = 0
+
+-- the rest of the line is a remark
+abbrev pub inRemark : ℕ
+inRemark = 1
+
+-- a mistake was met
+abbrev pub wrong : ℕ
+wrong = 2
+
+-- ---- counts, and the byte that is stored
+
+-- one more, or as many as make n in all, or no more: at most 65,537
+unfoldable pub countAfter : ℕ → Bool → Bool → ℕ → ℕ
+countAfter at one again n = pick (not one && not again) at (pick one (min (at + 1) 65537) (min (at + (n - 1)) 65537))
+
+-- the frame's bytes after a word, by what its row stores and its number
+abbrev pub sentAfter : ℕ → ℕ → ℕ → ℕ
+sentAfter at s n = countAfter at (eqb s sends) (eqb s sendsAgain) n
+
+-- the expected bytes after a word
+abbrev pub expectedAfter : ℕ → ℕ → ℕ → ℕ
+expectedAfter at s n = countAfter at (ltb sendsAgain s && ltb s expectsAgain) (eqb s expectsAgain) n
+
+-- the byte that is stored: the word's own, 0 for any, or the last one again
+unfoldable pub byteAfter : ℕ → ℕ → ℕ → ℕ
+byteAfter s own last = pick (eqb s sends || (eqb s expects || eqb s expectsUnknown)) own (pick (eqb s expectsAny) 0 last)
+
+-- an expected byte's kind: 1 where it is known, 2 where it is to be unknown, 0 where any byte will do
+unfoldable pub kindAfter : ℕ → ℕ → ℕ
+kindAfter s last = pick (eqb s expects) 1 (pick (eqb s expectsAny) 0 (pick (eqb s expectsUnknown) 2 last))
+
+-- ---- a byte of a line
+
+-- a line of which nothing is read. `mark`: how many bytes of the byte order mark EF BB BF have come at the input's very start; 3 after that
+abbrev pub fresh : ℕ → Reading
+fresh mark =
+    record { mode = inWords; place = lineStart; read = 0; shown = replicate 24 0; word = noWord 0; sent = 0; expected = 0; last = 0; kind = 0; remark = 0; slots = replicate 24 0; ended = false; cr = false; mark = mark }
+
+-- a blank, or any byte after a mistake: only counted
+abbrev pub passedBy : Reading → ℕ → Reading
+passedBy r m =
+    record { mode = r .mode; place = r .place; read = oneMore (r .read); shown = r .shown; word = r .word; sent = r .sent; expected = r .expected; last = r .last; kind = r .kind; remark = r .remark; slots = r .slots; ended = r .ended; cr = r .cr; mark = m }
+
+-- a byte of a remark
+abbrev pub remarked : Reading → ℕ → Reading
+remarked r m =
+    record { mode = r .mode; place = r .place; read = oneMore (r .read); shown = r .shown; word = r .word; sent = r .sent; expected = r .expected; last = r .last; kind = r .kind; remark = countAfter (r .remark) true false 0; slots = r .slots; ended = r .ended; cr = r .cr; mark = m }
+
+-- a remark begins, where no word is
+abbrev pub remarkFrom : Reading → ℕ → Reading
+remarkFrom r m =
+    record { mode = inRemark; place = r .place; read = oneMore (r .read); shown = r .shown; word = noWord (oneMore (r .read)); sent = r .sent; expected = r .expected; last = r .last; kind = r .kind; remark = r .remark; slots = r .slots; ended = r .ended; cr = r .cr; mark = m }
 
 -- the word's first bytes with one more, as long as there is room
 abbrev pub shownWith : List ℕ → ℕ → ℕ → List ℕ
 shownWith l n b = pick (ltb n 24) (set l n b) l
 
 -- the word goes on, or begins
-abbrev pub goesOn : Reading → ℕ → Reading
-goesOn r b =
-    record {
-      mode = Open;
-      place = r .place;
-      read = oneMore (r .read);
-      shown = shownWith (r .shown) (r .word .length) b;
-      word = wordWith (r .word) b (oneMore (r .read));
-      said = r .said;
-    }
+abbrev pub goesOn : Reading → ℕ → ℕ → Reading
+goesOn r b m =
+    record { mode = r .mode; place = r .place; read = oneMore (r .read); shown = shownWith (r .shown) (r .word .length) b; word = wordWith (r .word) b (oneMore (r .read)); sent = r .sent; expected = r .expected; last = r .last; kind = r .kind; remark = r .remark; slots = r .slots; ended = r .ended; cr = r .cr; mark = m }
 
--- a remark begins, where no word is
-abbrev pub remarkFrom : Reading → Reading
-remarkFrom r =
-    record { mode = Remark; place = r .place; read = oneMore (r .read); shown = r .shown; word = noWord (oneMore (r .read)); said = r .said }
+unfoldable pub markAfter : ℕ → ℕ → ℕ
+markAfter m b = pick (eqb m 0 && eqb b 0xEF) 1 (pick (eqb m 1 && eqb b 0xBB) 2 3)
 
-abbrev pub isOpen : Mode → Bool
-isOpen Open = true
-isOpen Remark = false
-isOpen Wrong = false
+-- while the line is open: # or a blank, where no word is, or a byte of a word
+unfoldable pub takenOpen : Reading → ℕ → ℕ → Reading
+takenOpen r b m = pick (eqb b 0x23) (remarkFrom r m) (pick (blank b) (passedBy r m) (goesOn r b m))
 
-abbrev pub isWrong : Mode → Bool
-isWrong Open = false
-isWrong Remark = false
-isWrong Wrong = true
-
--- a byte while the line is open: # or a blank, where no word is, or a byte of a word
-unfoldable pub takenOpen : Reading → ℕ → Reading
-takenOpen r b = pick (eqb b 0x23) (remarkFrom r) (pick (blank b) (passedBy r) (goesOn r b))
-
-abbrev pub takenByte : Reading → ℕ → Reading
-takenByte r b = pick (isOpen (r .mode)) (takenOpen r b) (passedBy r)
+unfoldable pub taken : Reading → ℕ → ℕ → Reading
+taken r b m = pick (eqb (r .mode) inWords) (takenOpen r b m) (pick (eqb (r .mode) inRemark) (remarked r m) (passedBy r m))
 
 -- ---- a word's end
 
-abbrev pub withMode : Mode → Reading → Reading
-withMode m r = record { mode = m; place = r .place; read = r .read; shown = r .shown; word = r .word; said = r .said }
+-- a word that cannot stand where it does is a mistake, and no remark
+abbrev pub mistaken : Reading → Reading
+mistaken r =
+    record { mode = wrong; place = r .place; read = r .read; shown = r .shown; word = r .word; sent = r .sent; expected = r .expected; last = r .last; kind = r .kind; remark = r .remark; slots = r .slots; ended = r .ended; cr = r .cr; mark = r .mark }
 
--- the word may stand here, and that place comes next
-abbrev pub wentTo : Reading → Place → Reading
-wentTo r to =
-    record { mode = Open; place = to; read = r .read; shown = replicate 24 0; word = noWord 0; said = saidWith (r .place) (r .word) (r .said) }
+-- the word may stand where it does: what its row says, and that row's place comes next
+abbrev pub wentTo : Reading → Entry → Reading
+wentTo r e =
+    record { mode = r .mode; place = e .next; read = r .read; shown = replicate 24 0; word = noWord 0; sent = sentAfter (r .sent) (e .store) (r .word .number); expected = expectedAfter (r .expected) (e .store) (r .word .number); last = byteAfter (e .store) (byteOf (r .word)) (r .last); kind = kindAfter (e .store) (r .kind); remark = r .remark; slots = slotsWith (r .slots) e (r .word); ended = r .ended; cr = r .cr; mark = r .mark }
 
--- what follows a word: a word that cannot stand where it does is a mistake, and no remark
-abbrev pub goes : Reading → Next → Reading
-goes r (To p) = wentTo r p
-goes r Mistake = withMode Wrong r
+unfoldable pub went : Reading → Entry → Reading
+went r e = pick (eqb (e .class) 255) (mistaken r) (wentTo r e)
 
--- a word stands before this byte, or before the line's end
-abbrev pub hasWord : Reading → Bool
-hasWord r = isOpen (r .mode) && not (eqb (r .word .length) 0)
+-- a word stands before the byte b, and is over: b ends words, or that word is a sign, which any byte ends
+abbrev pub overAt : Reading → ℕ → Bool
+overAt r b = (eqb (r .mode) inWords && not (eqb (r .word .length) 0)) && (endsWords b || isSign (r .word))
 
-unfoldable pub wordEnded : Reading → Reading
-wordEnded r = pick (hasWord r) (goes r (nextOf (r .place) (r .word))) r
+-- the line before the byte b: after a line's end a line begins
+unfoldable pub closed : Reading → ℕ → Reading
+closed r b = pick (r .ended) (fresh 3) (pick (overAt r b) (went r (nextOf (r .place) (r .word))) r)
+
+-- ---- a byte of the input
+
+abbrev pub endedBy : Reading → ℕ → Reading
+endedBy r b =
+    record { mode = r .mode; place = r .place; read = r .read; shown = r .shown; word = r .word; sent = r .sent; expected = r .expected; last = r .last; kind = r .kind; remark = r .remark; slots = r .slots; ended = true; cr = eqb b 0x0D; mark = 3 }
+
+-- where the word before the byte b is closed in q: a line's end, but no LF right after a CR; the last byte of a byte order mark; or a byte of the line
+unfoldable pub takenInto : Reading → Reading → ℕ → Reading
+takenInto r q b =
+    pick (lineEnd b)
+    (pick (r .ended && (r .cr && eqb b 0x0A)) (fresh 3) (endedBy q b))
+    (pick (eqb (r .mark) 2 && eqb b 0xBF) (fresh 3) (taken q b (markAfter (r .mark) b)))
+
+unfoldable pub advanced : Reading → ℕ → Reading
+advanced r b = takenInto r (closed r b) b
 
 -- ---- what is stored
 
--- what is held while a line is read: the reading, and the bytes of the frame, the expected bytes, and 1 where one of these is known
+-- v at n places from there on
+unfoldable pub filled : ℕ → List ℕ → ℕ → ℕ → List ℕ
+filled zero l at v = l
+filled (suc n) l at v = filled n (set l at v) (at + 1) v
+
+-- v at the places from `from` to `to`
+unfoldable pub stored : List ℕ → ℕ → ℕ → ℕ → List ℕ
+stored l from to v = filled (min to 65537 - from) l from v
+
+-- what is held while the input is read: the reading, the bytes of the frame, the expected bytes and the kind of each of these
 pub record Held : Type 0 where
   pub reading : Reading
   pub frame : List ℕ
@@ -100,73 +153,54 @@ pub record Held : Type 0 where
 abbrev pub held : Reading → List ℕ → List ℕ → List ℕ → Held
 held r f e k = record { reading = r; frame = f; expected = e; known = k }
 
--- v at that place, where the test holds and the place is one of the 65,537
-abbrev pub stored : List ℕ → ℕ → ℕ → Bool → List ℕ
-stored l at v t = pick t (pick (ltb at 65537) (set l at v) l) l
+-- from the reading r to q: bytes are stored as their counts go up
+abbrev pub kept : Reading → Reading → Held → Held
+kept r q h =
+    held q
+    (stored (h .frame) (r .sent) (q .sent) (q .last))
+    (stored (h .expected) (r .expected) (q .expected) (q .last))
+    (stored (h .known) (r .expected) (q .expected) (q .kind))
 
-abbrev pub toFrame : Reading → Bool
-toFrame r = hasWord r && ofFrame (r .place) (sortOf (r .word))
-
-abbrev pub toExpected : Reading → Bool
-toExpected r = hasWord r && ofExpected (r .place) (sortOf (r .word))
-
--- the word before this byte, or before the line's end, is over
-unfoldable pub closed : Held → Held
-closed h =
-    held (wordEnded (h .reading))
-    (stored (h .frame) (h .reading .said .sent) (byteOf (h .reading .word)) (toFrame (h .reading)))
-    (stored (h .expected) (h .reading .said .expected) (byteOf (h .reading .word)) (toExpected (h .reading)))
-    (stored (h .known) (h .reading .said .expected) (num (isByte (sortOf (h .reading .word)))) (toExpected (h .reading)))
-
--- ---- the fold
-
--- the word before the byte b is over: b ends words, or that word is a sign, which any byte ends
-abbrev pub overAt : Reading → ℕ → Bool
-overAt r b = endsWords b || isSign (sortOf (r .word))
-
-unfoldable pub closedAt : ℕ → Held → Held
-closedAt b h = pick (overAt (h .reading) b) (closed h) h
-
--- one byte: the word before it may be over, then it is taken itself
+-- one byte
 unfoldable pub stepped : Held → ℕ → Held
-stepped h b = held (takenByte (closedAt b h .reading) b) (closedAt b h .frame) (closedAt b h .expected) (closedAt b h .known)
+stepped h b = kept (h .reading) (advanced (h .reading) b) h
+
+-- and the bytes of the remark, without its #
+unfoldable pub remarkAfter : Reading → ℕ → List ℕ → List ℕ
+remarkAfter r b l = stored l (r .remark) (advanced r b .remark) b
+
+-- the input's end ends its last line
+abbrev pub finished : Held → Held
+finished h = stepped h 0x0A
 
 unfoldable pub readOn : Held → List ℕ → Held
 readOn h [] = h
 readOn h (b ∷ bs) = readOn (stepped h b) bs
 
--- the bytes from `from` to `to` of a text, as far as it goes
-abbrev pub part : ℕ → ℕ → List ℕ → List ℕ
-part from to text = take (to - from) (drop from text)
-
--- ---- the line's end
+-- ---- what a line says
 
 -- a mistake, or a line that ends too early, is wrong. Where a line ends too early, its end is the mistake's column, or the # of a remark
 unfoldable pub lineOf : Reading → Line
 lineOf r =
     record {
-      verb = pick (isWrong (r .mode)) Verb.Wrong (pick (canEnd (r .place)) (r .said .verb) Verb.Wrong);
-      sent = r .said .sent;
-      wanted = r .said .wanted;
-      expects = r .said .expects;
-      expected = r .said .expected;
-      judged = r .said .judged;
-      number = r .said .number;
-      count = r .said .count;
-      start = r .said .start;
+      verb = pick (eqb (r .mode) wrong) verbs.wrong (pick (canEnd (r .place)) (getD (r .slots) verb 0 % 256) verbs.wrong);
+      slots = r .slots;
+      sent = r .sent;
+      expected = r .expected;
+      remark = r .remark;
       place = r .place;
       word = r .shown;
       length = r .word .length;
-      column = pick (isOpen (r .mode)) (oneMore (r .read)) (r .word .column);
+      column = pick (eqb (r .mode) inWords) (oneMore (r .read)) (r .word .column);
     }
 
 -- ---- the promises
 
--- what reading more of a line gives back and leaves
-pub record ReadPromise (r : Reading) (text : List ℕ) (from to : ℕ) (frame expected known : List ℕ) (r′ : Reading) (frame′ expected′ known′ : List ℕ) : Type 0 where
-  pub outcome : held r′ frame′ expected′ known′ ≡ readOn (held r frame expected known) (part from to text)
+-- what one byte of the input gives back and leaves
+pub record StepPromise (r : Reading) (b : ℕ) (frame expected known remark : List ℕ) (r′ : Reading) (frame′ expected′ known′ remark′ : List ℕ) : Type 0 where
+  pub outcome : held r′ frame′ expected′ known′ ≡ stepped (held r frame expected known) b
+  pub remarks : remark′ ≡ remarkAfter r b remark
 
--- what the line's end gives back and leaves
-pub record EndPromise (r : Reading) (frame expected known : List ℕ) (l : Line) (frame′ expected′ known′ : List ℕ) : Type 0 where
-  pub line : l ≡ lineOf (wordEnded r)
-  pub stores : held (wordEnded r) frame′ expected′ known′ ≡ closed (held r frame expected known)
+-- what the input's end gives back and leaves
+pub record FinishPromise (r : Reading) (frame expected known : List ℕ) (r′ : Reading) (frame′ expected′ known′ : List ℕ) : Type 0 where
+  pub outcome : held r′ frame′ expected′ known′ ≡ finished (held r frame expected known)

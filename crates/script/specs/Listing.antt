@@ -1,56 +1,54 @@
--- Lines of a script, each with what it says, wrong lines, each with its mistake, and the hints of some: three tables for a reader. That the definitions
--- give each of them is proved in proofs/Listing.
+-- Lines of a script, each with what it says, wrong lines, each with its mistake, the hints of some, line ends and remarks: tables for a reader. That the
+-- definitions give each of them is proved in proofs/Listing.
 use Prim.Native.Nat.{ℕ}
 use Prim.Native.String.{String}
 use mathlib.Core.List.{List, [], _∷_}
-use lib.ListN.{replicate, take}
-use Rattle.grammar.specs.declared.Said.{Said}
-use Rattle.grammar.specs.declared.Verb.{Verb}
-use Rattle.grammar.specs.declared.Place.{Place}
+use lib.ListN.{replicate, set, take}
+use Rattle.rules.specs.Words.{pick}
 use Rattle.rules.specs.Texts.{ascii}
-use Rattle.grammar.specs.Grammar.{nothingSaid, withVerb, withWanted, withExpected, withNumber, withCount, withStart}
-use Rattle.script.specs.declared.Hint.{Hint}
+use Rattle.grammar.specs.Places.{lineStart, afterByte, afterByteStar, afterBytes, afterReply, afterReplyCount, afterSlash, afterMarkCount, afterEqual, afterExpected, afterTilde, afterExpectedStar, afterExpectedTimes, afterRefuse, lineDone, afterEvent, afterCut, afterQuestion, afterAsked, afterAnswer, afterAnswerTilde, afterAnswerStar, afterAnswerTimes, afterDump, afterDumpId, afterDumpPlace, afterFill, afterFillId, afterFillPlace, afterFillCount, afterLend, afterLendArray, inFields, afterProtect, afterPerm, afterRun, afterAside, afterRunKind, afterAsideKind}
+use Rattle.grammar.specs.Slots.{verb, wanted, marksGiven, marks, expecting, judged, refused, from, size, filling, ofId, protection, permanent, runKind, runNumber, asideKind, asideNumber, sqi, wel, ioc, wpen, wpld, sec, enable}
+use Rattle.grammar.specs.Verbs as verbs
 use Rattle.script.specs.declared.Line.{Line}
-use Rattle.script.specs.Lines.{Held, begun, held, closed, readOn, lineOf}
-use Rattle.script.specs.Hints.{hintOf}
+use Rattle.script.specs.declared.Reading.{Reading}
+use Rattle.script.specs.Lines.{Held, fresh, held, advanced, finished, readOn, remarkAfter, lineOf}
+use Rattle.script.specs.Hints.{noHint, twoDigits, apart, lowerCase, hintOf}
 
 -- ---- how a line is shown here
 
--- the line read whole, with eight bytes lent for each of the three
+-- nothing is read, and eight bytes are lent for each of the three
+abbrev pub before : Held
+before = held (fresh 0) (replicate 8 0) (replicate 8 0) (replicate 8 0)
+
+-- a script of one line, read whole
 abbrev pub whole : List ℕ → Held
-whole text = closed (readOn (held begun (replicate 8 0) (replicate 8 0) (replicate 8 0)) text)
+whole text = finished (readOn before text)
 
 abbrev pub line : List ℕ → Line
 line text = lineOf (whole text .reading)
 
 -- what a line says, and as many bytes of the frame, of the expected bytes and of their marks
 pub record Shown : Type 0 where
-  pub said : Said
+  pub verbs : ℕ
+  pub slots : List ℕ
   pub frame : List ℕ
   pub expected : List ℕ
   pub known : List ℕ
 
-abbrev pub shown : Said → List ℕ → List ℕ → List ℕ → Shown
-shown s f e k = record { said = s; frame = f; expected = e; known = k }
-
-abbrev pub saidIn : Line → Said
-saidIn l =
-    record { verb = l .verb; sent = l .sent; wanted = l .wanted; expects = l .expects; expected = l .expected; judged = l .judged; number = l .number; count = l .count; start = l .start }
-
 abbrev pub showLine : List ℕ → Shown
 showLine text =
-    shown (saidIn (line text)) (take (line text .sent) (whole text .frame)) (take (line text .expected) (whole text .expected)) (take (line text .expected) (whole text .known))
+    record { verbs = line text .verb; slots = line text .slots; frame = take (line text .sent) (whole text .frame); expected = take (line text .expected) (whole text .expected); known = take (line text .expected) (whole text .known) }
 
 -- a wrong line: where in its grammar the mistake is, the wrong word's first bytes, its length and its column
 pub record Mistaken : Type 0 where
-  pub verb : Verb
-  pub place : Place
+  pub verb : ℕ
+  pub place : ℕ
   pub first : List ℕ
   pub length : ℕ
   pub column : ℕ
 
-abbrev pub mistake : Place → List ℕ → ℕ → ℕ → Mistaken
-mistake p w n c = record { verb = Verb.Wrong; place = p; first = w; length = n; column = c }
+abbrev pub mistake : ℕ → List ℕ → ℕ → ℕ → Mistaken
+mistake p w n c = record { verb = verbs.wrong; place = p; first = w; length = n; column = c }
 
 abbrev pub showMistake : List ℕ → Mistaken
 showMistake text =
@@ -61,134 +59,213 @@ pub record Row : Type 0 where
   pub text : List ℕ
   pub is : Shown
 
-abbrev pub row : String → Said → List ℕ → List ℕ → List ℕ → Row
-row text s f e k = record { text = ascii text; is = shown s f e k }
+-- what stands in the slots: a verb, and numbers
+abbrev pub says : ℕ → List ℕ
+says v = set (replicate 24 0) verb v
+
+abbrev pub with : ℕ → ℕ → List ℕ → List ℕ
+with s n l = set l s n
+
+abbrev pub row : String → ℕ → (List ℕ → List ℕ) → List ℕ → List ℕ → List ℕ → Row
+row text v f s e k = record { text = ascii text; is = record { verbs = v; slots = f (says v); frame = s; expected = e; known = k } }
+
+-- a line with no bytes
+abbrev pub plain : String → ℕ → (List ℕ → List ℕ) → Row
+plain text v f = row text v f [] [] []
+
+abbrev pub sends : String → List ℕ → (List ℕ → List ℕ) → Row
+sends text s f = row text verbs.frame f s [] []
+
+abbrev pub alone : List ℕ → List ℕ
+alone l = l
 
 pub record WrongRow : Type 0 where
   pub text : List ℕ
   pub is : Mistaken
 
-abbrev pub wrong : String → Place → String → ℕ → ℕ → WrongRow
+abbrev pub wrong : String → ℕ → String → ℕ → ℕ → WrongRow
 wrong text p w n c = record { text = ascii text; is = mistake p (ascii w) n c }
 
 -- a wrong line's hint
 pub record HintRow : Type 0 where
   pub text : List ℕ
-  pub is : Hint
+  pub is : ℕ
 
-abbrev pub hinted : String → Hint → HintRow
+abbrev pub hinted : String → ℕ → HintRow
 hinted text h = record { text = ascii text; is = h }
 
-abbrev pub showHint : List ℕ → Hint
+abbrev pub showHint : List ℕ → ℕ
 showHint text = hintOf (line text .place) (line text .word) (line text .length)
 
--- a word alone
-abbrev pub word : Verb → Said
-word v = withVerb v 0 nothingSaid
+-- the verbs of a script's lines, the last one ended by the input's end
+unfoldable pub verbsFrom : Reading → List ℕ → List ℕ
+verbsFrom r [] = lineOf (advanced r 0x0A) .verb ∷ []
+verbsFrom r (b ∷ bs) = pick (advanced r b .ended) (lineOf (advanced r b) .verb ∷ verbsFrom (advanced r b) bs) (verbsFrom (advanced r b) bs)
 
--- a frame of n bytes
-abbrev pub sends : ℕ → Said
-sends n = withVerb Verb.Frame n nothingSaid
+pub record EndRow : Type 0 where
+  pub text : List ℕ
+  pub is : List ℕ
+
+-- the bytes of a line's remark, with eight bytes lent
+unfoldable pub remarkFrom : Reading → List ℕ → List ℕ → List ℕ
+remarkFrom r l [] = take (r .remark) l
+remarkFrom r l (b ∷ bs) = remarkFrom (advanced r b) (remarkAfter r b l) bs
 
 -- ---- the tables
 
--- first a script that shows each event, then other lines
-abbrev pub lines : List Row
+-- first a script that shows each event, then each other form
+unfoldable pub lines : List Row
 lines =
-    row "# the incident: a record across a page end" (word Verb.Blank) [] [] []
-    ∷ row "06                          # a frame, no reply wanted" (sends 1) (0x06 ∷ []) [] []
-    ∷ row "98" (sends 1) (0x98 ∷ []) [] []
-    ∷ row "02 00 01 FE 11 22 33" (sends 7) (0x02 ∷ 0x00 ∷ 0x01 ∷ 0xFE ∷ 0x11 ∷ 0x22 ∷ 0x33 ∷ []) [] []
-    ∷ row "done                        # the running operation ends" (word Verb.Done) [] [] []
-    ∷ row "03 00 01 FE > 4             # a frame and four reply bytes" (withWanted 4 (sends 4)) (0x03 ∷ 0x00 ∷ 0x01 ∷ 0xFE ∷ []) [] []
-    ∷ row "03 00 01 FE > 4 = 11 22 FF ??   # the same, with what is expected"
-    (withExpected 4 (withWanted 4 (sends 4))) (0x03 ∷ 0x00 ∷ 0x01 ∷ 0xFE ∷ []) (0x11 ∷ 0x22 ∷ 0xFF ∷ 0x00 ∷ []) (0x01 ∷ 0x01 ∷ 0x01 ∷ 0x00 ∷ [])
-    ∷ row "02 00 00 00 00 ! 11         # a refusal is expected" (withNumber 11 (sends 5)) (0x02 ∷ 0x00 ∷ 0x00 ∷ 0x00 ∷ 0x00 ∷ []) [] []
-    ∷ row "cut 100                     # power cut after 100 bytes" (withCount 100 (word Verb.Cut)) [] [] []
-    ∷ row "new                         # a new chip, array all FF" (word Verb.New) [] [] []
-    ∷ row "" (word Verb.Blank) [] [] []
-    ∷ row "\t0b\tFe# x\r" (sends 2) (0x0B ∷ 0xFE ∷ []) [] []
-    ∷ row "> 4" (withWanted 4 (sends 0)) [] [] []
-    ∷ row "05 > 1 = ?? ! 0" (withNumber 0 (withExpected 1 (withWanted 1 (sends 1)))) (0x05 ∷ []) (0x00 ∷ []) (0x00 ∷ [])
-    ∷ row "05 > 1 = 00  !5" (withNumber 5 (withExpected 1 (withWanted 1 (sends 1)))) (0x05 ∷ []) (0x00 ∷ []) (0x01 ∷ [])
-    ∷ row "05 > 1  =77" (withExpected 1 (withWanted 1 (sends 1))) (0x05 ∷ []) (0x77 ∷ []) (0x01 ∷ [])
-    ∷ row "05  >1 = 77" (withExpected 1 (withWanted 1 (sends 1))) (0x05 ∷ []) (0x77 ∷ []) (0x01 ∷ [])
-    ∷ row "05>1=77!0" (withNumber 0 (withExpected 1 (withWanted 1 (sends 1)))) (0x05 ∷ []) (0x77 ∷ []) (0x01 ∷ [])
-    ∷ row "05 >2 =?? 77# x" (withExpected 2 (withWanted 2 (sends 1))) (0x05 ∷ []) (0x00 ∷ 0x77 ∷ []) (0x00 ∷ 0x01 ∷ [])
-    ∷ row ">4" (withWanted 4 (sends 0)) [] [] []
-    ∷ row "02 !11" (withNumber 11 (sends 1)) (0x02 ∷ []) [] []
-    ∷ row "done!0" (withNumber 0 (word Verb.Done)) [] [] []
-    ∷ row "cut 7!5" (withNumber 5 (withCount 7 (word Verb.Cut))) [] [] []
-    ∷ row "done ! 12" (withNumber 12 (word Verb.Done)) [] [] []
-    ∷ row "status" (word Verb.Status) [] [] []
-    ∷ row "work" (word Verb.Work) [] [] []
-    ∷ row "locks" (word Verb.Locks) [] [] []
-    ∷ row "dump 1fE 16" (withCount 16 (withStart 0x1FE (word Verb.Dump))) [] [] []
-    ∷ row "full" (word Verb.Full) [] [] []
-    ∷ row "short" (word Verb.Short) [] [] []
-    ∷ row "cut 000000000000000000000000000007" (withCount 7 (word Verb.Cut)) [] [] []
-    ∷ row "cut 99999999999999999999" (withCount 0xFFFF_FFFF_FFFF_FFFF (word Verb.Cut)) [] [] []
-    ∷ row "05 > 70000" (withWanted 65537 (sends 1)) (0x05 ∷ []) [] []
-    ∷ row "dump 0 3000000" (withCount 2097152 (word Verb.Dump)) [] [] []
+    plain "# the incident: a record across a page end" verbs.blank alone
+    ∷ sends "06                          # a frame, no reply wanted" (0x06 ∷ []) alone
+    ∷ sends "02 00 01 FE 11 22 33" (0x02 ∷ 0x00 ∷ 0x01 ∷ 0xFE ∷ 0x11 ∷ 0x22 ∷ 0x33 ∷ []) alone
+    ∷ plain "done                        # the running operation ends" verbs.done alone
+    ∷ sends "03 00 01 FE > 4             # a frame and four reply bytes" (0x03 ∷ 0x00 ∷ 0x01 ∷ 0xFE ∷ []) (with wanted 4)
+    ∷ row "03 00 01 FE > 4 = 11 22 FF ??   # the same, with what is expected" verbs.frame (λ l. with wanted 4 (with expecting 1 l))
+    (0x03 ∷ 0x00 ∷ 0x01 ∷ 0xFE ∷ []) (0x11 ∷ 0x22 ∷ 0xFF ∷ 0x00 ∷ []) (1 ∷ 1 ∷ 1 ∷ 0 ∷ [])
+    ∷ sends "02 00 00 00 00 ! 11         # a refusal is expected" (0x02 ∷ 0x00 ∷ 0x00 ∷ 0x00 ∷ 0x00 ∷ []) (λ l. with judged 1 (with refused 11 l))
+    ∷ plain "cut 100                     # power cut after 100 bytes" verbs.cut (with from 100)
+    ∷ plain "new                         # a new chip, array all FF" verbs.new alone
+    ∷ plain "" verbs.blank alone
+    ∷ sends "\t0b\tFe# x" (0x0B ∷ 0xFE ∷ []) alone
+    ∷ sends "5A*3" (0x5A ∷ 0x5A ∷ 0x5A ∷ []) alone
+    ∷ sends "02 5A * 2 FF*1 01>1" (0x02 ∷ 0x5A ∷ 0x5A ∷ 0xFF ∷ 0x01 ∷ []) (with wanted 1)
+    ∷ plain "> 4" verbs.frame (with wanted 4)
+    ∷ sends "05>2/1" (0x05 ∷ []) (λ l. with wanted 2 (with marksGiven 1 (with marks 1 l)))
+    ∷ row "05 > 2 / 2 = FF*2 ! 0" verbs.frame (λ l. with wanted 2 (with marksGiven 1 (with marks 2 (with expecting 1 (with judged 1 l))))) (0x05 ∷ []) (0xFF ∷ 0xFF ∷ []) (1 ∷ 1 ∷ [])
+    ∷ row "05>1=77!0" verbs.frame (λ l. with wanted 1 (with expecting 1 (with judged 1 l))) (0x05 ∷ []) (0x77 ∷ []) (1 ∷ [])
+    ∷ row ">4=~FF*2 ??*2" verbs.frame (λ l. with wanted 4 (with expecting 1 l)) [] (0xFF ∷ 0xFF ∷ 0x00 ∷ 0x00 ∷ []) (2 ∷ 2 ∷ 0 ∷ 0 ∷ [])
+    ∷ sends "03 > 2 = kept ! 4" (0x03 ∷ []) (λ l. with wanted 2 (with expecting 2 (with judged 1 (with refused 4 l))))
+    ∷ plain "done!12" verbs.done (λ l. with judged 1 (with refused 12 l))
+    ∷ plain "cut 7!5" verbs.cut (λ l. with from 7 (with judged 1 (with refused 5 l)))
+    ∷ plain "status" verbs.status alone
+    ∷ row "status = 00 ??" verbs.status (with expecting 1) [] (0x00 ∷ 0x00 ∷ []) (1 ∷ 0 ∷ [])
+    ∷ plain "work" verbs.work alone
+    ∷ plain "locks" verbs.locks alone
+    ∷ plain "dump 1fE 16" verbs.dump (λ l. with from 0x1FE (with size 16 l))
+    ∷ row "dump id 0 3 = 11 ~22 33" verbs.dump (λ l. with ofId 1 (with size 3 (with expecting 1 l))) [] (0x11 ∷ 0x22 ∷ 0x33 ∷ []) (1 ∷ 2 ∷ 1 ∷ [])
+    ∷ plain "fill 5fff 2 a5" verbs.fill (λ l. with from 0x5FFF (with size 2 (with filling 0xA5 l)))
+    ∷ plain "fill id 8 24 00" verbs.fill (λ l. with ofId 1 (with from 8 (with size 24 l)))
+    ∷ plain "buffer FE 2 11" verbs.buffer (λ l. with from 0xFE (with size 2 (with filling 0x11 l)))
+    ∷ plain "pattern" verbs.pattern alone
+    ∷ plain "lend 2097152 2048" verbs.lend (λ l. with from 2097152 (with size 2048 l))
+    ∷ plain "record" verbs.records alone
+    ∷ plain "record wel protect 5555FFFFFFFF perm 8000000000000000 run page 1FE aside sector 1f8 enable" verbs.records
+    (λ l. with wel 1 (with protection 0x5555_FFFF_FFFF (with permanent 0x8000_0000_0000_0000 (with runKind 4 (with runNumber 0x1FE (with asideKind 1 (with asideNumber 0x1F8 (with enable 1 l))))))))
+    ∷ plain "is run array aside lock sqi ioc wpen wpld sec" verbs.is
+    (λ l. with runKind 3 (with asideKind 6 (with sqi 1 (with ioc 1 (with wpen 1 (with wpld 1 (with sec 1 l)))))))
+    ∷ plain "is run block 3 aside id 4" verbs.is (λ l. with runKind 2 (with runNumber 3 (with asideKind 5 (with asideNumber 4 l))))
+    ∷ plain "is run config 0f aside bits 3" verbs.is (λ l. with runKind 7 (with runNumber 0x0F (with asideKind 8 (with asideNumber 3 l))))
+    ∷ plain "full" verbs.full alone
+    ∷ plain "short" verbs.short alone
+    ∷ plain "strict" verbs.strict alone
+    ∷ plain "cut 000000000000000000000000000007" verbs.cut (with from 7)
+    ∷ plain "cut 99999999999999999999" verbs.cut (with from 0xFFFF_FFFF_FFFF_FFFF)
+    ∷ record { text = 0xEF ∷ 0xBB ∷ 0xBF ∷ ascii "full"; is = record { verbs = verbs.full; slots = says verbs.full; frame = []; expected = []; known = [] } }
     ∷ []
 
--- the last is é, in its two bytes
-abbrev pub wrongLines : List WrongRow
+-- the last four: é, in its two bytes; what is no byte order mark; and one that does not stand at the input's start
+unfoldable pub wrongLines : List WrongRow
 wrongLines =
-    wrong "0G" Place.First "0G" 2 1
-    ∷ wrong "06 0" Place.Sent "0" 1 4
-    ∷ wrong "06 a frame" Place.Sent "a" 1 4
-    ∷ wrong "06  a frame" Place.Sent "a" 1 5
-    ∷ wrong "02 00 10 00 5A  DEADBEEF" Place.Sent "DEADBEEF" 8 17
-    ∷ wrong "05 > 1  done" Place.Replied "done" 4 9
-    ∷ wrong "03 > 1 = 11  and no more" Place.MoreExpected "and" 3 14
-    ∷ wrong "done  it ends" Place.AfterEvent "it" 2 7
-    ∷ wrong "new  a chip" Place.End "a" 1 6
-    ∷ wrong "05=77" Place.Sent "=" 1 3
-    ∷ wrong "05>x" Place.ReplyCount "x" 1 4
-    ∷ wrong "05 >> 1" Place.ReplyCount ">" 1 5
-    ∷ wrong "05 > 1 != 00" Place.Refusal "=" 1 9
-    ∷ wrong "05>2=??77" Place.Expected "??77" 4 6
-    ∷ wrong "05>1=" Place.Expected "" 0 6
-    ∷ wrong "06 06 = 11" Place.Sent "=" 1 7
-    ∷ wrong "03 00 01 FE   = 11" Place.Sent "=" 1 15
-    ∷ wrong "03 00 01 FE > 2   11 22" Place.Replied "11" 2 19
-    ∷ wrong "cut" Place.CutCount "" 0 4
-    ∷ wrong "cut ten" Place.CutCount "ten" 3 5
-    ∷ wrong "03 > x" Place.ReplyCount "x" 1 6
-    ∷ wrong "03 > # how many?" Place.ReplyCount "" 0 6
-    ∷ wrong "03 > 1 =" Place.Expected "" 0 9
-    ∷ wrong "03 > 1 = ! 0" Place.Expected "!" 1 10
-    ∷ wrong "03 > 1 = 11 xx" Place.MoreExpected "xx" 2 13
-    ∷ wrong "done 5" Place.AfterEvent "5" 1 6
-    ∷ wrong "02 ! 13" Place.Refusal "13" 2 6
-    ∷ wrong "02 !" Place.Refusal "" 0 5
-    ∷ wrong "??" Place.First "??" 2 1
-    ∷ wrong "DONE" Place.First "DONE" 4 1
-    ∷ wrong "new ! 0" Place.End "!" 1 5
-    ∷ wrong "dump 1000000 1" Place.DumpPlace "1000000" 7 6
-    ∷ wrong "dump 0" Place.DumpCount "" 0 7
-    ∷ wrong "  a remark needs its # where a line begins" Place.First "a" 1 3
-    ∷ wrong "a-word-of-more-than-24-bytes-is-shown-by-its-first" Place.First "a-word-of-more-than-24-b" 25 1
-    ∷ record { text = 0xC3 ∷ 0xA9 ∷ []; is = mistake Place.First (0xC3 ∷ 0xA9 ∷ []) 2 1 }
+    wrong "0G" lineStart "0G" 2 1
+    ∷ wrong "06 0" afterByte "0" 1 4
+    ∷ wrong "06  a frame" afterByte "a" 1 5
+    ∷ wrong "02 00 10 00 5A  DEADBEEF" afterByte "DEADBEEF" 8 17
+    ∷ wrong "5A*0" afterByteStar "0" 1 4
+    ∷ wrong "5A**2" afterByteStar "*" 1 4
+    ∷ wrong "5A*2*2" afterBytes "*" 1 5
+    ∷ wrong "05=77" afterByte "=" 1 3
+    ∷ wrong "05>x" afterReply "x" 1 4
+    ∷ wrong "05 >> 1" afterReply ">" 1 5
+    ∷ wrong "03 > # how many?" afterReply "" 0 6
+    ∷ wrong "05 > 1  done" afterReplyCount "done" 4 9
+    ∷ wrong "03 00 01 FE > 2   11 22" afterReplyCount "11" 2 19
+    ∷ wrong "05 > 2 / = 11" afterSlash "=" 1 10
+    ∷ wrong "05 > 2 / 1 / 1" afterMarkCount "/" 1 12
+    ∷ wrong "05>2=??77" afterEqual "??77" 4 6
+    ∷ wrong "05>1=" afterEqual "" 0 6
+    ∷ wrong "03 > 1 = ! 0" afterEqual "!" 1 10
+    ∷ wrong "03 > 1 = 11  and no more" afterExpected "and" 3 14
+    ∷ wrong "03 > 1 = 11 kept" afterExpected "kept" 4 13
+    ∷ wrong "03 > 1 = ~ ??" afterTilde "??" 2 12
+    ∷ wrong "03 > 1 = ??*" afterExpectedStar "" 0 13
+    ∷ wrong "03 > 1 = 11*2*" afterExpectedTimes "*" 1 14
+    ∷ wrong "05 > 1 != 00" afterRefuse "=" 1 9
+    ∷ wrong "02 ! 13" afterRefuse "13" 2 6
+    ∷ wrong "new  a chip" lineDone "a" 1 6
+    ∷ wrong "new ! 0" lineDone "!" 1 5
+    ∷ wrong "done 5" afterEvent "5" 1 6
+    ∷ wrong "cut" afterCut "" 0 4
+    ∷ wrong "cut ten" afterCut "ten" 3 5
+    ∷ wrong "status ! 0" afterQuestion "!" 1 8
+    ∷ wrong "dump 0 4 = kept" afterAsked "kept" 4 12
+    ∷ wrong "dump 0 4 = 11 ! 0" afterAnswer "!" 1 15
+    ∷ wrong "status = ~" afterAnswerTilde "" 0 11
+    ∷ wrong "status = 11*x" afterAnswerStar "x" 1 13
+    ∷ wrong "status = 11*2 *" afterAnswerTimes "*" 1 15
+    ∷ wrong "dump 1000000 1" afterDump "1000000" 7 6
+    ∷ wrong "dump id" afterDumpId "" 0 8
+    ∷ wrong "dump 0" afterDumpPlace "" 0 7
+    ∷ wrong "fill x" afterFill "x" 1 6
+    ∷ wrong "buffer id" afterFillId "id" 2 8
+    ∷ wrong "fill 0 FF" afterFillPlace "FF" 2 8
+    ∷ wrong "fill 0 2 FFF" afterFillCount "FFF" 3 10
+    ∷ wrong "lend" afterLend "" 0 5
+    ∷ wrong "lend 1 -" afterLendArray "-" 1 8
+    ∷ wrong "record WEL" inFields "WEL" 3 8
+    ∷ wrong "record protect 10000000000000000" afterProtect "10000000000000000" 17 16
+    ∷ wrong "is perm" afterPerm "" 0 8
+    ∷ wrong "record run 5" afterRun "5" 1 12
+    ∷ wrong "record aside wel" afterAside "wel" 3 14
+    ∷ wrong "is run page" afterRunKind "" 0 12
+    ∷ wrong "is aside id x" afterAsideKind "x" 1 13
+    ∷ wrong "??" lineStart "??" 2 1
+    ∷ wrong "  a remark needs its # where a line begins" lineStart "a" 1 3
+    ∷ wrong "a-word-of-more-than-24-bytes-is-shown-by-its-first" lineStart "a-word-of-more-than-24-b" 25 1
+    ∷ record { text = 0xC3 ∷ 0xA9 ∷ []; is = mistake lineStart (0xC3 ∷ 0xA9 ∷ []) 2 1 }
+    ∷ record { text = 0xEF ∷ 0xBB ∷ ascii " new"; is = mistake lineStart (0xEF ∷ 0xBB ∷ []) 2 1 }
+    ∷ record { text = 0xEF ∷ ascii "new"; is = mistake lineStart (0xEF ∷ ascii "new") 4 1 }
+    ∷ record { text = 0x0A ∷ 0xEF ∷ 0xBB ∷ 0xBF ∷ []; is = mistake lineStart (0xEF ∷ 0xBB ∷ 0xBF ∷ []) 3 1 }
     ∷ []
 
-abbrev pub hints : List HintRow
+unfoldable pub hints : List HintRow
 hints =
-    hinted "6" Hint.TwoDigits
-    ∷ hinted "0x06" Hint.TwoDigits
-    ∷ hinted "03 > 1 = 0XF" Hint.TwoDigits
-    ∷ hinted "06 980" Hint.TwoDigits
-    ∷ hinted "02 00 10 00 5A  DEADBEEF" Hint.Apart
-    ∷ hinted "0xDEADBEEF" Hint.Apart
-    ∷ hinted "Done" Hint.LowerCase
-    ∷ hinted "STATUS" Hint.LowerCase
-    ∷ hinted "Finish" Hint.Nothing
-    ∷ hinted "0G" Hint.Nothing
-    ∷ hinted "=" Hint.Nothing
-    ∷ hinted "done 5" Hint.Nothing
-    ∷ hinted "06 ! 0x05" Hint.Nothing
-    ∷ hinted "cut" Hint.Nothing
-    ∷ hinted "dump 1000000 1" Hint.Nothing
-    ∷ hinted "cut 111111111111111111111111x" Hint.Nothing
+    hinted "6" twoDigits
+    ∷ hinted "0x06" twoDigits
+    ∷ hinted "03 > 1 = 0XF" twoDigits
+    ∷ hinted "06 980" twoDigits
+    ∷ hinted "fill 0 2 FFF" twoDigits
+    ∷ hinted "02 00 10 00 5A  DEADBEEF" apart
+    ∷ hinted "0xDEADBEEF" apart
+    ∷ hinted "Done" lowerCase
+    ∷ hinted "STATUS" lowerCase
+    ∷ hinted "record WEL" lowerCase
+    ∷ hinted "Finish" noHint
+    ∷ hinted "0G" noHint
+    ∷ hinted "=" noHint
+    ∷ hinted "done 5" noHint
+    ∷ hinted "06 ! 0x05" noHint
+    ∷ hinted "cut" noHint
+    ∷ hinted "dump 1000000 1" noHint
+    ∷ hinted "cut 111111111111111111111111x" noHint
+    ∷ []
+
+-- scripts, and the verbs of their lines
+unfoldable pub lineEnds : List EndRow
+lineEnds =
+    record { text = []; is = verbs.blank ∷ [] }
+    ∷ record { text = ascii "new\ndone"; is = verbs.new ∷ verbs.done ∷ [] }
+    ∷ record { text = ascii "new\ndone\n"; is = verbs.new ∷ verbs.done ∷ verbs.blank ∷ [] }
+    ∷ record { text = ascii "new\rdone\rcut 1"; is = verbs.new ∷ verbs.done ∷ verbs.cut ∷ [] }
+    ∷ record { text = ascii "new\r\ndone\r\n"; is = verbs.new ∷ verbs.done ∷ verbs.blank ∷ [] }
+    ∷ record { text = ascii "new\n\rdone"; is = verbs.new ∷ verbs.blank ∷ verbs.done ∷ [] }
+    ∷ record { text = ascii "06 #\r\r\n0G\n> 1"; is = verbs.frame ∷ verbs.blank ∷ verbs.wrong ∷ verbs.frame ∷ [] }
+    ∷ []
+
+-- lines, and their remarks
+unfoldable pub remarks : List EndRow
+remarks =
+    record { text = ascii "new# a chip"; is = ascii " a chip" }
+    ∷ record { text = ascii "# #1"; is = ascii " #1" }
+    ∷ record { text = ascii "0G # no"; is = [] }
     ∷ []

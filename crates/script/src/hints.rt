@@ -1,14 +1,10 @@
 // What a wrong word may have been meant to be. specs/Hints.antt.
-use crate::Hint;
-use grammar::Next;
-use grammar::Place;
-use grammar::Sort;
 use grammar::Word;
-use grammar::places;
+use grammar::table;
 use grammar::words;
 use rules::plain::smaller;
 ghost use mathlib.Core.Path.{_≡_};
-ghost use Rattle.script.specs.Hints.{lower, stands, takesByte, prefix, byDigits, ofDigits, inLower, hintOf};
+ghost use Rattle.script.specs.Hints.{lower, stands, takesByte, prefix, ofDigits, inLower, hintOf};
 
 // A letter in lower case.
 fn lower(b: u8) -> u8
@@ -37,20 +33,29 @@ fn in_lower(word: &[u8], from: usize, to: usize) -> Word
     now
 }
 
-fn stands(next: Next) -> bool
-    ensures { λ r. ⌜ r ≡ stands next ⌝ }
+// The word may stand at that place.
+fn stands(place: u8, w: Word) -> bool
+    ensures { λ r. ⌜ r ≡ stands place w ⌝ }
 {
-    match next {
-        Next::To(_) => true,
-        Next::Mistake => false,
-    }
+    let e = table::follows(place, w);
+    e.class != 255
 }
 
-// A byte may stand here.
-fn takes_byte(place: Place) -> bool
+// A byte may stand here: the word 00.
+fn takes_byte(place: u8) -> bool
     ensures { λ r. ⌜ r ≡ takesByte place ⌝ }
 {
-    places::framed(place, Sort::Byte) | places::awaited(place, Sort::Byte)
+    let byte = Word {
+        length: 2,
+        column: 0,
+        key: 0x013030,
+        decimal: true,
+        number: 0,
+        hexadecimal: true,
+        hex: 0,
+    };
+    let e = table::follows(place, byte);
+    e.class == 0
 }
 
 // The bytes of 0x.
@@ -64,37 +69,28 @@ fn prefix(a: u8, b: u8) -> usize
     }
 }
 
-fn by_digits(n: usize) -> Hint
-    ensures { λ r. ⌜ r ≡ byDigits n ⌝ }
+fn of_digits(takes: bool, n: usize) -> u8
+    ensures { λ r. ⌜ r ≡ ofDigits takes n ⌝ }
 {
-    if (2 < n) & (n % 2 == 0) {
-        Hint::Apart
+    if takes {
+        if (2 < n) & (n % 2 == 0) { 2 } else { 1 }
     } else {
-        Hint::TwoDigits
-    }
-}
-
-fn of_digits(place: Place, w: Word) -> Hint
-    ensures { λ r. ⌜ r ≡ ofDigits place w ⌝ }
-{
-    if takes_byte(place) & w.hexadecimal {
-        by_digits(w.length)
-    } else {
-        Hint::Nothing
+        0
     }
 }
 
 // By the word's first bytes and its length, at that place.
-pub fn hint_of(place: Place, word: &[u8; 24], length: usize) -> Hint
+pub fn hint_of(place: u8, word: &[u8; 24], length: usize) -> u8
     ensures { λ r. ⌜ r ≡ hintOf place (now (word .entry)) length ⌝ }
 {
     if (length == 0) | (24 < length) {
-        return Hint::Nothing;
+        return 0;
     }
     let whole = in_lower(word, 0, length);
-    if stands(places::follows(place, whole)) {
-        return Hint::LowerCase;
+    if stands(place, whole) {
+        return 3;
     }
     let skipped = prefix(word[0], word[1]);
-    of_digits(place, in_lower(word, skipped, length))
+    let digits = in_lower(word, skipped, length);
+    of_digits(takes_byte(place) & digits.hexadecimal, digits.length)
 }

@@ -1,39 +1,28 @@
-// One line of a script, read byte by byte. The language and what each function gives are in specs/.
+// A script, read byte by byte. The language and what each function gives are in specs/.
 mod hints;
 mod lines;
 
-pub use grammar::Place;
-use grammar::Said;
-pub use grammar::Verb;
 use grammar::Word;
-use grammar::places;
-use grammar::words;
 pub use hints::hint_of;
+pub use lines::line_of;
 use rules::plain::smaller;
 ghost use mathlib.Core.Path.{_≡_};
-ghost use Rattle.script.specs.Lines.{begun, ReadPromise, EndPromise};
+ghost use Rattle.script.specs.Lines.{fresh, stored, StepPromise, FinishPromise};
 
 // ---- what a line says
 
 pub struct Line {
-    pub verb: Verb,
+    // 31: a mistake was met, or the line ended too early
+    pub verb: u8,
+    pub slots: [u64; 24],
     // bytes of the frame, at most 65,537
     pub sent: usize,
-    // reply bytes wanted, at most 65,537
-    pub wanted: usize,
-    // expected bytes were given
-    pub expects: bool,
-    // how many, at most 65,537
+    // expected bytes, at most 65,537
     pub expected: usize,
-    // `! N` was given
-    pub judged: bool,
-    pub number: u8,
-    // the number of `cut`, at most 2^64 - 1, or of `dump`, at most 2,097,152
-    pub count: u64,
-    // the place of `dump`, below 2^24
-    pub start: usize,
+    // bytes of the remark, at most 65,537
+    pub remark: usize,
     // where the line ends, or where its first mistake stands
-    pub place: Place,
+    pub place: u8,
     // a wrong word's first bytes, 0 after them
     pub word: [u8; 24],
     // its length, at most 25; 0: the line ends too early
@@ -42,82 +31,85 @@ pub struct Line {
     pub column: usize,
 }
 
-// What a wrong word may have been meant to be.
-pub enum Hint {
-    Nothing,
-    TwoDigits,
-    Apart,
-    LowerCase,
-}
-
 // ---- a line half read
 
-pub enum Mode {
-    Open,
-    // the rest is a remark
-    Remark,
-    // a mistake was met; the word is the wrong one
-    Wrong,
-}
-
 pub struct Reading {
-    pub mode: Mode,
-    pub place: Place,
+    // 0 open; 1 the rest is a remark; 2 a mistake was met, the word is the wrong one
+    pub mode: u8,
+    pub place: u8,
     // bytes of the line so far
     pub read: usize,
     // the word's first bytes, 0 after them
     pub shown: [u8; 24],
     pub word: Word,
-    pub said: Said,
+    // counts of stored bytes
+    pub sent: usize,
+    pub expected: usize,
+    // the last stored byte, and its kind where it is an expected one
+    pub last: u8,
+    pub kind: u8,
+    // bytes of the remark so far
+    pub remark: usize,
+    pub slots: [u64; 24],
+    // the last byte ended the line
+    pub ended: bool,
+    // and was a CR: an LF right after it ends no line
+    pub cr: bool,
+    // how many bytes of a byte order mark came at the input's very start; 3 after that
+    pub mark: u8,
 }
 
 // ---- the calls
 
-// A line of which nothing is read.
+// Nothing of the input is read.
 pub fn start() -> Reading
-    ensures { λ r. ⌜ r ≡ begun ⌝ }
+    ensures { λ r. ⌜ r ≡ fresh 0 ⌝ }
 {
-    Reading {
-        mode: Mode::Open,
-        place: Place::First,
-        read: 0,
-        shown: [0; 24],
-        word: words::none(0),
-        said: places::nothing(),
+    lines::fresh(0)
+}
+
+fn store(a: &mut [u8; 65537], from: usize, to: usize, v: u8)
+    ensures { λ _. ⌜ now (a .exit) ≡ stored (now (a .entry)) from to v ⌝ }
+{
+    let end = smaller(to, 65537);
+    let mut i = from;
+    while i < end {
+        a[i] = v;
+        i += 1;
     }
 }
 
-// The bytes from `from` to `to` of the text come next; none of them is the line's end.
-pub fn read(
+// One byte of the input.
+pub fn step(
     r: Reading,
-    text: &[u8],
-    from: usize,
-    to: usize,
+    b: u8,
+    frame: &mut [u8; 65537],
+    expected: &mut [u8; 65537],
+    known: &mut [u8; 65537],
+    remark: &mut [u8; 65537],
+) -> Reading
+    ensures { λ q. ⌜ StepPromise r b (now (frame .entry)) (now (expected .entry)) (now (known .entry)) (now (remark .entry)) q (now (frame .exit)) (now (expected .exit)) (now (known .exit)) (now (remark .exit)) ⌝ }
+{
+    let q = lines::advanced(r, b);
+    store(frame, r.sent, q.sent, q.last);
+    store(expected, r.expected, q.expected, q.last);
+    store(known, r.expected, q.expected, q.kind);
+    store(remark, r.remark, q.remark, b);
+    q
+}
+
+// The input has ended.
+pub fn finish(
+    r: Reading,
     frame: &mut [u8; 65537],
     expected: &mut [u8; 65537],
     known: &mut [u8; 65537],
 ) -> Reading
-    ensures { λ q. ⌜ ReadPromise r (now (text .entry)) from to (now (frame .entry)) (now (expected .entry)) (now (known .entry)) q (now (frame .exit)) (now (expected .exit)) (now (known .exit)) ⌝ }
+    ensures { λ q. ⌜ FinishPromise r (now (frame .entry)) (now (expected .entry)) (now (known .entry)) q (now (frame .exit)) (now (expected .exit)) (now (known .exit)) ⌝ }
 {
-    let end = smaller(to, text.len());
-    let mut now = r;
-    let mut i = from;
-    while i < end {
-        now = lines::step(now, text[i], frame, expected, known);
-        i += 1;
-    }
-    now
-}
-
-// The line's end has come.
-pub fn ended(
-    r: Reading,
-    frame: &mut [u8; 65537],
-    expected: &mut [u8; 65537],
-    known: &mut [u8; 65537],
-) -> Line
-    ensures { λ l. ⌜ EndPromise r (now (frame .entry)) (now (expected .entry)) (now (known .entry)) l (now (frame .exit)) (now (expected .exit)) (now (known .exit)) ⌝ }
-{
-    let last = lines::close_word(r, frame, expected, known);
-    lines::line_of(last)
+    let q = lines::advanced(r, 10);
+    store(frame, r.sent, q.sent, q.last);
+    store(expected, r.expected, q.expected, q.last);
+    store(known, r.expected, q.expected, q.kind);
+    q
 }

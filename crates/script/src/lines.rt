@@ -1,38 +1,81 @@
 // A line half read, by the byte and by the word. specs/Lines.antt.
 use crate::Line;
-use crate::Mode;
 use crate::Reading;
-use grammar::Next;
-use grammar::Place;
-use grammar::Verb;
-use grammar::Word;
-use grammar::places;
+use grammar::Entry;
+use grammar::table;
 use grammar::words;
 ghost use mathlib.Core.Path.{_≡_};
-ghost use Rattle.rules.specs.Words.{pick, num};
-ghost use Rattle.grammar.specs.declared.Verb.{Verb};
-ghost use Rattle.grammar.specs.Words.{oneMore, sortOf};
-ghost use Rattle.grammar.specs.Grammar.{isByte, nextOf};
-ghost use Rattle.script.specs.Lines.{passedBy, shownWith, goesOn, remarkFrom, takenOpen, isOpen, isWrong, takenByte, overAt, closedAt, withMode, wentTo, goes, hasWord, wordEnded, stored, toFrame, toExpected, held, closed, stepped, lineOf};
+ghost use Prim.Native.Nat.{_%_};
+ghost use Rattle.rules.specs.Words.{pick};
+ghost use Rattle.grammar.specs.Words.{oneMore};
+ghost use Rattle.script.specs.Lines.{countAfter, byteAfter, kindAfter, fresh, shownWith, markAfter, taken, went, closed, advanced, lineOf};
+
+// ---- counts, and the byte that is stored
+
+// One more, or as many as make n in all, or no more: at most 65,537.
+fn count_after(at: usize, one: bool, again: bool, n: u64) -> usize
+    ensures { λ q. ⌜ q ≡ countAfter at one again n ⌝ }
+{
+    if !one & !again {
+        return at;
+    }
+    if 65537 <= at {
+        return 65537;
+    }
+    if one {
+        return at + 1;
+    }
+    if n == 0 {
+        return at;
+    }
+    if n <= 65537 - at as u64 {
+        at + (n - 1) as usize
+    } else {
+        65537
+    }
+}
+
+fn byte_after(store: u8, own: u8, last: u8) -> u8
+    ensures { λ q. ⌜ q ≡ byteAfter store own last ⌝ }
+{
+    if (store == 1) | ((store == 3) | (store == 5)) {
+        return own;
+    }
+    if store == 4 { 0 } else { last }
+}
+
+fn kind_after(store: u8, last: u8) -> u8
+    ensures { λ q. ⌜ q ≡ kindAfter store last ⌝ }
+{
+    if store == 3 {
+        return 1;
+    }
+    if store == 4 {
+        return 0;
+    }
+    if store == 5 { 2 } else { last }
+}
 
 // ---- one byte
 
-// A byte that says nothing more: a blank, or of a remark, or after a mistake.
-fn passed(r: Reading) -> Reading
-    ensures { λ q. ⌜ q ≡ passedBy r ⌝ }
+pub fn fresh(mark: u8) -> Reading
+    ensures { λ q. ⌜ q ≡ fresh mark ⌝ }
 {
-    let mode = r.mode;
-    let place = r.place;
-    let shown = r.shown;
-    let word = r.word;
-    let said = r.said;
     Reading {
-        mode,
-        place,
-        read: words::one_more(r.read),
-        shown,
-        word,
-        said,
+        mode: 0,
+        place: 0,
+        read: 0,
+        shown: [0; 24],
+        word: words::none(0),
+        sent: 0,
+        expected: 0,
+        last: 0,
+        kind: 0,
+        remark: 0,
+        slots: [0; 24],
+        ended: false,
+        cr: false,
+        mark,
     }
 }
 
@@ -47,264 +90,127 @@ fn shown_with(shown: [u8; 24], length: usize, b: u8) -> [u8; 24]
     more
 }
 
-// The word goes on, or begins.
-fn goes_on(r: Reading, b: u8) -> Reading
-    ensures { λ q. ⌜ q ≡ goesOn r b ⌝ }
+// By the mode: # or a blank where no word is, a byte of a word, of a remark, or after a mistake.
+fn taken(r: Reading, b: u8, mark: u8) -> Reading
+    ensures { λ q. ⌜ q ≡ taken r b mark ⌝ }
 {
-    let place = r.place;
-    let shown = r.shown;
-    let word = r.word;
-    let said = r.said;
     let read = words::one_more(r.read);
-    let length = word.length;
-    Reading {
-        mode: Mode::Open,
-        place,
-        read,
-        shown: shown_with(shown, length, b),
-        word: words::longer(word, b, read),
-        said,
+    let mut q = r;
+    q.read = read;
+    q.mark = mark;
+    if r.mode == 0 {
+        if b == 35 {
+            let none = words::none(read);
+            q.mode = 1;
+            q.word = none;
+            return q;
+        }
+        if words::is_blank(b) {
+            return q;
+        }
+        let shown = r.shown;
+        let word = r.word;
+        let more = shown_with(shown, word.length, b);
+        let longer = words::longer(word, b, read);
+        q.shown = more;
+        q.word = longer;
+        return q;
     }
+    if r.mode == 1 {
+        q.remark = count_after(r.remark, true, false, 0);
+        return q;
+    }
+    q
 }
 
-// A remark begins, where no word is.
-fn remark_from(r: Reading) -> Reading
-    ensures { λ q. ⌜ q ≡ remarkFrom r ⌝ }
+fn mark_after(mark: u8, b: u8) -> u8
+    ensures { λ q. ⌜ q ≡ markAfter mark b ⌝ }
 {
-    let place = r.place;
-    let shown = r.shown;
-    let said = r.said;
-    let read = words::one_more(r.read);
-    Reading {
-        mode: Mode::Remark,
-        place,
-        read,
-        shown,
-        word: words::none(read),
-        said,
+    if (mark == 0) & (b == 0xef) {
+        return 1;
     }
-}
-
-// A byte while the line is open: # or a blank, where no word is, or a byte of a word.
-fn taken_open(r: Reading, b: u8) -> Reading
-    ensures { λ q. ⌜ q ≡ takenOpen r b ⌝ }
-{
-    if b == 35 {
-        return remark_from(r);
-    }
-    if words::is_blank(b) {
-        return passed(r);
-    }
-    goes_on(r, b)
-}
-
-fn is_open(m: Mode) -> bool
-    ensures { λ q. ⌜ q ≡ isOpen m ⌝ }
-{
-    match m {
-        Mode::Open => true,
-        Mode::Remark => false,
-        Mode::Wrong => false,
-    }
-}
-
-fn taken(r: Reading, b: u8) -> Reading
-    ensures { λ q. ⌜ q ≡ takenByte r b ⌝ }
-{
-    let mode = r.mode;
-    if is_open(mode) {
-        taken_open(r, b)
-    } else {
-        passed(r)
-    }
+    if (mark == 1) & (b == 0xbb) { 2 } else { 3 }
 }
 
 // ---- one word
 
-fn with_mode(r: Reading, mode: Mode) -> Reading
-    ensures { λ q. ⌜ q ≡ withMode mode r ⌝ }
+// By its row the word is a mistake, or says what it says.
+fn went(r: Reading, e: Entry) -> Reading
+    ensures { λ q. ⌜ q ≡ went r e ⌝ }
 {
-    let place = r.place;
-    let shown = r.shown;
-    let word = r.word;
-    let said = r.said;
-    Reading {
-        mode,
-        place,
-        read: r.read,
-        shown,
-        word,
-        said,
+    let mut q = r;
+    if e.class == 255 {
+        q.mode = 2;
+        return q;
     }
+    let word = r.word;
+    let slots = r.slots;
+    let none = words::none(0);
+    let heard = table::heard(slots, e, word);
+    q.place = e.next;
+    q.shown = [0; 24];
+    q.word = none;
+    q.sent = count_after(r.sent, e.store == 1, e.store == 2, word.number);
+    q.expected = count_after(
+        r.expected,
+        (2 < e.store) & (e.store < 6),
+        e.store == 6,
+        word.number,
+    );
+    q.last = byte_after(e.store, words::byte_of(word), r.last);
+    q.kind = kind_after(e.store, r.kind);
+    q.slots = heard;
+    q
 }
 
-// The word stands where it may; that place comes next.
-fn went(r: Reading, to: Place) -> Reading
-    ensures { λ q. ⌜ q ≡ wentTo r to ⌝ }
+// The line before the byte b, its last word closed.
+fn closed(r: Reading, b: u8) -> Reading
+    ensures { λ q. ⌜ q ≡ closed r b ⌝ }
 {
-    let place = r.place;
-    let word = r.word;
-    let said = r.said;
-    Reading {
-        mode: Mode::Open,
-        place: to,
-        read: r.read,
-        shown: [0; 24],
-        word: words::none(0),
-        said: places::heard(place, word, said),
+    if r.ended {
+        return fresh(3);
     }
-}
-
-fn went_on(r: Reading, next: Next) -> Reading
-    ensures { λ q. ⌜ q ≡ goes r next ⌝ }
-{
-    match next {
-        Next::To(to) => went(r, to),
-        Next::Mistake => with_mode(r, Mode::Wrong),
-    }
-}
-
-fn judged(r: Reading) -> Reading
-    ensures { λ q. ⌜ q ≡ goes r (nextOf (r .place) (r .word)) ⌝ }
-{
-    let place = r.place;
     let word = r.word;
-    went_on(r, places::follows(place, word))
-}
-
-// There is a word to judge.
-fn has_word(r: Reading) -> bool
-    ensures { λ q. ⌜ q ≡ hasWord r ⌝ }
-{
-    let mode = r.mode;
-    let word = r.word;
-    is_open(mode) & (word.length != 0)
-}
-
-// A word's end.
-fn word_ended(r: Reading) -> Reading
-    ensures { λ q. ⌜ q ≡ wordEnded r ⌝ }
-{
-    if has_word(r) { judged(r) } else { r }
-}
-
-// ---- what is stored
-
-fn store(a: &mut [u8; 65537], at: usize, v: u8, test: bool)
-    ensures { λ _. ⌜ now (a .exit) ≡ stored (now (a .entry)) at v test ⌝ }
-{
-    if test {
-        if at < 65537 {
-            a[at] = v;
-        }
-    }
-}
-
-fn to_frame(r: Reading) -> bool
-    ensures { λ q. ⌜ q ≡ toFrame r ⌝ }
-{
-    let place = r.place;
-    let word = r.word;
-    has_word(r) & places::framed(place, words::sort_of(word))
-}
-
-fn to_expected(r: Reading) -> bool
-    ensures { λ q. ⌜ q ≡ toExpected r ⌝ }
-{
-    let place = r.place;
-    let word = r.word;
-    has_word(r) & places::awaited(place, words::sort_of(word))
-}
-
-// 1 for a byte, 0 for ??.
-fn known_of(w: Word) -> u8
-    ensures { λ q. ⌜ q ≡ num (isByte (sortOf w)) ⌝ }
-{
-    if places::is_byte(words::sort_of(w)) {
-        1
-    } else {
-        0
-    }
-}
-
-// The word before this byte or before the line's end.
-pub fn close_word(
-    r: Reading,
-    frame: &mut [u8; 65537],
-    expected: &mut [u8; 65537],
-    known: &mut [u8; 65537],
-) -> Reading
-    ensures { λ q. ⌜ held q (now (frame .exit)) (now (expected .exit)) (now (known .exit)) ≡ closed (held r (now (frame .entry)) (now (expected .entry)) (now (known .entry))) ⌝ }
-{
-    let word = r.word;
-    let said = r.said;
-    let value = words::byte_of(word);
-    let more = to_expected(r);
-    store(frame, said.sent, value, to_frame(r));
-    store(expected, said.expected, value, more);
-    store(known, said.expected, known_of(word), more);
-    word_ended(r)
-}
-
-// The byte ends the word before it, or that word is a sign.
-fn over_at(r: Reading, b: u8) -> bool
-    ensures { λ q. ⌜ q ≡ overAt r b ⌝ }
-{
-    let word = r.word;
-    words::ends_words(b) | places::is_sign(words::sort_of(word))
-}
-
-fn close_at(
-    r: Reading,
-    b: u8,
-    frame: &mut [u8; 65537],
-    expected: &mut [u8; 65537],
-    known: &mut [u8; 65537],
-) -> Reading
-    ensures { λ q. ⌜ held q (now (frame .exit)) (now (expected .exit)) (now (known .exit)) ≡ closedAt b (held r (now (frame .entry)) (now (expected .entry)) (now (known .entry))) ⌝ }
-{
-    if over_at(r, b) {
-        return close_word(r, frame, expected, known);
+    if ((r.mode == 0) & (word.length != 0)) & (words::ends_words(b) | words::sign(word)) {
+        return went(r, table::follows(r.place, word));
     }
     r
 }
 
-pub fn step(
-    r: Reading,
-    b: u8,
-    frame: &mut [u8; 65537],
-    expected: &mut [u8; 65537],
-    known: &mut [u8; 65537],
-) -> Reading
-    ensures { λ q. ⌜ held q (now (frame .exit)) (now (expected .exit)) (now (known .exit)) ≡ stepped (held r (now (frame .entry)) (now (expected .entry)) (now (known .entry))) b ⌝ }
+// ---- one byte of the input
+
+pub fn advanced(r: Reading, b: u8) -> Reading
+    ensures { λ q. ⌜ q ≡ advanced r b ⌝ }
 {
-    let at = close_at(r, b, frame, expected, known);
-    taken(at, b)
+    let mut q = closed(r, b);
+    if words::ends_line(b) {
+        if r.ended & (r.cr & (b == 10)) {
+            return fresh(3);
+        }
+        q.ended = true;
+        q.cr = b == 13;
+        q.mark = 3;
+        return q;
+    }
+    if (r.mark == 2) & (b == 0xbf) {
+        return fresh(3);
+    }
+    taken(q, b, mark_after(r.mark, b))
 }
 
 // ---- the line
 
 // A mistake, or a line that ends too early, is wrong.
-fn verb_at(wrong: bool, ends: bool, verb: Verb) -> Verb
-    ensures { λ q. ⌜ q ≡ pick wrong Verb.Wrong (pick ends verb Verb.Wrong) ⌝ }
+fn verb_at(wrong: bool, ends: bool, verb: u64) -> u8
+    ensures { λ q. ⌜ q ≡ pick wrong 31 (pick ends (verb % 256) 31) ⌝ }
 {
     if wrong {
-        return Verb::Wrong;
+        return 31;
     }
-    if ends { verb } else { Verb::Wrong }
+    if ends { (verb % 256) as u8 } else { 31 }
 }
 
-fn is_wrong(m: Mode) -> bool
-    ensures { λ q. ⌜ q ≡ isWrong m ⌝ }
-{
-    match m {
-        Mode::Open => false,
-        Mode::Remark => false,
-        Mode::Wrong => true,
-    }
-}
-
-fn column_at(goes: bool, column: usize, read: usize) -> usize
+fn column_at(goes: bool, read: usize, column: usize) -> usize
     ensures { λ q. ⌜ q ≡ pick goes (oneMore read) column ⌝ }
 {
     if goes { words::one_more(read) } else { column }
@@ -313,25 +219,20 @@ fn column_at(goes: bool, column: usize, read: usize) -> usize
 pub fn line_of(r: Reading) -> Line
     ensures { λ q. ⌜ q ≡ lineOf r ⌝ }
 {
-    let mode = r.mode;
-    let place = r.place;
     let shown = r.shown;
     let word = r.word;
-    let said = r.said;
-    let verb = said.verb;
+    let slots = r.slots;
+    let verb = verb_at(r.mode == 2, table::can_end(r.place), slots[0]);
+    let column = column_at(r.mode == 0, r.read, word.column);
     Line {
-        verb: verb_at(is_wrong(mode), places::can_end(place), verb),
-        sent: said.sent,
-        wanted: said.wanted,
-        expects: said.expects,
-        expected: said.expected,
-        judged: said.judged,
-        number: said.number,
-        count: said.count,
-        start: said.start,
-        place,
+        verb,
+        slots,
+        sent: r.sent,
+        expected: r.expected,
+        remark: r.remark,
+        place: r.place,
         word: shown,
         length: word.length,
-        column: column_at(is_open(mode), word.column, r.read),
+        column,
     }
 }

@@ -30,15 +30,8 @@ pub struct Bench {
     pub events: u64,
     pub array: usize,
     pub security: usize,
-    // of a script: the cases and failures of the group, whether the case has failed, and where the titles stand in the text
-    pub cases: u64,
-    pub failures: u64,
-    pub failed: bool,
-    pub all_failures: u64,
-    pub title: usize,
-    pub title_end: usize,
-    pub group: usize,
-    pub group_end: usize,
+    // the whole memories are compared after a frame too
+    pub whole: bool,
 }
 
 // An event: kind 0 a frame of the first sent bytes, with lengths of reply and marks; 1 a completion; 2 a power cut with k.
@@ -81,24 +74,17 @@ pub fn cut_event(k: u64) -> Event {
 }
 
 // A bench with these records, of which nothing was tried yet.
-pub fn bench_of(chip: Chip, flat: Flat, events: u64) -> Bench {
+pub fn bench_of(chip: Chip, flat: Flat, whole: bool) -> Bench {
     Bench {
         chip,
         flat,
         number: 0,
         other: 0,
         odd: 0,
-        events,
+        events: 0,
         array: 2097152,
         security: 2048,
-        cases: 0,
-        failures: 0,
-        failed: false,
-        all_failures: 0,
-        title: 0,
-        title_end: 0,
-        group: 0,
-        group_end: 0,
+        whole,
     }
 }
 
@@ -256,7 +242,8 @@ pub fn memories_compared(
     with_odd(b, odd)
 }
 
-// No frame changes a memory, so those are compared after the other events, and at the end of each run.
+// The replies, and the whole memories; in random runs those are compared after a completion and a power cut, once in a while after
+// a frame, and at each run's end.
 fn lent_compared(
     b: Bench,
     e: Event,
@@ -269,10 +256,11 @@ fn lent_compared(
     reply2: &Lent,
     marks2: &Lent,
 ) -> Bench {
-    if e.kind == 0 {
-        return replies_compared(b, e, reply, marks, reply2, marks2);
+    let replied = replies_compared(b, e, reply, marks, reply2, marks2);
+    if (e.kind == 0) & !b.whole {
+        return replied;
     }
-    memories_compared(b, array, security, array2, security2)
+    memories_compared(replied, array, security, array2, security2)
 }
 
 // One event on both models, and all that it gives compared.

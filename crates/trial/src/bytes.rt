@@ -79,21 +79,6 @@ pub fn put_many(s: &mut [u8], i: usize, count: usize, v: u8) {
     }
 }
 
-pub fn holds_many(s: &[u8], i: usize, count: usize, v: u8) -> bool {
-    let mut j = 0;
-    while j < count {
-        let place = std::num::wrapping_add_usize(i, j);
-        if s.len() <= place {
-            return false;
-        }
-        if at(s, place) != v {
-            return false;
-        }
-        j += 1;
-    }
-    true
-}
-
 fn wide(v: u8) -> u64 {
     v as u64
 }
@@ -155,7 +140,18 @@ pub fn same_start(a: &[u8], b: &[u8], n: usize) -> bool {
     same(&a[..most], &b[..other])
 }
 
-// Whether all bytes are v.
-pub fn all_are(s: &[u8], v: u8) -> bool {
-    holds_many(s, 0, s.len(), v)
+// Both hold v everywhere.
+pub fn set_both(a: &mut [u8], b: &mut [u8], v: u8) {
+    set_all(a, v);
+    set_all(b, v);
+}
+
+pub fn pattern_both(a: &mut [u8], b: &mut [u8]) {
+    set_pattern(a);
+    set_pattern(b);
+}
+
+pub fn put_both(a: &mut [u8], b: &mut [u8], i: usize, count: usize, v: u8) {
+    put_many(a, i, count, v);
+    put_many(b, i, count, v);
 }

@@ -133,8 +133,15 @@ pub fn count_event(tally: &mut [u64], before: Flat, e: Event, number: u8, sent: 
 
 // "record not well-formed, or a length outside Sizes": of a broken record every event gives 1, of a sound one none does whose
 // lengths are right.
-pub fn count_judgement(tally: &mut [u64], broken: bool, way: usize, e: Event, number: u8) {
-    let fits = (e.sent <= 65536) & (e.reply <= 65536) & (e.reply == e.marks);
+pub fn count_judgement(
+    tally: &mut [u64],
+    broken: bool,
+    way: usize,
+    right: bool,
+    e: Event,
+    number: u8,
+) {
+    let fits = right & (e.sent <= 65536) & (e.reply <= 65536) & (e.reply == e.marks);
     bump_if(tally, plus(BROKEN, way as u64), broken & (number == 1));
     bump_if(tally, BROKEN_TAKEN, broken & (number != 1));
     bump_if(tally, SOUND_REFUSED, !broken & fits & (number == 1));

@@ -1,96 +1,126 @@
-// A frame's line of a script: `02 00 01 FE 11*3 > 4 / 4 = 11 : FF?*4`, the bytes sent, the lengths of reply and marks, the
-// number that must come, and the reply. All but the bytes may be left out: no reply, done.
-use crate::bench::Lent;
+// The lines of a script, read as their bytes come, so that a line may be of any length.
 use crate::bytes::at;
-use crate::bytes::put_many;
-use crate::words::decimal;
-use crate::words::item_at;
-use crate::words::starts;
+use crate::say::say;
+use script::Line;
+use script::Reading;
 
-pub struct Line {
-    // which part of the line comes next: 0 bytes, 1 reply, 2 marks, 3 number, 4 what is compared later
-    part: u8,
-    pub sent: usize,
-    pub reply: usize,
-    pub marks: usize,
-    pub number: u64,
-    // a colon: the reply is given
-    pub given: bool,
-    // `kept`: reply and marks must stay as they were
-    pub kept: bool,
+pub type Input = [u8; 65536];
+
+pub type Words = [u8; 65537];
+
+// The bytes of the input that came and are not read yet, and whether there may be more.
+pub struct Unread {
+    pub from: usize,
+    pub to: usize,
+    pub more: bool,
+    // the input could not be read
+    pub failed: bool,
 }
 
-fn part_of(sign: u8) -> u8 {
-    match sign {
-        b'>' => 1,
-        b'/' => 2,
-        b'=' => 3,
-        b':' => 4,
-        b'k' => 4,
-        _ => 0,
+// A line half read.
+pub struct Half {
+    pub reading: Reading,
+    pub rest: Unread,
+    pub over: bool,
+}
+
+pub fn nothing_came() -> Half {
+    Half {
+        reading: script::start(),
+        rest: Unread {
+            from: 0,
+            to: 0,
+            more: true,
+            failed: false,
+        },
+        over: false,
     }
 }
 
-fn signed(l: Line, sign: u8) -> Line {
-    let mut next = l;
-    next.part = part_of(sign);
-    next.given = l.given | (sign == b':');
-    next.kept = l.kept | (sign == b'k');
-    next
+fn filled(rest: Unread, fd: i32, input: &mut Input) -> Unread {
+    if rest.from < rest.to {
+        return rest;
+    }
+    let got = libc::read(fd, input);
+    let n = io::count(got, input);
+    Unread {
+        from: 0,
+        to: n,
+        more: n != 0,
+        failed: got < 0,
+    }
 }
 
-fn with_number(l: Line, value: u64) -> Line {
-    let mut next = l;
-    let part = l.part;
-    match part {
-        1 => {
-            next.reply = value as usize;
-            next.marks = value as usize;
-        }
-        2 => {
-            next.marks = value as usize;
-        }
-        3 => {
-            next.number = value;
-        }
-        _ => {}
+// One byte more, or the input's end.
+fn byte_read(
+    h: Half,
+    fd: i32,
+    input: &mut Input,
+    frame: &mut Words,
+    expected: &mut Words,
+    known: &mut Words,
+    remark: &mut Words,
+) -> Half {
+    let before = h.reading;
+    let unread = h.rest;
+    let rest = filled(unread, fd, input);
+    if !rest.more {
+        let reading = script::finish(before, frame, expected, known);
+        return Half {
+            reading,
+            rest,
+            over: true,
+        };
     }
-    next
+    let b = at(input, rest.from);
+    let reading = script::step(before, b, frame, expected, known, remark);
+    let mut next = rest;
+    next.from = std::num::wrapping_add_usize(rest.from, 1);
+    Half {
+        reading,
+        rest: next,
+        over: reading.ended,
+    }
 }
 
-// The word that starts at i.
-fn taken(l: Line, line: &[u8], i: usize, sent: &mut Lent) -> Line {
-    let sign = at(line, i);
-    if part_of(sign) != 0 {
-        return signed(l, sign);
+// Nothing says that a line ends, so the turns count down from a number that no run uses up.
+pub fn line_read(
+    h: Half,
+    fd: i32,
+    input: &mut Input,
+    frame: &mut Words,
+    expected: &mut Words,
+    known: &mut Words,
+    remark: &mut Words,
+) -> Half {
+    let mut turns = u64::MAX;
+    let mut half = h;
+    half.over = false;
+    while turns > 0 && !half.over {
+        turns -= 1;
+        half = byte_read(half, fd, input, frame, expected, known, remark);
     }
-    if l.part != 0 {
-        return with_number(l, decimal(line, i));
-    }
-    let it = item_at(line, i);
-    put_many(sent, l.sent, it.count, it.value);
-    let mut next = l;
-    next.sent = std::num::wrapping_add_usize(l.sent, it.count);
-    next
+    half
 }
 
-// The line from its place `from` on; its bytes go to sent.
-pub fn read_line(line: &[u8], from: usize, sent: &mut Lent) -> Line {
-    let mut l = Line {
-        part: 0,
-        sent: 0,
-        reply: 0,
-        marks: 0,
-        number: 0,
-        given: false,
-        kept: false,
-    };
-    let mut i = from;
-    while i < line.len() {
-        if starts(line, i) {
-            l = taken(l, line, i, sent);
+fn is_digit(b: u8) -> bool {
+    (48 <= b) & (b < 58)
+}
+
+// The first number of a remark, 0 where there is none before another word.
+pub fn number_in(remark: &[u8], n: usize) -> u64 {
+    let mut value: u64 = 0;
+    let mut i: usize = 0;
+    while i < n {
+        let b = at(remark, i);
+        if is_digit(b) {
+            value = std::num::wrapping_add_u64(value % 1000 * 10, (b % 48) as u64);
+        } else {
+            if b != b' ' || value != 0 {
+                return value;
+            }
         }
         i += 1;
     }
-    l
+    value
 }

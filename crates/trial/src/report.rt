@@ -96,7 +96,7 @@ fn never_said(tally: &[u64]) {
     say(b"\n");
 }
 
-pub fn counts_said(tally: &[u64]) {
+pub fn counts_said(tally: &[u64; 1024]) {
     lines_said(tally);
     kinds_said(tally, STARTS, 3, b"starts");
     opcodes_said(tally, FRAMES, b"opcodes sent");

@@ -10,7 +10,8 @@ use crate::bench::cut_event;
 use crate::bench::frame_event;
 use crate::bench::memories_compared;
 use crate::bench::tried;
-use crate::bytes::set_all;
+use crate::bytes::pattern_both;
+use crate::bytes::set_both;
 use crate::chips::broken_record;
 use crate::chips::sound_record;
 use crate::counts::count_event;
@@ -24,9 +25,9 @@ use crate::frames::any_reply;
 use crate::frames::put_frame;
 use crate::mapping::chip_of;
 use crate::places::range_size;
-use crate::play::patterned;
 use crate::say::say;
 use crate::say::say_event;
+use crate::say::say_lengths;
 use crate::say::say_number;
 use crate::say::say_record;
 use second::Flat;
@@ -97,9 +98,13 @@ fn any_frame(seed: u64, s: Flat, sent: &mut Lent) -> Event {
     let length = any_length(seed, opcode, s.sqi);
     put_frame(seed, s, opcode, length, sent);
     let reply = any_reply(seed);
-    // once in a while the marks are longer than the reply
-    let more = if once_in(seed, 73, 200) { 1 } else { 0 };
-    frame_event(length, reply, std::num::wrapping_add_usize(reply, more))
+    // once in a while the marks are longer or shorter than the reply
+    let marks = match draw(seed, 73, 400) {
+        0 => std::num::wrapping_add_usize(reply, 1),
+        1 => reply / 2,
+        _ => reply,
+    };
+    frame_event(length, reply, marks)
 }
 
 // The next event of a run; a frame's bytes go to sent.
@@ -120,20 +125,21 @@ fn say_start(r: Run, s: Flat) {
     if !r.printed {
         return;
     }
-    say_number(b"# difference in run ", r.seed);
+    say_number(b"new # difference in run ", r.seed);
     say(b"\n");
     if r.start != 0 {
         say_record(s);
     }
     match contents(r) {
         0 => say(b"pattern\n"),
-        1 | 2 | 3 => say(b"fill 0 3C*2097152\n"),
+        1 | 2 | 3 => say(b"fill 0 2097152 3C\n"),
         _ => {}
     }
 }
 
-fn say_next(r: Run, e: Event, sent: &[u8]) {
+fn say_next(r: Run, b: Bench, e: Event, sent: &[u8]) {
     if r.printed {
+        say_lengths(b);
         say_event(e, sent);
     }
 }
@@ -150,14 +156,13 @@ fn memories_set(
         return;
     }
     if contents(r) == 0 {
-        patterned(array, security, array2, security2);
+        pattern_both(array, array2);
+        pattern_both(security, security2);
         return;
     }
     let v = if contents(r) < 4 { 0x3C } else { 0xFF };
-    set_all(array, v);
-    set_all(array2, v);
-    set_all(security, 0xFF);
-    set_all(security2, 0xFF);
+    set_both(array, array2, v);
+    set_both(security, security2, 0xFF);
 }
 
 // The two new chips, or the random record in both.
@@ -165,9 +170,27 @@ fn begun(r: Run) -> Bench {
     let s = start_of(r);
     say_start(r, s);
     if r.start == 0 {
-        return bench_of(chip::new(), s, 0);
+        return bench_of(chip::new(), s, false);
     }
-    bench_of(chip_of(s), s, 0)
+    bench_of(chip_of(s), s, false)
+}
+
+// One byte shorter or longer, once in a while.
+fn any_length_near(seed: u64, question: u64, n: usize) -> usize {
+    match draw(seed, question, 400) {
+        0 => std::num::wrapping_sub_usize(n, 1),
+        1 => std::num::wrapping_add_usize(n, 1),
+        _ => n,
+    }
+}
+
+// How much of the memories is lent to the next event, and whether they are compared after a frame.
+fn varied(b: Bench, seed: u64) -> Bench {
+    let mut next = b;
+    next.array = any_length_near(seed, 75, 2097152);
+    next.security = any_length_near(seed, 76, 2048);
+    next.whole = once_in(seed, 77, 16);
+    next
 }
 
 // The events of a run, up to the first difference.
@@ -190,8 +213,9 @@ fn events_tried(
     while i < r.length {
         if b.odd == 0 {
             let seed = seed_of(r.seed, i);
+            b = varied(b, seed);
             let e = any_event(seed, b.flat, sent);
-            say_next(r, e, sent);
+            say_next(r, b, e, sent);
             let before = b.flat;
             b = tried(
                 b,
@@ -207,7 +231,8 @@ fn events_tried(
                 marks2,
             );
             count_event(tally, before, e, b.number, sent);
-            count_judgement(tally, r.start == 2, r.way, e, b.number);
+            let right = (b.array == 2097152) & (b.security == 2048);
+            count_judgement(tally, r.start == 2, r.way, right, e, b.number);
         }
         i += 1;
     }

@@ -1,8 +1,7 @@
-// A run as a script, which can be put on standard input and played again.
+// A run as a script, which can be played again.
 use crate::bench::Bench;
 use crate::bench::Event;
 use crate::bytes::at;
-use crate::mapping::flags_of;
 use second::Flat;
 
 pub fn say(text: &[u8]) {
@@ -35,7 +34,7 @@ fn say_bytes(bytes: &[u8], length: usize) {
     }
 }
 
-// A number in hexadecimal digits: eight bytes, of which a script's reader takes the word.
+// A number in sixteen hexadecimal digits.
 fn say_hex(n: u64) {
     let mut i: u64 = 0;
     while i < 16 {
@@ -45,38 +44,76 @@ fn say_hex(n: u64) {
     io::write_all(1, b" ");
 }
 
+fn say_buffer_byte(i: usize, v: u8) {
+    if v != 255 {
+        say(b"buffer ");
+        say_byte((i % 256) as u8);
+        say(b"1 ");
+        say_byte(v);
+        say(b"\n");
+    }
+}
+
 // The buffer, a line a byte that is not FF.
 fn say_buffer(s: Flat) {
     let buffer = s.buffer;
     let mut i: usize = 0;
     while i < 256 {
-        if buffer[i] != 255 {
-            say(b"buffer ");
-            say_hex(i as u64);
-            say_byte(buffer[i]);
-            say(b"\n");
-        }
+        say_buffer_byte(i, buffer[i]);
         i += 1;
     }
 }
 
+// Eight letters of a row of words.
+fn say_word(words: &[u8], n: usize) {
+    let mut i: usize = 0;
+    while i < 8 {
+        let place = std::num::wrapping_add_usize(n % 16 * 8, i);
+        io::write_all(1, &[at(words, place)]);
+        i += 1;
+    }
+}
+
+// The array and the lock have no number.
+fn say_work(word: &[u8], kind: u8, number: u64) {
+    if (kind == 0) | (8 < kind) {
+        return;
+    }
+    say(word);
+    say_word(
+        b"        sector  block   array   page    id      lock    config  bits    ",
+        kind as usize,
+    );
+    if (kind != 3) & (kind != 6) {
+        say_hex(number);
+    }
+}
+
 pub fn say_record(s: Flat) {
-    say(b"record ");
+    say(b"record protect ");
     say_hex(s.protection);
+    say(b"perm ");
     say_hex(s.permanent);
-    say_hex(s.run_kind as u64);
-    say_hex(s.run_number);
-    say_hex(s.sus_kind as u64);
-    say_hex(s.sus_number);
-    say_hex(flags_of(s));
+    say_work(b"run ", s.run_kind, s.run_number);
+    say_work(b"aside ", s.sus_kind, s.sus_number);
+    say_if(s.sqi, b"sqi ");
+    say_if(s.wel, b"wel ");
+    say_if(s.ioc, b"ioc ");
+    say_if(s.wpen, b"wpen ");
+    say_if(s.wpld, b"wpld ");
+    say_if(s.sec, b"sec ");
+    say_if(s.enable, b"enable ");
     say(b"\n");
     say_buffer(s);
 }
 
+pub fn say_lengths(b: Bench) {
+    say_number(b"lend ", b.array as u64);
+    say_number(b" ", b.security as u64);
+    say(b"\n");
+}
+
 fn say_frame(e: Event, sent: &[u8]) {
-    if e.sent == 0 {
-        say(b"empty ");
-    }
     say_bytes(sent, e.sent);
     say_number(b"> ", e.reply as u64);
     say_number(b" / ", e.marks as u64);

@@ -126,3 +126,67 @@ pub fn series(
     }
     t
 }
+
+// From new chips, from well-formed records, from broken ones.
+pub fn all_series(
+    totals: Totals,
+    tally: &mut [u64; 1024],
+    array: &mut Memory,
+    security: &mut Identity,
+    array2: &mut Memory,
+    security2: &mut Identity,
+) -> Totals {
+    let mut sent = [0u8; 65544];
+    let mut reply = [0u8; 65544];
+    let mut marks = [0u8; 65544];
+    let mut reply2 = [0u8; 65544];
+    let mut marks2 = [0u8; 65544];
+    let new = series(
+        totals,
+        0,
+        1000,
+        140,
+        tally,
+        &mut sent,
+        array,
+        security,
+        &mut reply,
+        &mut marks,
+        array2,
+        security2,
+        &mut reply2,
+        &mut marks2,
+    );
+    let sound = series(
+        new,
+        1,
+        1400,
+        42,
+        tally,
+        &mut sent,
+        array,
+        security,
+        &mut reply,
+        &mut marks,
+        array2,
+        security2,
+        &mut reply2,
+        &mut marks2,
+    );
+    series(
+        sound,
+        2,
+        1400,
+        4,
+        tally,
+        &mut sent,
+        array,
+        security,
+        &mut reply,
+        &mut marks,
+        array2,
+        security2,
+        &mut reply2,
+        &mut marks2,
+    )
+}

@@ -1,5 +1,7 @@
 -- Where bytes are expected, the shorter of the two; else none. Assumes nothing.
 use mathlib.Core.Path.{_∙_}
+use borrow.Author.Tests.{eq-eqb, ne-eqb}
+use native.Mathlib.Omega.{arith}
 use borrow.Author.Needs.{needs}
 use Rattle.expecting.proofs.compared.Statement.{statement}
 use Rattle.expecting.proofs.compared.Tie as tie
@@ -11,7 +13,7 @@ returns : tie.Need-returns
 returns c = c .smaller .ensures ∙ rw (c .before .if1 .taken)
 
 returns-2 : tie.Need-returns-2
-returns-2 c = search needs
+returns-2 c = rw (ne-eqb (c .before .args .expects) 1 (c .if1 .left))
 
 pub compared-spec : {M : Type 1} → statement M
 compared-spec = tie.close (tie.spec smaller-requires returns returns-2)

@@ -15,8 +15,8 @@ one-requires-2 : tie.Need-one-requires-2
 one-requires-2 c κs = search needs
 
 add-result : tie.Need-add-result
-add-result c = let v = c .before .before .before .before .args .v in
-    omega (arith, c .before .one .ensures, c .one2 .ensures, num-small (v .number), num-small (v .length || ltb (v .place) (v .compared)))
+add-result c = let v = c .before .before .before .before .before .args .v in
+    omega (arith, c .before .one .ensures, c .one2 .ensures, num-small (v .number || v .strict), num-small (v .length || v .kept || ltb (v .place) (v .compared)))
 
 returns : tie.Need-returns
 unfolding unmet

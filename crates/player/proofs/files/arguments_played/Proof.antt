@@ -1,23 +1,17 @@
--- The arguments that are left fall. Assumes nothing.
+-- What is left falls. Assumes nothing.
 use Prim.Native.Nat.{_-_}
 use borrow.Author.Needs.{needs}
 use Rattle.player.proofs.files.arguments_played.Statement.{statement}
 use Rattle.player.proofs.files.arguments_played.Tie as tie
 
 abbrev Inv-loop : tie.InvT-loop
-Inv-loop n i₀ t3 i = Unit {0}
+Inv-loop n now₀ i₀ now i = Unit {0}
 
 abbrev μ-loop : tie.MeasureT-loop
-μ-loop n i₀ t3 i = n - i
+μ-loop n now₀ i₀ now i = n - i
 
 loop-holds : tie.Need-loop-holds Inv-loop μ-loop
 loop-holds c = search needs
-
-slice-aggregate-say : tie.Need-slice-aggregate-say Inv-loop μ-loop
-slice-aggregate-say c = search needs
-
-say-requires : tie.Need-say-requires Inv-loop μ-loop
-say-requires c κs = search needs
 
 argument-played-requires : tie.Need-argument-played-requires Inv-loop μ-loop
 argument-played-requires c κs = search needs
@@ -41,8 +35,6 @@ arguments-played-spec =
     Inv-loop
     μ-loop
     loop-holds
-    slice-aggregate-say
-    say-requires
     argument-played-requires
     add-i
     loop-less

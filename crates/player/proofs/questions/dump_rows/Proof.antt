@@ -1,14 +1,22 @@
--- The rows that are left fall; a row's place lies below the count of places. Assumes nothing.
+-- What is left falls. Assumes nothing.
 use borrow.Author.Needs.{needs}
 use Prim.Native.Nat.{_-_, _/_}
+use lib.ListN.{length}
+use mathlib.Core.Path.{_≡_, refl}
+use native.Mathlib.Omega.{arith}
 use Rattle.player.proofs.questions.dump_rows.Statement.{statement}
 use Rattle.player.proofs.questions.dump_rows.Tie as tie
+use Rattle.player.proofs.questions.dump_rows.Reads as reads
+use Rattle.player.proofs.questions.dump_rows.Lts as lts
+use Rattle.player.proofs.say.say_row.Reads as say-row-reads
+use Rattle.rows.proofs.dump.Reads as dump-reads
+use Rattle.std.proofs.num.wrapping_add_usize.Reads as wrapping-add-usize-reads
 
 abbrev Inv-loop : tie.InvT-loop
-Inv-loop start n array i₀ i = Unit {0}
+Inv-loop start n memory i₀ i = Unit {0}
 
 abbrev μ-loop : tie.MeasureT-loop
-μ-loop start n array i₀ i = n / 16 - i
+μ-loop start n memory i₀ i = n / 16 - i
 
 loop-holds : tie.Need-loop-holds Inv-loop μ-loop
 loop-holds c = search needs
@@ -19,8 +27,8 @@ mul-wrapping-add-usize c = search needs
 wrapping-add-usize-requires : tie.Need-wrapping-add-usize-requires Inv-loop μ-loop
 wrapping-add-usize-requires c κs = search needs
 
-dump-row-requires : tie.Need-dump-row-requires Inv-loop μ-loop
-dump-row-requires c κs = search needs
+dump-requires : tie.Need-dump-requires Inv-loop μ-loop
+dump-requires c κs = search needs
 
 say-row-requires : tie.Need-say-row-requires Inv-loop μ-loop
 say-row-requires c κs = search needs
@@ -40,8 +48,8 @@ sub-wrapping-add-usize c = search needs
 wrapping-add-usize-requires-2 : tie.Need-wrapping-add-usize-requires-2 Inv-loop μ-loop
 wrapping-add-usize-requires-2 c κs = search needs
 
-dump-row-requires-2 : tie.Need-dump-row-requires-2 Inv-loop μ-loop
-dump-row-requires-2 c κs = search needs
+dump-requires-2 : tie.Need-dump-requires-2 Inv-loop μ-loop
+dump-requires-2 c κs = search needs
 
 say-row-requires-2 : tie.Need-say-row-requires-2 Inv-loop μ-loop
 say-row-requires-2 c κs = search needs
@@ -61,14 +69,14 @@ dump-rows-spec =
     loop-holds
     mul-wrapping-add-usize
     wrapping-add-usize-requires
-    dump-row-requires
+    dump-requires
     say-row-requires
     add-i
     loop-less
     loop-again
     sub-wrapping-add-usize
     wrapping-add-usize-requires-2
-    dump-row-requires-2
+    dump-requires-2
     say-row-requires-2
     returns
     returns-2)

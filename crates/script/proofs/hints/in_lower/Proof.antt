@@ -1,7 +1,6 @@
 -- What is still to come, read from here, is the whole part read from its start. Assumes nothing.
 use Rattle.script.proofs.Hinted.{lowered-next, lowered-end}
-use Rattle.script.specs.Lines.{part}
-use Rattle.script.specs.Hints.{lowered}
+use Rattle.script.specs.Hints.{lowered, part}
 use Rattle.grammar.specs.Words.{noWord}
 use lib.ListN.{length}
 use mathlib.Core.Path.{_≡_, _∙_}

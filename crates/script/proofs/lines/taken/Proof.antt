@@ -1,25 +1,61 @@
--- By whether the line is open. Assumes nothing.
-use Rattle.script.proofs.Picks.{picked, passed-over}
-use mathlib.Core.Path.{_∙_}
+-- The tests are the definition's. Assumes nothing.
+use Rattle.script.specs.Lines.{taken, takenOpen}
+use Rattle.grammar.proofs.Picks.{picked, passed-over}
+use borrow.Author.Tests.{eq-eqb, ne-eqb}
 use borrow.Author.Needs.{needs}
 use Rattle.script.proofs.lines.taken.Statement.{statement}
 use Rattle.script.proofs.lines.taken.Tie as tie
 
-is-open-requires : tie.Need-is-open-requires
-is-open-requires c κs = search needs
+one-more-requires : tie.Need-one-more-requires
+one-more-requires c κs = search needs
 
-taken-open-requires : tie.Need-taken-open-requires
-taken-open-requires c κs = search needs
-
-passed-requires : tie.Need-passed-requires
-passed-requires c κs = search needs
+none-requires : tie.Need-none-requires
+none-requires c κs = search needs
 
 returns : tie.Need-returns
-returns c = c .taken-open .ensures ∙ picked _ _ (c .before .before .is-open .ensures) (c .before .if1 .taken)
+unfolding taken takenOpen
+returns c = rw (eq-eqb _ _ (c .before .before .if1 .taken), eq-eqb _ _ (c .before .if2 .taken), c .none .ensures, c .before .before .before .before .one-more .ensures)
+
+is-blank-requires : tie.Need-is-blank-requires
+is-blank-requires c κs = search needs
 
 returns-2 : tie.Need-returns-2
-returns-2 c = c .passed .ensures ∙ passed-over _ _ (c .before .before .is-open .ensures) (c .before .if1 .left)
+unfolding taken takenOpen
+returns-2 c = rw (eq-eqb _ _ (c .before .before .before .if1 .taken), ne-eqb _ _ (c .before .before .if2 .left), c .before .before .before .before .before .one-more .ensures) (picked _ _ (c .before .is-blank .ensures) (c .if3 .taken))
+
+shown-with-requires : tie.Need-shown-with-requires
+shown-with-requires c κs = search needs
+
+longer-requires : tie.Need-longer-requires
+longer-requires c κs = search needs
+
+returns-3 : tie.Need-returns-3
+unfolding taken takenOpen
+returns-3 c = rw (eq-eqb _ _ (c .before .before .before .before .before .before .before .if1 .taken), ne-eqb _ _ (c .before .before .before .before .before .before .if2 .left), c .longer .ensures, c .before .shown-with .ensures, c .before .before .before .before .before .before .before .before .before .one-more .ensures) (passed-over _ _ (c .before .before .before .before .before .is-blank .ensures) (c .before .before .before .before .if3 .left))
+
+count-after-requires : tie.Need-count-after-requires
+count-after-requires c κs = search needs
+
+returns-4 : tie.Need-returns-4
+unfolding taken takenOpen
+returns-4 c = rw (ne-eqb _ _ (c .before .before .before .if1 .left), eq-eqb _ _ (c .before .if4 .taken), c .count-after .ensures, c .before .before .before .before .before .one-more .ensures)
+
+returns-5 : tie.Need-returns-5
+unfolding taken takenOpen
+returns-5 c = rw (ne-eqb _ _ (c .before .before .if1 .left), ne-eqb _ _ (c .if4 .left), c .before .before .before .before .one-more .ensures)
 
 pub taken-spec : {M : Type 1} → statement M
 taken-spec =
-    tie.close (tie.spec is-open-requires taken-open-requires passed-requires returns returns-2)
+    tie.close
+    (tie.spec
+    one-more-requires
+    none-requires
+    returns
+    is-blank-requires
+    returns-2
+    shown-with-requires
+    longer-requires
+    returns-3
+    count-after-requires
+    returns-4
+    returns-5)

@@ -16,6 +16,9 @@ loop-holds c = search needs
 seed-of-requires : tie.Need-seed-of-requires Inv-loop μ-loop
 seed-of-requires c κs = search needs
 
+varied-requires : tie.Need-varied-requires Inv-loop μ-loop
+varied-requires c κs = search needs
+
 any-event-requires : tie.Need-any-event-requires Inv-loop μ-loop
 any-event-requires c κs = search needs
 
@@ -51,6 +54,7 @@ events-tried-spec =
     μ-loop
     loop-holds
     seed-of-requires
+    varied-requires
     any-event-requires
     say-next-requires
     tried-requires

@@ -1,4 +1,0 @@
--- Laws of answers.
-pub mod Laws
-pub mod Listing
-pub mod Unique

@@ -1,2 +1,0 @@
--- Answers to a script's questions.
-pub mod Questions

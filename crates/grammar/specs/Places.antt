@@ -1,0 +1,158 @@
+-- The places of a line: what the words so far leave to come.
+use Prim.Native.Nat.{ℕ}
+
+-- the line's first word
+abbrev pub lineStart : ℕ
+lineStart = 0
+
+-- after a byte of the frame
+abbrev pub afterByte : ℕ
+afterByte = 1
+
+-- after a byte of the frame and *
+abbrev pub afterByteStar : ℕ
+afterByteStar = 2
+
+-- after a byte of the frame, * and how often
+abbrev pub afterBytes : ℕ
+afterBytes = 3
+
+-- after >
+abbrev pub afterReply : ℕ
+afterReply = 4
+
+-- after > N
+abbrev pub afterReplyCount : ℕ
+afterReplyCount = 5
+
+-- after > N /
+abbrev pub afterSlash : ℕ
+afterSlash = 6
+
+-- after > N / M
+abbrev pub afterMarkCount : ℕ
+afterMarkCount = 7
+
+-- after = of a frame
+abbrev pub afterEqual : ℕ
+afterEqual = 8
+
+-- after an expected byte
+abbrev pub afterExpected : ℕ
+afterExpected = 9
+
+-- after ~
+abbrev pub afterTilde : ℕ
+afterTilde = 10
+
+-- after an expected byte and *
+abbrev pub afterExpectedStar : ℕ
+afterExpectedStar = 11
+
+-- after an expected byte, * and how often
+abbrev pub afterExpectedTimes : ℕ
+afterExpectedTimes = 12
+
+-- after !
+abbrev pub afterRefuse : ℕ
+afterRefuse = 13
+
+-- nothing may follow but a remark
+abbrev pub lineDone : ℕ
+lineDone = 14
+
+-- after done, cut N or kept
+abbrev pub afterEvent : ℕ
+afterEvent = 15
+
+-- after cut
+abbrev pub afterCut : ℕ
+afterCut = 16
+
+-- after status or dump A N
+abbrev pub afterQuestion : ℕ
+afterQuestion = 17
+
+-- after = of a question
+abbrev pub afterAsked : ℕ
+afterAsked = 18
+
+-- after an expected byte of a question
+abbrev pub afterAnswer : ℕ
+afterAnswer = 19
+
+-- after ~ in a question
+abbrev pub afterAnswerTilde : ℕ
+afterAnswerTilde = 20
+
+-- after an expected byte of a question and *
+abbrev pub afterAnswerStar : ℕ
+afterAnswerStar = 21
+
+-- after an expected byte of a question, * and how often
+abbrev pub afterAnswerTimes : ℕ
+afterAnswerTimes = 22
+
+-- after dump
+abbrev pub afterDump : ℕ
+afterDump = 23
+
+-- after dump id
+abbrev pub afterDumpId : ℕ
+afterDumpId = 24
+
+-- after dump A
+abbrev pub afterDumpPlace : ℕ
+afterDumpPlace = 25
+
+-- after fill
+abbrev pub afterFill : ℕ
+afterFill = 26
+
+-- after fill id, or buffer
+abbrev pub afterFillId : ℕ
+afterFillId = 27
+
+-- after fill A, or buffer A
+abbrev pub afterFillPlace : ℕ
+afterFillPlace = 28
+
+-- after fill A N, or buffer A N
+abbrev pub afterFillCount : ℕ
+afterFillCount = 29
+
+-- after lend
+abbrev pub afterLend : ℕ
+afterLend = 30
+
+-- after lend N
+abbrev pub afterLendArray : ℕ
+afterLendArray = 31
+
+-- after record, is, or a field of these
+abbrev pub inFields : ℕ
+inFields = 32
+
+-- after protect
+abbrev pub afterProtect : ℕ
+afterProtect = 33
+
+-- after perm
+abbrev pub afterPerm : ℕ
+afterPerm = 34
+
+-- after run
+abbrev pub afterRun : ℕ
+afterRun = 35
+
+-- after aside
+abbrev pub afterAside : ℕ
+afterAside = 36
+
+-- after run and a kind with a number
+abbrev pub afterRunKind : ℕ
+afterRunKind = 37
+
+-- after aside and a kind with a number
+abbrev pub afterAsideKind : ℕ
+afterAsideKind = 38

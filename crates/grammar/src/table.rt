@@ -1,0 +1,193 @@
+// The table: what may follow what, and what a word says where it stands. specs/Table.antt.
+use crate::Entry;
+use crate::Word;
+use crate::words::key_after;
+ghost use mathlib.Core.Path.{_≡_};
+ghost use Prim.Native.Nat.{_+_, _-_, min};
+ghost use lib.Dec.{eqb};
+ghost use lib.ListN.{getD};
+ghost use Rattle.rules.specs.Words.{pick, oneOf};
+ghost use Rattle.grammar.specs.Words.{keyWith};
+ghost use Rattle.grammar.specs.Table.{position, keysFrom, called, hasClass, firstOf, rowsIn, numbersIn, nextOf, canEnd, valueOf, slotsWith};
+
+// ---- the words
+
+fn number_after(n: u8, b: u8) -> u8
+    ensures { λ r. ⌜ r ≡ pick (eqb b 32) (min (n + 1) 255) n ⌝ }
+{
+    if b == 32 {
+        if n < 255 { n + 1 } else { 255 }
+    } else {
+        n
+    }
+}
+
+fn key_or_next(key: u64, b: u8) -> u64
+    ensures { λ r. ⌜ r ≡ pick (eqb b 32) 1 (keyWith key b) ⌝ }
+{
+    if b == 32 { 1 } else { key_after(key, b) }
+}
+
+// The class of the word with that key, in a text where a blank follows each word; 255 where it is none of them.
+fn position(text: &[u8], key: u64) -> u8
+    ensures { λ r. ⌜ r ≡ position key 16 (keysFrom 1 (now (text .entry))) ⌝ }
+{
+    let mut n: u8 = 16;
+    let mut k: u64 = 1;
+    let mut i = 0;
+    while i < text.len() {
+        let b = text[i];
+        if (b == 32) & (k == key) {
+            return n;
+        }
+        n = number_after(n, b);
+        k = key_or_next(k, b);
+        i += 1;
+    }
+    255
+}
+
+fn called(w: Word) -> u8
+    ensures { λ r. ⌜ r ≡ called w ⌝ }
+{
+    if w.length <= 7 {
+        position(
+            b"> = ! / * ~ ?? kept done cut status work locks dump id new fill buffer pattern \
+            lend record is full short strict protect perm run aside sqi wel ioc wpen wpld \
+            sec enable sector block array page lock config bits ",
+            w.key,
+        )
+    } else {
+        255
+    }
+}
+
+// ---- the rows
+
+fn has_class(class: u8, w: Word, name: u8) -> bool
+    ensures { λ r. ⌜ r ≡ hasClass class w name ⌝ }
+{
+    match class {
+        0 => w.hexadecimal & (w.length == 2),
+        1 => w.decimal,
+        2 => w.decimal & (0 < w.number),
+        3 => w.decimal & (w.number <= 12),
+        4 => w.hexadecimal & (w.length <= 6),
+        5 => w.hexadecimal & (w.length <= 16),
+        _ => class == name,
+    }
+}
+
+// A number of the table is written as a byte 48 more.
+fn less(b: u8) -> u8
+    ensures { λ r. ⌜ r ≡ b - 48 ⌝ }
+{
+    if b < 48 { 0 } else { b - 48 }
+}
+
+fn number_at(text: &[u8], i: usize) -> u8
+    ensures { λ r. ⌜ r ≡ getD (now (text .entry)) i 0 - 48 ⌝ }
+{
+    if i < text.len() { less(text[i]) } else { 0 }
+}
+
+// The first row of that place whose class the word has.
+fn first_of(text: &[u8], place: u8, w: Word, name: u8) -> Entry
+    ensures { λ r. ⌜ r ≡ firstOf (rowsIn (now (text .entry))) place w name ⌝ }
+{
+    let n = text.len() / 6;
+    let mut k = 0;
+    while k < n {
+        let at = k * 6;
+        let class = number_at(text, at + 1);
+        if (number_at(text, at) == place) & has_class(class, w, name) {
+            return Entry {
+                class,
+                next: number_at(text, at + 2),
+                store: number_at(text, at + 3),
+                slot: number_at(text, at + 4),
+                source: number_at(text, at + 5),
+            };
+        }
+        k += 1;
+    }
+    Entry {
+        class: 255,
+        next: 0,
+        store: 0,
+        slot: 0,
+        source: 0,
+    }
+}
+
+// What follows that place and that word. Six bytes a row: place, class, next place, store, slot, source.
+pub fn follows(place: u8, w: Word) -> Entry
+    ensures { λ r. ⌜ r ≡ nextOf place w ⌝ }
+{
+    let name = called(w);
+    first_of(
+        b"0011040@40041011001D20001@40001B=0543011003@40003B=054223200\
+        4150115C60245A80445B=0546170317A80447B=054\
+        8G?0458093008F94008E:0009093009F94009E:0009D;0009B=054<09300<F9400<E:000<B=054:09500\
+        ;2<600\
+        =3>061\
+        0H?0050I@006@1?071?B=054\
+        0JA0080K>0090L>00:0MG00;GNH0:4G4I072H4I072I1A081AAB044B0C300BFC400BED000C0C300CFC400\
+        CED000CDE000F0C300FFC400FED000D0C500E2F600\
+        0O>0070PJ00?0QK00@0R>00D0SN00AJNK0:4J4L072K4L072L1M081M0>092N1O071O1>081\
+        0TP00B0UP00CPYQ000PZR000P[S000P\\T000P]P0A4P^P0B4P_P0C4P`P0D4PaP0E4PbP0F4PcP0G4Q5P0;2\
+        R5P0<2\
+        SdU0=4SeU0=5SfP0=6SgU0=7SNU0=8ShP0=9SiU0=:SjU0=;U5P0>2\
+        TdV0?4TeV0?5TfP0?6TgV0?7TNV0?8ThP0?9TiV0?:TjV0?;V5P0@2\
+        0V>00<0W>00=0X>00>",
+        place,
+        w,
+        name,
+    )
+}
+
+fn listed(text: &[u8], x: u8) -> bool
+    ensures { λ r. ⌜ r ≡ oneOf x (numbersIn (now (text .entry))) ⌝ }
+{
+    let mut i = 0;
+    while i < text.len() {
+        if x == less(text[i]) {
+            return true;
+        }
+        i += 1;
+    }
+    false
+}
+
+// The line may end here.
+pub fn can_end(place: u8) -> bool
+    ensures { λ r. ⌜ r ≡ canEnd place ⌝ }
+{
+    listed(b"013579<>?ACFP", place)
+}
+
+// ---- what a word says
+
+fn value(source: u8, w: Word) -> u64
+    ensures { λ r. ⌜ r ≡ valueOf source w ⌝ }
+{
+    if source == 1 {
+        return w.number;
+    }
+    if source == 2 {
+        return w.hex;
+    }
+    if source < 3 { 0 } else { (source - 3) as u64 }
+}
+
+pub fn heard(slots: [u64; 24], e: Entry, w: Word) -> [u64; 24]
+    ensures { λ r. ⌜ r ≡ slotsWith slots e w ⌝ }
+{
+    let mut all = slots;
+    let at = e.slot as usize;
+    let v = value(e.source, w);
+    if (e.source != 0) & (at < 24) {
+        all[at] = v;
+    }
+    all
+}

@@ -1,0 +1,24 @@
+-- The tests are the definition's. Assumes nothing.
+use Rattle.script.specs.Lines.{kindAfter}
+use borrow.Author.Tests.{eq-eqb, ne-eqb}
+use Rattle.script.proofs.lines.kind_after.Statement.{statement}
+use Rattle.script.proofs.lines.kind_after.Tie as tie
+
+returns : tie.Need-returns
+unfolding kindAfter
+returns c = rw (eq-eqb _ _ (c .if1 .taken))
+
+returns-2 : tie.Need-returns-2
+unfolding kindAfter
+returns-2 c = rw (ne-eqb _ _ (c .before .if1 .left), eq-eqb _ _ (c .if2 .taken))
+
+returns-3 : tie.Need-returns-3
+unfolding kindAfter
+returns-3 c = rw (ne-eqb _ _ (c .before .before .if1 .left), ne-eqb _ _ (c .before .if2 .left), eq-eqb _ _ (c .if3 .taken))
+
+returns-4 : tie.Need-returns-4
+unfolding kindAfter
+returns-4 c = rw (ne-eqb _ _ (c .before .before .if1 .left), ne-eqb _ _ (c .before .if2 .left), ne-eqb _ _ (c .if3 .left))
+
+pub kind-after-spec : {M : Type 1} → statement M
+kind-after-spec = tie.close (tie.spec returns returns-2 returns-3 returns-4)

@@ -1,4 +1,0 @@
--- What the player writes.
-pub mod Events
-pub mod Differences
-pub mod Lines

@@ -1,3 +1,0 @@
--- Laws of words.
-pub mod Laws
-pub mod Unique

@@ -1,2 +1,0 @@
--- Words of rows.
-pub mod Words
