@@ -3,7 +3,6 @@ use crate::bench::Bench;
 use crate::bench::Identity;
 use crate::bench::Lent;
 use crate::bench::Memory;
-use crate::bench::at_next_line;
 use crate::bench::begun;
 use crate::bytes::at;
 use crate::bytes::within;
@@ -48,10 +47,12 @@ fn line_ended(
 ) -> Playing {
     let reading = p.reading;
     let line = script::line_of(reading);
+    let mut bench = p.bench;
+    bench.line = std::num::wrapping_add_u64(bench.line, 1);
     remark_part_told(line.remark, remark);
     Playing {
         bench: line_played(
-            at_next_line(p.bench),
+            bench,
             line,
             array,
             security,
@@ -62,12 +63,6 @@ fn line_ended(
             marks,
         ),
         reading,
-    }
-}
-
-fn prompted(prompt: bool) {
-    if prompt {
-        say(b"> ");
     }
 }
 
@@ -103,20 +98,19 @@ fn byte_played(
     now
 }
 
-fn failure_told(got: isize) {
-    if got < 0 {
-        say(b"       cannot be read to its end\n");
-    }
-}
-
 fn byte_at(input: &Input, i: usize) -> u8 {
     at(input, i)
 }
 
-// How many bytes came.
-fn refilled(fd: i32, input: &mut Input) -> usize {
+// How many bytes came, after a prompt where that is asked for.
+fn refilled(fd: i32, prompt: bool, input: &mut Input) -> usize {
+    if prompt {
+        say(b"> ");
+    }
     let got = libc::read(fd, input);
-    failure_told(got);
+    if got < 0 {
+        say(b"       cannot be read to its end\n");
+    }
     io::count(got, input)
 }
 
@@ -156,8 +150,7 @@ fn script_played(fd: i32, strict: bool, prompt: bool) -> Tally {
             );
             i = std::num::wrapping_add_usize(i, 1);
         } else {
-            prompted(prompt);
-            n = refilled(fd, &mut input);
+            n = refilled(fd, prompt, &mut input);
             i = 0;
             more = n != 0;
         }
@@ -194,15 +187,11 @@ fn totals_told(r: rows::Row, t: Tally) {
     say_row(rows::form(r, 193, t.wrong, 0, 0));
 }
 
-fn is_dash(name: &[u8]) -> bool {
-    if name.len() == 1 {
-        return name[0] == b'-';
-    }
-    false
-}
-
 // Why a file cannot be opened, where that is one of the usual reasons.
-fn reason_told(error: i32) {
+fn unopened_told(name: &[u8]) {
+    let error = os::errno();
+    say(name);
+    say(b" cannot be opened");
     if error == libc::ENOENT {
         say(b", there is no such file");
     }
@@ -212,16 +201,9 @@ fn reason_told(error: i32) {
     say(b"\n");
 }
 
-fn unopened_told(name: &[u8]) {
-    let error = os::errno();
-    say(name);
-    say(b" cannot be opened");
-    reason_told(error);
-}
-
 // `-` is standard input.
 fn descriptor_of(name: &[u8]) -> i32 {
-    if is_dash(name) {
+    if same(name, b"-") {
         return libc::STDIN_FILENO;
     }
     os::open_read(name)

@@ -5,12 +5,7 @@ use crate::bench::Lent;
 use crate::bench::Memory;
 use crate::bench::counted;
 use crate::bench::number_of;
-use crate::bench::with_chip;
-use crate::bench::with_full;
-use crate::bench::with_lengths;
-use crate::bench::with_strict;
 use crate::bench::with_unmet;
-use crate::bench::with_wrong;
 use crate::bytes::at;
 use crate::bytes::blank;
 use crate::bytes::remainder;
@@ -90,12 +85,6 @@ fn judged(
     expecting::unmet(v)
 }
 
-// Reply and marks hold 5A and 07 before a frame, so that `kept` can be seen.
-fn lent(slots: [u64; 24], reply: &mut Lent, marks: &mut Lent) {
-    set_part(reply, 0, slots[WANTED] as usize, 0x5A);
-    set_part(marks, 0, marks_wanted(slots), 0x07);
-}
-
 // The chip gets the bytes sent and as much of the memories, of a reply and of its marks as is lent.
 fn sent(
     b: Bench,
@@ -153,6 +142,7 @@ fn sent_told(
     )
 }
 
+// Reply and marks hold 5A and 07 before a frame, so that `kept` can be seen.
 pub fn frame_played(
     b: Bench,
     l: Line,
@@ -165,7 +155,8 @@ pub fn frame_played(
     marks: &mut Lent,
 ) -> Bench {
     let slots = l.slots;
-    lent(slots, reply, marks);
+    set_part(reply, 0, slots[WANTED] as usize, 0x5A);
+    set_part(marks, 0, marks_wanted(slots), 0x07);
     let after = sent(b, l.sent, slots, array, security, frame, reply, marks);
     let unmet = sent_told(b, l, number_of(after), frame, reply, marks, expected, known);
     counted(b, after, unmet)
@@ -216,64 +207,91 @@ pub fn cut_played(b: Bench, l: Line, array: &mut Memory, security: &mut Identity
 
 // ---- the chip
 
-// A new chip with all memory FF, and all of it lent.
-fn new_played(b: Bench, array: &mut Memory, security: &mut Identity) -> Bench {
-    blank(array, security);
-    say_row(rows::form(headed(b.line, 14, 0), 15, 0, 0, 0));
-    with_lengths(with_chip(b, chip::new()), 2097152, 2048)
+// A completion, a power cut, a new chip with all memory FF and all of it lent, or memories that are filled.
+fn chip_line_played(b: Bench, l: Line, array: &mut Memory, security: &mut Identity) -> Bench {
+    let s = l.slots;
+    let verb = l.verb;
+    let v = (s[FILLING] % 256) as u8;
+    let mut next = b;
+    match verb {
+        2 => completion_played(b, l, array, security),
+        3 => cut_played(b, l, array, security),
+        4 => {
+            let c = chip::new();
+            blank(array, security);
+            say_row(rows::form(headed(b.line, 14, 0), 15, 0, 0, 0));
+            next.chip = c;
+            next.array = 2097152;
+            next.security = 2048;
+            next
+        }
+        12 => {
+            filled(s, v, array, security);
+            say_numbered(
+                b.line,
+                208 + smaller(s[OF_ID] as usize, 1),
+                s[FROM],
+                s[SIZE],
+                s[FILLING],
+            );
+            b
+        }
+        _ => {
+            set_pattern(array);
+            set_pattern(security);
+            say_numbered(b.line, 213, 0, 0, 0);
+            b
+        }
+    }
 }
 
-fn fill_played(line: u64, s: [u64; 24], array: &mut Memory, security: &mut Identity) {
-    let from = s[FROM] as usize;
-    let n = s[SIZE] as usize;
-    let v = (s[FILLING] % 256) as u8;
+fn filled(s: [u64; 24], v: u8, array: &mut Memory, security: &mut Identity) {
     if s[OF_ID] == 0 {
-        set_part(array, from, n, v);
-        say_numbered(line, 208, s[FROM], s[SIZE], s[FILLING]);
+        set_part(array, s[FROM] as usize, s[SIZE] as usize, v);
         return;
     }
-    set_part(security, from, n, v);
-    say_numbered(line, 209, s[FROM], s[SIZE], s[FILLING]);
+    set_part(security, s[FROM] as usize, s[SIZE] as usize, v);
 }
 
-fn buffer_played(b: Bench, s: [u64; 24]) -> Bench {
+// The record: its buffer, the lent lengths, its fields, or what it must be.
+fn record_line_played(b: Bench, s: [u64; 24], verb: u8) -> Bench {
+    let mut next = b;
     let mut c = b.chip;
-    let mut buffer = c.buffer;
-    set_part(
-        &mut buffer,
-        s[FROM] as usize,
-        s[SIZE] as usize,
-        (s[FILLING] % 256) as u8,
-    );
-    c.buffer = buffer;
-    say_numbered(b.line, 210, s[FROM], s[SIZE], s[FILLING]);
-    with_chip(b, c)
-}
-
-fn pattern_played(line: u64, array: &mut Memory, security: &mut Identity) {
-    set_pattern(array);
-    set_pattern(security);
-    say_numbered(line, 213, 0, 0, 0);
-}
-
-fn lend_played(b: Bench, s: [u64; 24]) -> Bench {
-    say_numbered(b.line, 211, s[FROM], s[SIZE], 0);
-    with_lengths(b, s[FROM], s[SIZE])
-}
-
-fn record_played(b: Bench, s: [u64; 24]) -> Bench {
-    say_numbered(b.line, 212, 0, 0, 0);
-    with_chip(b, expecting::record_of(s))
-}
-
-fn is_played(b: Bench, s: [u64; 24]) -> Bench {
-    let c = b.chip;
-    if expecting::same_record(c, s) {
-        say_numbered(b.line, 217, 0, 0, 0);
-        return b;
+    match verb {
+        13 => {
+            let mut buffer = c.buffer;
+            set_part(
+                &mut buffer,
+                s[FROM] as usize,
+                s[SIZE] as usize,
+                (s[FILLING] % 256) as u8,
+            );
+            c.buffer = buffer;
+            next.chip = c;
+            say_numbered(b.line, 210, s[FROM], s[SIZE], s[FILLING]);
+            next
+        }
+        14 => {
+            next.array = s[FROM] as usize;
+            next.security = s[SIZE] as usize;
+            say_numbered(b.line, 211, s[FROM], s[SIZE], 0);
+            next
+        }
+        15 => {
+            let record = expecting::record_of(s);
+            next.chip = record;
+            say_numbered(b.line, 212, 0, 0, 0);
+            next
+        }
+        _ => {
+            if expecting::same_record(c, s) {
+                say_numbered(b.line, 217, 0, 0, 0);
+                return b;
+            }
+            say_numbered(b.line, 218, 0, 0, 0);
+            with_unmet(b, 1)
+        }
     }
-    say_numbered(b.line, 218, 0, 0, 0);
-    with_unmet(b, 1)
 }
 
 // ---- questions
@@ -358,22 +376,6 @@ fn status_played(b: Bench, l: Line, expected: &[u8], known: &[u8]) -> Bench {
 
 // ---- a line
 
-fn hint_told(hint: u8) {
-    if hint == 0 {
-        return;
-    }
-    let r = rows::below(178, 0, 0, 0);
-    if hint == 1 {
-        say_row(rows::form(r, 179, 0, 0, 0));
-        return;
-    }
-    if hint == 2 {
-        say_row(rows::form(r, 180, 0, 0, 0));
-        return;
-    }
-    say_row(rows::form(r, 181, 0, 0, 0));
-}
-
 // The form of what is allowed at a place of the grammar.
 fn allowed_at(place: u8) -> usize {
     222 + smaller(place as usize, 38)
@@ -385,51 +387,35 @@ fn wrong_told(b: Bench, l: Line) -> Bench {
     say_row(rows::wrong(b.line, &word, l.length, l.column));
     let r = rows::below(177, 0, 0, 0);
     say_row(rows::form(r, allowed_at(place), 0, 0, 0));
-    hint_told(script::hint_of(place, &word, l.length));
-    with_wrong(b)
+    let hint = script::hint_of(place, &word, l.length);
+    if hint != 0 {
+        let r = rows::below(178, 0, 0, 0);
+        say_row(rows::form(r, 178 + smaller(hint as usize, 3), 0, 0, 0));
+    }
+    let t = expecting::with_wrong_line(b.tally);
+    let mut next = b;
+    next.tally = t;
+    next
 }
 
 // A line that shows something else from here on.
 fn showing(b: Bench, verb: u8) -> Bench {
+    let mut next = b;
     match verb {
         9 => {
             say_numbered(b.line, 215, 0, 0, 0);
-            with_full(b, true)
+            next.full = true;
+            next
         }
         10 => {
             say_numbered(b.line, 216, 0, 0, 0);
-            with_full(b, false)
+            next.full = false;
+            next
         }
         _ => {
             say_numbered(b.line, 214, 0, 0, 0);
-            with_strict(b)
-        }
-    }
-}
-
-fn record_line_played(b: Bench, s: [u64; 24], verb: u8) -> Bench {
-    match verb {
-        13 => buffer_played(b, s),
-        14 => lend_played(b, s),
-        15 => record_played(b, s),
-        _ => is_played(b, s),
-    }
-}
-
-fn chip_line_played(b: Bench, l: Line, array: &mut Memory, security: &mut Identity) -> Bench {
-    let s = l.slots;
-    let verb = l.verb;
-    match verb {
-        2 => completion_played(b, l, array, security),
-        3 => cut_played(b, l, array, security),
-        4 => new_played(b, array, security),
-        12 => {
-            fill_played(b.line, s, array, security);
-            b
-        }
-        _ => {
-            pattern_played(b.line, array, security);
-            b
+            next.strict = true;
+            next
         }
     }
 }

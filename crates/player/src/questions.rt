@@ -3,7 +3,7 @@ use crate::bench::Bench;
 use crate::say::say_below;
 use crate::say::say_numbered;
 use crate::say::say_row;
-use rules::plain::smaller;
+use crate::told::shown;
 
 // A row for each bit that is set: its form is the first one's and the bit's number.
 fn bits_told(value: u8, first: usize, n: usize) {
@@ -31,16 +31,19 @@ fn protocol_told(sqi: bool, enable: bool) {
     }
 }
 
-// The configuration's bits 1, 3 and 7 as three.
-fn three(c: u8) -> u8 {
-    c / 2 % 2 + c / 8 % 2 * 2 + c / 128 * 4
-}
-
 pub fn status_told(line: u64, status: u8, configuration: u8, sqi: bool, enable: bool) {
     say_numbered(line, 140, status as u64, 0, 0);
     bits_told(status, 141, 6);
     say_below(147, configuration as u64, 0, 0);
-    bits_told(three(configuration), 148, 3);
+    if configuration / 2 % 2 == 1 {
+        say_below(148, 0, 0, 0);
+    }
+    if configuration / 8 % 2 == 1 {
+        say_below(149, 0, 0, 0);
+    }
+    if configuration / 128 == 1 {
+        say_below(150, 0, 0, 0);
+    }
     protocol_told(sqi, enable);
 }
 
@@ -94,18 +97,8 @@ fn dump_rows(start: usize, n: usize, memory: &[u8]) {
     }
 }
 
-// How many bytes are shown: all of a full dump, else 64 where they are compared and 4,096 where not.
-fn shown(n: usize, full: bool, compared: bool) -> usize {
-    if full {
-        return n;
-    }
-    if compared {
-        return smaller(n, 64);
-    }
-    smaller(n, 4096)
-}
-
-// Bytes as stored, from a place on. The heading tells how many there are.
+// Bytes as stored, from a place on; the heading tells how many there are. Shown are all of a full dump, else 64 where they are compared and 4,096 where
+// not.
 pub fn dump_told(
     b: Bench,
     heading: usize,
@@ -115,7 +108,8 @@ pub fn dump_told(
     memory: &[u8],
 ) {
     let n = rows::count_within(memory.len(), start, count);
-    let m = shown(n, b.full, compared);
+    let most = if compared { 64 } else { 4096 };
+    let m = shown(n, b.full, most);
     say_numbered(b.line, heading, start as u64, n as u64, 0);
     dump_rows(start, m, memory);
     if m < n {

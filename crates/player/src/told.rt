@@ -5,7 +5,7 @@ use crate::say::say_below;
 use crate::say::say_row;
 use expecting::Verdict;
 use rows::Row;
-use rules::Chip;
+use rules::plain::smaller;
 
 // Why an event was refused: the number's line in document 01, and what of it holds here.
 pub fn why_told(b: Bench, number: u8, sent: &[u8], reply: usize, marks: usize) {
@@ -13,7 +13,7 @@ pub fn why_told(b: Bench, number: u8, sent: &[u8], reply: usize, marks: usize) {
     if number == 0 {
         return;
     }
-    say_below(24 + rules::plain::smaller(number as usize, 12), 0, 0, 0);
+    say_below(24 + smaller(number as usize, 12), 0, 0, 0);
     if number == 1 {
         say_row(rows::malformed(
             rows::plain(1, 0, 0, 0),
@@ -42,12 +42,12 @@ fn answer_told(line: u64, wanted: usize, number: u8, sent: &[u8], reply: &[u8], 
     say_row(rows::answer(r, sent, number, reply, marks));
 }
 
-// How many bytes of a long reply are shown: all, or four rows.
-fn shown(n: usize, full: bool) -> usize {
+// How many bytes are shown: all, or so many at most.
+pub fn shown(n: usize, full: bool, most: usize) -> usize {
     if full {
         return n;
     }
-    rules::plain::smaller(n, 64)
+    smaller(n, most)
 }
 
 fn reply_rows(n: usize, reply: &[u8], marks: &[u8]) {
@@ -63,7 +63,7 @@ fn reply_rows(n: usize, reply: &[u8], marks: &[u8]) {
 
 // A reply that does not stand on the event's row.
 fn long_reply_told(reply: &[u8], marks: &[u8], full: bool) {
-    let n = shown(reply.len(), full);
+    let n = shown(reply.len(), full, 64);
     reply_rows(n, reply, marks);
     if n < reply.len() {
         say_below(196, (reply.len() - n) as u64, 0, 0);
@@ -83,28 +83,14 @@ pub fn headed(line: u64, n: usize, a: u64) -> Row {
     rows::form(rows::numbered(line, n, a, 0, 0), 7, 0, 0, 0)
 }
 
-fn byte_expected(r: Row, expected: u8, known: u8) -> Row {
-    if known == 2 {
-        return rows::form(r, 201, expected as u64, 0, 0);
-    }
-    rows::form(r, 200, expected as u64, 0, 0)
-}
-
 // The first byte that differs, and those expected from there on.
 fn place_told(place: usize, reply: &[u8], marks: &[u8], expected: &[u8], known: &[u8]) {
     say_row(rows::expected(place, expected, known));
     let r = rows::below(183, place as u64, 0, 0);
     let r = rows::known_byte(r, at(reply, place), at(marks, place));
     let r = rows::form(r, 184, 0, 0, 0);
-    say_row(byte_expected(r, at(expected, place), at(known, place)));
-}
-
-fn number_told(expected: u64) {
-    if expected == 0 {
-        say_below(186, 0, 0, 0);
-        return;
-    }
-    say_below(187, expected, 0, 0);
+    let kind = smaller(at(known, place) as usize, 2);
+    say_row(rows::form(r, 199 + kind, at(expected, place) as u64, 0, 0));
 }
 
 // What the line expected and did not get.
@@ -117,7 +103,11 @@ pub fn unmet_told(
     known: &[u8],
 ) {
     if v.number {
-        number_told(number);
+        if number == 0 {
+            say_below(186, 0, 0, 0);
+        } else {
+            say_below(187, number, 0, 0);
+        }
     }
     if v.strict {
         say_below(189, 0, 0, 0);

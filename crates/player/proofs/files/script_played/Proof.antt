@@ -37,9 +37,6 @@ loop-less c = let h = c .before .before .before .before .before .before .before 
 loop-again : tie.Need-loop-again Inv-loop μ-loop
 loop-again c = search needs
 
-prompted-requires : tie.Need-prompted-requires Inv-loop μ-loop
-prompted-requires c κs = search needs
-
 refilled-requires : tie.Need-refilled-requires Inv-loop μ-loop
 refilled-requires c κs = search needs
 
@@ -73,7 +70,6 @@ script-played-spec =
     wrapping-add-usize-requires
     loop-less
     loop-again
-    prompted-requires
     refilled-requires
     loop-less-2
     loop-again-2
