@@ -1,25 +1,10 @@
 // Scripts from files and from standard input: each on a new chip, with counts of its own.
-use crate::bench::Bench;
-use crate::bench::Identity;
-use crate::bench::Lent;
-use crate::bench::Memory;
-use crate::bench::begun;
-use crate::bytes::at;
-use crate::bytes::within;
-use crate::play::line_played;
-use crate::say::say;
-use crate::say::say_row;
-use crate::told::remark_told;
+use crate::parts::within;
+use crate::telling;
+use crate::telling::Place;
 use expecting::Tally;
-use script::Reading;
-
-pub type Input = [u8; 65536];
-
-// What is played: the bench, and the line half read.
-pub struct Playing {
-    pub bench: Bench,
-    pub reading: Reading,
-}
+use playing::Playing;
+use rows::Row;
 
 // How scripts are played, and what they came to.
 pub struct Session {
@@ -29,81 +14,26 @@ pub struct Session {
     pub tally: Tally,
 }
 
-fn remark_part_told(n: usize, remark: &[u8]) {
-    let m = within(n, remark);
-    remark_told(&remark[..m]);
+fn say(text: &[u8]) {
+    io::write_all(1, text);
 }
 
-fn line_ended(
-    p: Playing,
-    array: &mut Memory,
-    security: &mut Identity,
-    frame: &Lent,
-    expected: &Lent,
-    known: &Lent,
-    remark: &Lent,
-    reply: &mut Lent,
-    marks: &mut Lent,
-) -> Playing {
-    let reading = p.reading;
-    let line = script::line_of(reading);
-    let mut bench = p.bench;
-    bench.line = std::num::wrapping_add_u64(bench.line, 1);
-    remark_part_told(line.remark, remark);
-    Playing {
-        bench: line_played(
-            bench,
-            line,
-            array,
-            security,
-            frame,
-            expected,
-            known,
-            reply,
-            marks,
-        ),
-        reading,
+fn say_row(r: Row) {
+    let t = r.text;
+    let n = within(r.length, &t);
+    io::write_all(1, &t[..n]);
+    io::write_all(1, b"\n");
+}
+
+// The rows of a line; a row of no bytes is none.
+fn told(r: Row) {
+    if r.length != 0 {
+        say_row(r);
     }
-}
-
-// One byte of the input; the line that it ends is played.
-fn byte_played(
-    p: Playing,
-    b: u8,
-    array: &mut Memory,
-    security: &mut Identity,
-    frame: &mut Lent,
-    expected: &mut Lent,
-    known: &mut Lent,
-    remark: &mut Lent,
-    reply: &mut Lent,
-    marks: &mut Lent,
-) -> Playing {
-    let reading = script::step(p.reading, b, frame, expected, known, remark);
-    let bench = p.bench;
-    let now = Playing { bench, reading };
-    if reading.ended {
-        return line_ended(
-            now,
-            array,
-            security,
-            frame,
-            expected,
-            known,
-            remark,
-            reply,
-            marks,
-        );
-    }
-    now
-}
-
-fn byte_at(input: &Input, i: usize) -> u8 {
-    at(input, i)
 }
 
 // How many bytes came, after a prompt where that is asked for.
-fn refilled(fd: i32, prompt: bool, input: &mut Input) -> usize {
+fn refilled(fd: i32, prompt: bool, input: &mut [u8; 65536]) -> usize {
     if prompt {
         say(b"> ");
     }
@@ -114,7 +44,154 @@ fn refilled(fd: i32, prompt: bool, input: &mut Input) -> usize {
     io::count(got, input)
 }
 
+// Where nothing came, the line's end that the last line may lack.
+fn with_end(n: usize, input: &mut [u8; 65536]) -> usize {
+    if n == 0 {
+        input[0] = b'\n';
+        return 1;
+    }
+    n
+}
+
+fn byte_at(input: &[u8; 65536], i: usize) -> u8 {
+    if i < 65536 {
+        return input[i];
+    }
+    b'\n'
+}
+
+// A script half played: what came of it, what of that is told, and how much of the input is taken.
+struct Desk {
+    now: Playing,
+    at: Place,
+    taken: usize,
+    came: usize,
+    ended: bool,
+    over: bool,
+}
+
+// A row is told, or a byte is taken, or more bytes come.
+fn turn(
+    fd: i32,
+    prompt: bool,
+    d: Desk,
+    input: &mut [u8; 65536],
+    array: &mut [u8; 2097153],
+    security: &mut [u8; 2049],
+    frame: &mut [u8; 65537],
+    expected: &mut [u8; 65537],
+    known: &mut [u8; 65537],
+    remark: &mut [u8; 65537],
+    reply: &mut [u8; 65537],
+    marks: &mut [u8; 65537],
+) -> Desk {
+    let mut next = d;
+    let now = d.now;
+    let at = d.at;
+    if !telling::is_over(at) {
+        let r = telling::row(
+            now,
+            at,
+            frame,
+            expected,
+            known,
+            remark,
+            reply,
+            marks,
+            array,
+            security,
+        );
+        told(r);
+        next.at = telling::next(now, at);
+        return next;
+    }
+    if d.taken < d.came {
+        let b = byte_at(input, d.taken);
+        let now = playing::take(
+            now,
+            b,
+            array,
+            security,
+            frame,
+            expected,
+            known,
+            remark,
+            reply,
+            marks,
+        );
+        next.now = now;
+        next.at = telling::begun(now);
+        next.taken = std::num::wrapping_add_usize(d.taken, 1);
+        return next;
+    }
+    if d.ended {
+        next.over = true;
+        return next;
+    }
+    let n = refilled(fd, prompt, input);
+    next.ended = n == 0;
+    next.came = with_end(n, input);
+    next.taken = 0;
+    next
+}
+
+fn begun(strict: bool) -> Desk {
+    let now = playing::start(strict);
+    let at = telling::nothing();
+    Desk {
+        now,
+        at,
+        taken: 0,
+        came: 0,
+        ended: false,
+        over: false,
+    }
+}
+
+fn tally_of(d: Desk) -> Tally {
+    let now = d.now;
+    let bench = now.bench;
+    bench.tally
+}
+
 // A proved loop has to end, and nothing says that an input does: so it counts its turns down, from a number that no run uses up.
+fn turned(
+    fd: i32,
+    prompt: bool,
+    start: Desk,
+    input: &mut [u8; 65536],
+    array: &mut [u8; 2097153],
+    security: &mut [u8; 2049],
+    frame: &mut [u8; 65537],
+    expected: &mut [u8; 65537],
+    known: &mut [u8; 65537],
+    remark: &mut [u8; 65537],
+    reply: &mut [u8; 65537],
+    marks: &mut [u8; 65537],
+) -> Desk {
+    let mut d = start;
+    let mut turns = u64::MAX;
+    while turns > 0 && !d.over {
+        turns -= 1;
+        d = turn(
+            fd,
+            prompt,
+            d,
+            input,
+            array,
+            security,
+            frame,
+            expected,
+            known,
+            remark,
+            reply,
+            marks,
+        );
+    }
+    d
+}
+
+// The memories belong to a function without a loop: a loop's proof carries each of them.
 fn script_played(fd: i32, strict: bool, prompt: bool) -> Tally {
     let mut input = [0u8; 65536];
     let mut array = [255u8; 2097153];
@@ -125,54 +202,22 @@ fn script_played(fd: i32, strict: bool, prompt: bool) -> Tally {
     let mut remark = [0u8; 65537];
     let mut reply = [0u8; 65537];
     let mut marks = [0u8; 65537];
-    let mut now = Playing {
-        bench: begun(strict),
-        reading: script::start(),
-    };
-    let mut turns = u64::MAX;
-    let mut i: usize = 0;
-    let mut n: usize = 0;
-    let mut more = true;
-    while turns > 0 && more {
-        turns -= 1;
-        if i < n {
-            now = byte_played(
-                now,
-                byte_at(&input, i),
-                &mut array,
-                &mut security,
-                &mut frame,
-                &mut expected,
-                &mut known,
-                &mut remark,
-                &mut reply,
-                &mut marks,
-            );
-            i = std::num::wrapping_add_usize(i, 1);
-        } else {
-            n = refilled(fd, prompt, &mut input);
-            i = 0;
-            more = n != 0;
-        }
-    }
-    let reading = now.reading;
-    if (reading.read != 0) & !reading.ended {
-        let reading = script::finish(reading, &mut frame, &mut expected, &mut known);
-        let bench = now.bench;
-        now = line_ended(
-            Playing { bench, reading },
-            &mut array,
-            &mut security,
-            &frame,
-            &expected,
-            &known,
-            &remark,
-            &mut reply,
-            &mut marks,
-        );
-    }
-    let bench = now.bench;
-    bench.tally
+    let start = begun(strict);
+    let d = turned(
+        fd,
+        prompt,
+        start,
+        &mut input,
+        &mut array,
+        &mut security,
+        &mut frame,
+        &mut expected,
+        &mut known,
+        &mut remark,
+        &mut reply,
+        &mut marks,
+    );
+    tally_of(d)
 }
 
 // ---- the scripts
@@ -243,7 +288,7 @@ fn same(a: &[u8], b: &[u8]) -> bool {
     }
     let mut i: usize = 0;
     while i < a.len() {
-        if a[i] != at(b, i) {
+        if a[i] != b[i] {
             return false;
         }
         i += 1;

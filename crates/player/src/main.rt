@@ -1,13 +1,8 @@
 // Plays scripts on the bench chip: the files named as arguments, or standard input where there are none; examples/play proves, builds
-// and starts it. The program only carries: what a line says is crate script's, what the chip does is crate chip's, whether an expectation
-// is met is crate expecting's, and each row is crate rows'.
-mod bench;
-mod bytes;
+// and starts it. The program only carries: it reads bytes, has each taken by crate playing, and writes the rows that telling picks from crate rows.
 mod files;
-mod play;
-mod questions;
-mod say;
-mod told;
+mod parts;
+mod telling;
 
 fn main() {
     files::all_played();

@@ -1,14 +1,12 @@
 -- What is left falls. Assumes nothing.
-use borrow.Author.Needs.{needs}
-use Prim.Native.Nat.{_-_, _/_}
+use Prim.Native.Nat.{_-_}
 use lib.ListN.{length}
-use mathlib.Core.Path.{_≡_, refl}
+use borrow.Author.Needs.{needs}
 use native.Mathlib.Omega.{arith}
 use Rattle.player.proofs.files.same.Statement.{statement}
 use Rattle.player.proofs.files.same.Tie as tie
 use Rattle.player.proofs.files.same.Reads as reads
 use Rattle.player.proofs.files.same.Lts as lts
-use Rattle.player.proofs.bytes.at.Reads as at-reads
 
 abbrev Inv-loop : tie.InvT-loop
 Inv-loop a b i₀ i = Unit {0}
@@ -16,30 +14,39 @@ Inv-loop a b i₀ i = Unit {0}
 abbrev μ-loop : tie.MeasureT-loop
 μ-loop a b i₀ i = length a - i
 
+-- src/files.rt:187:9
 returns : tie.Need-returns Inv-loop μ-loop
 returns c = search needs
 
+-- src/files.rt:190:5
 loop-holds : tie.Need-loop-holds Inv-loop μ-loop
 loop-holds c = search needs
 
+-- src/files.rt:191:12
 shared-slice-read-if2 : tie.Need-shared-slice-read-if2 Inv-loop μ-loop
 shared-slice-read-if2 c = search needs
 
-at-requires : tie.Need-at-requires Inv-loop μ-loop
-at-requires c κs = search needs
+-- src/files.rt:191:20
+shared-slice-read-if2-2 : tie.Need-shared-slice-read-if2-2 Inv-loop μ-loop
+shared-slice-read-if2-2 c = search needs
 
+-- src/files.rt:192:13
 returns-2 : tie.Need-returns-2 Inv-loop μ-loop
 returns-2 c = search needs
 
+-- src/files.rt:194:9
 add-i : tie.Need-add-i Inv-loop μ-loop
 add-i c = search needs
 
+-- src/files.rt:190:5
 loop-less : tie.Need-loop-less Inv-loop μ-loop
 loop-less c = search needs
 
+-- src/files.rt:190:5
 loop-again : tie.Need-loop-again Inv-loop μ-loop
 loop-again c = search needs
 
+-- src/files.rt:185:1
 returns-3 : tie.Need-returns-3 Inv-loop μ-loop
 returns-3 c = search needs
 
@@ -52,7 +59,7 @@ same-spec =
     returns
     loop-holds
     shared-slice-read-if2
-    at-requires
+    shared-slice-read-if2-2
     returns-2
     add-i
     loop-less

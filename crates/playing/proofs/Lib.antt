@@ -1,0 +1,4 @@
+-- Laws that the proofs cite.
+pub mod Memories
+pub mod Happenings
+pub mod Lines
