@@ -3,7 +3,7 @@
 mod numbers;
 mod texts;
 
-use rows::Row;
+use writing::Row;
 
 // How often the row stands in the text.
 fn times(text: &[u8], r: Row) -> usize {
@@ -12,11 +12,11 @@ fn times(text: &[u8], r: Row) -> usize {
 }
 
 fn begun(rust: bool) -> Row {
-    let r = rows::empty();
+    let r = writing::empty();
     if rust {
-        return rows::text(r, b"pub const ");
+        return writing::text(r, b"pub const ");
     }
-    rows::text(r, b"#define FULKIBONO_")
+    writing::text(r, b"#define FULKIBONO_")
 }
 
 // The line that gives number i its name.
@@ -24,10 +24,10 @@ fn line(i: usize, rust: bool) -> Row {
     let r = numbers::named(begun(rust), i);
     if rust {
         let r = numbers::typed(r, i);
-        return rows::text(rows::size(r, numbers::number(i)), b";");
+        return writing::text(writing::size(r, numbers::number(i)), b";");
     }
-    let r = rows::size(rows::pad(r, 1), numbers::number(i));
-    rows::pad(r, 1)
+    let r = writing::size(writing::pad(r, 1), numbers::number(i));
+    writing::pad(r, 1)
 }
 
 fn told(r: Row) {
@@ -59,7 +59,7 @@ fn lines_wrong(text: &[u8], rust: bool) -> bool {
 
 // How many names of a sort there are.
 fn names(text: &[u8], rust: bool, sort: &[u8]) -> usize {
-    times(text, rows::text(begun(rust), sort))
+    times(text, writing::text(begun(rust), sort))
 }
 
 // A name that is none of the layout's.

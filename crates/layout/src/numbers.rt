@@ -1,5 +1,5 @@
 // The record's numbers and the names that C and Rust have for them.
-use rows::Row;
+use writing::Row;
 ghost use mathlib.Core.Path.{_≡_};
 ghost use lib.ListN.{getD};
 ghost use Rattle.layout.specs.Numbers.{numbers};
@@ -58,42 +58,42 @@ pub fn all(places: usize, kinds: usize, flags: usize) -> bool {
 
 fn place_named(r: Row, i: usize) -> Row {
     match i {
-        0 => rows::text(r, b"RECORD_SIZE"),
-        1 => rows::text(r, b"PLACE_PAGE"),
-        2 => rows::text(r, b"PLACE_PROTECTION"),
-        3 => rows::text(r, b"PLACE_PERMANENT"),
-        4 => rows::text(r, b"PLACE_RUNNING_NUMBER"),
-        5 => rows::text(r, b"PLACE_SUSPENDED_NUMBER"),
-        6 => rows::text(r, b"PLACE_RUNNING_KIND"),
-        7 => rows::text(r, b"PLACE_SUSPENDED_KIND"),
-        8 => rows::text(r, b"PLACE_FLAGS"),
-        _ => rows::text(r, b"PLACE_RESERVED"),
+        0 => writing::text(r, b"RECORD_SIZE"),
+        1 => writing::text(r, b"PLACE_PAGE"),
+        2 => writing::text(r, b"PLACE_PROTECTION"),
+        3 => writing::text(r, b"PLACE_PERMANENT"),
+        4 => writing::text(r, b"PLACE_RUNNING_NUMBER"),
+        5 => writing::text(r, b"PLACE_SUSPENDED_NUMBER"),
+        6 => writing::text(r, b"PLACE_RUNNING_KIND"),
+        7 => writing::text(r, b"PLACE_SUSPENDED_KIND"),
+        8 => writing::text(r, b"PLACE_FLAGS"),
+        _ => writing::text(r, b"PLACE_RESERVED"),
     }
 }
 
 fn kind_named(r: Row, i: usize) -> Row {
     match i {
-        10 => rows::text(r, b"KIND_NOTHING"),
-        11 => rows::text(r, b"KIND_SECTOR_ERASE"),
-        12 => rows::text(r, b"KIND_BLOCK_ERASE"),
-        13 => rows::text(r, b"KIND_ARRAY_ERASE"),
-        14 => rows::text(r, b"KIND_PAGE_PROGRAM"),
-        15 => rows::text(r, b"KIND_SECURITY_PROGRAM"),
-        16 => rows::text(r, b"KIND_SECURITY_LOCK"),
-        17 => rows::text(r, b"KIND_CONFIGURATION"),
-        _ => rows::text(r, b"KIND_PERMANENT_BITS"),
+        10 => writing::text(r, b"KIND_NOTHING"),
+        11 => writing::text(r, b"KIND_SECTOR_ERASE"),
+        12 => writing::text(r, b"KIND_BLOCK_ERASE"),
+        13 => writing::text(r, b"KIND_ARRAY_ERASE"),
+        14 => writing::text(r, b"KIND_PAGE_PROGRAM"),
+        15 => writing::text(r, b"KIND_SECURITY_PROGRAM"),
+        16 => writing::text(r, b"KIND_SECURITY_LOCK"),
+        17 => writing::text(r, b"KIND_CONFIGURATION"),
+        _ => writing::text(r, b"KIND_PERMANENT_BITS"),
     }
 }
 
 fn flag_named(r: Row, i: usize) -> Row {
     match i {
-        19 => rows::text(r, b"FLAG_SQI"),
-        20 => rows::text(r, b"FLAG_WEL"),
-        21 => rows::text(r, b"FLAG_IOC"),
-        22 => rows::text(r, b"FLAG_WPEN"),
-        23 => rows::text(r, b"FLAG_WPLD"),
-        24 => rows::text(r, b"FLAG_SEC"),
-        _ => rows::text(r, b"FLAG_RESET_ENABLE"),
+        19 => writing::text(r, b"FLAG_SQI"),
+        20 => writing::text(r, b"FLAG_WEL"),
+        21 => writing::text(r, b"FLAG_IOC"),
+        22 => writing::text(r, b"FLAG_WPEN"),
+        23 => writing::text(r, b"FLAG_WPLD"),
+        24 => writing::text(r, b"FLAG_SEC"),
+        _ => writing::text(r, b"FLAG_RESET_ENABLE"),
     }
 }
 
@@ -110,7 +110,7 @@ pub fn named(r: Row, i: usize) -> Row {
 // In Rust a place is a usize, a kind or a flag one byte.
 pub fn typed(r: Row, i: usize) -> Row {
     if i < 10 {
-        return rows::text(r, b": usize = ");
+        return writing::text(r, b": usize = ");
     }
-    rows::text(r, b": u8 = ")
+    writing::text(r, b": u8 = ")
 }

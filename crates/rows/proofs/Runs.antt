@@ -6,7 +6,7 @@ use native.Mathlib.Omega.{arith}
 use lib.Dec.{eqb}
 use Rattle.rules.specs.Words.{pick}
 use Rattle.rows.specs.Questions.{lockState, runEnd}
-use Rattle.rows.proofs.Picks.{yes, no}
+use Rattle.writing.proofs.Picks.{yes, no}
 
 one-step : (s p q h : ℕ) → h < 256 → runEnd (256 - h) s p q h ≡ pick (eqb (lockState h p q) s) (runEnd (256 - (h + 1)) s p q (h + 1)) h
 unfolding runEnd

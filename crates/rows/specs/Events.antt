@@ -7,10 +7,11 @@ use lib.ListN.{length}
 use Rattle.rules.specs.declared.Work.{Work}
 use Rattle.rules.specs.Words.{pick}
 use Rattle.rules.specs.Works.{isNothing}
-use Rattle.rows.specs.declared.Row.{Row}
-use Rattle.rows.specs.Rows.{blank, put, blanks, within, bytes, part, letters}
-use Rattle.rows.specs.Page.{form}
-use Rattle.rows.specs.Works.{told, work, cutAfter}
+use Rattle.writing.specs.declared.Row.{Row}
+use Rattle.writing.specs.Rows.{blank, put, blanks}
+use Rattle.byte_text.specs.Bytes.{within, bytes, part, letters}
+use Rattle.page.specs.Page.{form}
+use Rattle.describing.specs.Works.{told, work, cutAfter}
 
 -- form n behind the script's line, or below a row that has it
 abbrev pub numbered : ℕ → ℕ → ℕ → ℕ → ℕ → Row

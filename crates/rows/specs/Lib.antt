@@ -1,9 +1,3 @@
--- Rows of text.
-pub mod Rows
-pub mod Forms
-pub mod Page
-pub mod Works
-pub mod Why
-pub mod Commands
+-- The rows of a script.
 pub mod Events
 pub mod Questions

@@ -5,8 +5,8 @@ use lib.Dec.{eqb}
 use Rattle.rules.specs.declared.Block.{Block}
 use Rattle.rules.specs.Words.{bit, num, pick}
 use Rattle.rules.specs.Blocks.{blockAt, blockOf}
-use Rattle.rows.specs.declared.Row.{Row}
-use Rattle.rows.specs.Page.{form}
+use Rattle.writing.specs.declared.Row.{Row}
+use Rattle.page.specs.Page.{form}
 use Rattle.rows.specs.Events.{below}
 
 -- the locks of a block as bits: 1 write, 2 read, 4 permanent

@@ -1,19 +1,19 @@
 // The rows of a script. specs/Events.antt.
-use crate::Row;
-use crate::count_within;
-use crate::empty;
-use crate::marked_bytes;
-use crate::pad;
-use crate::page::form;
-use crate::plain_bytes;
-use crate::printed_bytes;
-use crate::works::work;
-use crate::works::work_cut;
+use byte_text::count_within;
+use byte_text::marked_bytes;
+use byte_text::plain_bytes;
+use byte_text::printed_bytes;
+use describing::work;
+use describing::work_cut;
+use page::form;
 use rules::Work;
 use rules::plain::smaller;
+use writing::Row;
+use writing::empty;
+use writing::pad;
 ghost use mathlib.Core.Path.{_≡_};
-ghost use Rattle.rows.specs.Page.{form};
-ghost use Rattle.rows.specs.Rows.{blank};
+ghost use Rattle.page.specs.Page.{form};
+ghost use Rattle.writing.specs.Rows.{blank};
 ghost use Rattle.rows.specs.Events.{numbered, below, countOn, bytesOn, sentRow, fits, endedOn, cutOn, replyRow, expectedRow, remarkRow, dumpRow, quoted, wordOn};
 
 // A form on a row of its own.

@@ -1,10 +1,10 @@
 // The locks by address. specs/Questions.antt.
-use crate::Row;
-use crate::commands::less;
 use crate::events::below;
-use crate::page::form;
+use describing::less;
+use page::form;
 use rules::Block;
 use rules::plain::smaller;
+use writing::Row;
 ghost use mathlib.Core.Path.{_≡_};
 ghost use Prim.Native.Nat.{_+_, _-_, _%_, _≤_, _<_, min};
 ghost use Rattle.rules.specs.Words.{num};

@@ -2,7 +2,7 @@
 use borrow.Author.Tests.{eq-eqb, ne-eqb}
 use Rattle.rows.specs.Events.{cutOn}
 use mathlib.Core.Path.{refl, sym, ap, _∙_}
-use Rattle.rows.proofs.Picks.{yes, no}
+use Rattle.writing.proofs.Picks.{yes, no}
 use borrow.Author.Needs.{needs}
 use Rattle.rows.proofs.events.cut.Statement.{statement}
 use Rattle.rows.proofs.events.cut.Tie as tie

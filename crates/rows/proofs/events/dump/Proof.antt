@@ -1,10 +1,11 @@
 -- The parts in a row. Assumes nothing.
 use Rattle.rows.specs.Events.{dumpRow, shown}
-use Rattle.rows.proofs.Tellings.{dumped}
+use Rattle.rows.proofs.Dumps.{dumped}
 use mathlib.Core.Path.{refl, sym, ap, _∙_}
-use Rattle.rows.specs.declared.Row.{Row}
-use Rattle.rows.specs.Page.{form}
-use Rattle.rows.specs.Rows.{put, bytes, within, letters, part, blanks}
+use Rattle.writing.specs.declared.Row.{Row}
+use Rattle.page.specs.Page.{form}
+use Rattle.writing.specs.Rows.{put, blanks}
+use Rattle.byte_text.specs.Bytes.{bytes, within, letters, part}
 use lib.ListN.{length}
 use Prim.Native.Nat.{ℕ, _*_, _-_}
 use borrow.Author.Needs.{needs}

@@ -2,9 +2,9 @@
 use borrow.Author.Tests.{eq-eqb, ne-eqb}
 use Rattle.rows.specs.Events.{endedOn}
 use mathlib.Core.Path.{refl, sym, ap, _∙_}
-use Rattle.rows.proofs.Picks.{yes, no}
-use Rattle.rows.specs.declared.Row.{Row}
-use Rattle.rows.specs.Page.{form}
+use Rattle.writing.proofs.Picks.{yes, no}
+use Rattle.writing.specs.declared.Row.{Row}
+use Rattle.page.specs.Page.{form}
 use borrow.Author.Needs.{needs}
 use Rattle.rows.proofs.events.ended.Statement.{statement}
 use Rattle.rows.proofs.events.ended.Tie as tie

@@ -2,8 +2,8 @@
 use borrow.Author.Tests.{le-leb, lt-leb}
 use Rattle.rows.specs.Events.{bytesOn, countOn}
 use mathlib.Core.Path.{refl, sym, ap, _∙_}
-use Rattle.rows.proofs.Picks.{yes, no}
-use Rattle.rows.specs.declared.Row.{Row}
+use Rattle.writing.proofs.Picks.{yes, no}
+use Rattle.writing.specs.declared.Row.{Row}
 use lib.ListN.{length}
 use borrow.Author.Needs.{needs}
 use Rattle.rows.proofs.events.frame_bytes.Statement.{statement}

@@ -1,7 +1,7 @@
 -- Behind nothing. Assumes nothing.
 use mathlib.Core.Path.{refl, sym, ap, _∙_}
-use Rattle.rows.specs.declared.Row.{Row}
-use Rattle.rows.specs.Page.{form}
+use Rattle.writing.specs.declared.Row.{Row}
+use Rattle.page.specs.Page.{form}
 use borrow.Author.Needs.{needs}
 use Rattle.rows.proofs.events.plain.Statement.{statement}
 use Rattle.rows.proofs.events.plain.Tie as tie

@@ -1,7 +1,8 @@
 -- The form and the bytes. Assumes nothing.
 use mathlib.Core.Path.{refl, sym, ap, _∙_}
-use Rattle.rows.specs.declared.Row.{Row}
-use Rattle.rows.specs.Rows.{put, bytes, within, letters, part, blanks}
+use Rattle.writing.specs.declared.Row.{Row}
+use Rattle.writing.specs.Rows.{put, blanks}
+use Rattle.byte_text.specs.Bytes.{bytes, within, letters, part}
 use borrow.Author.Needs.{needs}
 use Rattle.rows.proofs.events.reply.Statement.{statement}
 use Rattle.rows.proofs.events.reply.Tie as tie

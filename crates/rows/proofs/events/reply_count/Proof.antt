@@ -1,7 +1,7 @@
 -- Over 65,536 or the count. Assumes nothing.
 use borrow.Author.Tests.{le-ltb, lt-ltb}
 use Rattle.rows.specs.Events.{countOn}
-use Rattle.rows.proofs.Picks.{yes, no}
+use Rattle.writing.proofs.Picks.{yes, no}
 use borrow.Author.Needs.{needs}
 use Rattle.rows.proofs.events.reply_count.Statement.{statement}
 use Rattle.rows.proofs.events.reply_count.Tie as tie

@@ -1,8 +1,8 @@
 -- The bytes, and the reply that is wanted. Assumes nothing.
 use Rattle.rows.specs.Events.{sentRow, bytesOn, countOn}
 use mathlib.Core.Path.{refl, sym, ap, _∙_}
-use Rattle.rows.proofs.Picks.{yes, no}
-use Rattle.rows.specs.declared.Row.{Row}
+use Rattle.writing.proofs.Picks.{yes, no}
+use Rattle.writing.specs.declared.Row.{Row}
 use borrow.Author.Needs.{needs}
 use Rattle.rows.proofs.events.sent.Statement.{statement}
 use Rattle.rows.proofs.events.sent.Tie as tie

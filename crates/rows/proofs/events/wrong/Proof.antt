@@ -1,7 +1,7 @@
 -- The row and the word. Assumes nothing.
 use Rattle.rows.specs.Events.{wordOn}
 use mathlib.Core.Path.{refl, sym, ap, _∙_}
-use Rattle.rows.specs.declared.Row.{Row}
+use Rattle.writing.specs.declared.Row.{Row}
 use borrow.Author.Needs.{needs}
 use Rattle.rows.proofs.events.wrong.Statement.{statement}
 use Rattle.rows.proofs.events.wrong.Tie as tie

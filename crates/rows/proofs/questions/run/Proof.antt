@@ -2,8 +2,8 @@
 use Rattle.rows.specs.Questions.{runRow}
 use mathlib.Core.Path.{refl, sym, ap, _∙_}
 use Prim.Native.Nat.{ℕ, _+_, _-_, _*_, min}
-use Rattle.rows.specs.declared.Row.{Row}
-use Rattle.rows.specs.Page.{form}
+use Rattle.writing.specs.declared.Row.{Row}
+use Rattle.page.specs.Page.{form}
 use Rattle.rows.specs.Events.{below}
 use native.Mathlib.Omega.{arith}
 use borrow.Author.Needs.{needs}

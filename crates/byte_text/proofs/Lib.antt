@@ -1,0 +1,3 @@
+-- Laws of bytes as text.
+pub mod Laws
+pub mod Unique

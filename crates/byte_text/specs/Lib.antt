@@ -1,0 +1,2 @@
+-- Bytes as text.
+pub mod Bytes

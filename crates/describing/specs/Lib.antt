@@ -1,0 +1,3 @@
+-- Work and commands in words.
+pub mod Works
+pub mod Commands

@@ -1,0 +1,3 @@
+-- Laws of forms.
+pub mod Fills
+pub mod Unique

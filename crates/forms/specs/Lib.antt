@@ -1,0 +1,2 @@
+-- Rows as data.
+pub mod Forms

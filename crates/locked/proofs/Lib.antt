@@ -1,0 +1,3 @@
+-- Laws of the first locked block.
+pub mod First
+pub mod Unique

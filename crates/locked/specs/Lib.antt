@@ -1,0 +1,2 @@
+-- Why refusal 11 was given.
+pub mod Locked

@@ -1,0 +1,2 @@
+-- The page of forms.
+pub mod Page

@@ -1,0 +1,274 @@
+-- The page of forms: rows as data, a form a line. 01, Numbers the bench gives back, has each number in the words of its line there.
+use Prim.Native.Nat.{ℕ}
+use mathlib.Core.List.{List, [], _++_}
+use Rattle.rules.specs.Texts.{ascii}
+use Rattle.writing.specs.declared.Row.{Row}
+use Rattle.forms.specs.Forms.{filled}
+
+unfoldable pub page : List ℕ
+page =
+    ascii "%f  \n"  -- 0
+    ++ ascii "       \n"  -- 1
+    ++ ascii ": done\n"  -- 2
+    ++ ascii ": started, busy\n"  -- 3
+    ++ ascii ": refused %n\n"  -- 4
+    ++ ascii ":\n"  -- 5
+    ++ ascii " %n bytes:\n"  -- 6
+    ++ ascii "%>\n"  -- 7
+    ++ ascii " .. %n bytes\n"  -- 8
+    ++ ascii " .. over 65536 bytes\n"  -- 9
+    ++ ascii " > %n\n"  -- 10
+    ++ ascii " > over 65536\n"  -- 11
+    ++ ascii "done\n"  -- 12
+    ++ ascii "cut %n\n"  -- 13
+    ++ ascii "new\n"  -- 14
+    ++ ascii "a new chip, all memory FF\n"  -- 15
+    ++ ascii " ended\n"  -- 16
+    ++ ascii " cut after %n of %n\n"  -- 17
+    ++ ascii " cut before it acted\n"  -- 18
+    ++ ascii " cut after it acted\n"  -- 19
+    ++ ascii "nothing ran; power-up\n"  -- 20
+    ++ ascii "refused %n\n"  -- 21
+    ++ ascii " line  sent                    answer and reply\n"  -- 22
+    ++ ascii "#\n"  -- 23
+    ++ ascii "done\n"  -- 24
+    ++ ascii "record not well-formed, or a length outside \"Sizes\"\n"  -- 25
+    ++ ascii "frame empty\n"  -- 26
+    ++ ascii "opcode not listed, or not in this protocol\n"  -- 27
+    ++ ascii "length not as listed\n"  -- 28
+    ++ ascii "BUSY, and opcode not 05, 66, 99, B0\n"  -- 29
+    ++ ascii "99 with no enable\n"  -- 30
+    ++ ascii "6B or 32 with IOC 0\n"  -- 31
+    ++ ascii "suspension rule\n"  -- 32
+    ++ ascii "WEL needed and 0\n"  -- 33
+    ++ ascii "42 or 98 with WPLD 1; A5 or 85 with SEC 1; A5 to places 0 to 7\n"  -- 34
+    ++ ascii "20, D8, 02, 32 in a write-locked block; C7 with a write lock set\n"  -- 35
+    ++ ascii "completion with nothing running\n"  -- 36
+    ++ ascii "\n"  -- 37
+    ++ ascii "\n"  -- 38
+    ++ ascii "\n"  -- 39
+    ++ ascii "nothing\n"  -- 40
+    ++ ascii "erase of sector %n\n"  -- 41
+    ++ ascii "erase of block (bit %n)\n"  -- 42
+    ++ ascii "erase of the array\n"  -- 43
+    ++ ascii "program of page %n\n"  -- 44
+    ++ ascii "program of Security ID page %n\n"  -- 45
+    ++ ascii "lock of the Security ID\n"  -- 46
+    ++ ascii "write of the configuration, IOC %n, WPEN %n\n"  -- 47
+    ++ ascii "add of permanent bits %r\n"  -- 48
+    ++ ascii ", %a to %a\n"  -- 49
+    ++ ascii ", %p to %p\n"  -- 50
+    ++ ascii "\n"  -- 51
+    ++ ascii "a frame has at least its opcode\n"  -- 52
+    ++ ascii "%b is not listed\n"  -- 53
+    ++ ascii "%b is listed in SPI only\n"  -- 54
+    ++ ascii "%b is listed in SQI only\n"  -- 55
+    ++ ascii "%n byte%s sent, %b takes %n in SPI\n"  -- 56
+    ++ ascii "%n byte%s sent, %b takes %n in SQI\n"  -- 57
+    ++ ascii "%n byte%s sent, %b takes %n or more in SPI\n"  -- 58
+    ++ ascii "%n byte%s sent, %b takes %n or more in SQI\n"  -- 59
+    ++ ascii " runs\n"  -- 60
+    ++ ascii "66 must come right before 99\n"  -- 61
+    ++ ascii "IOC is 0; 01 sets it\n"  -- 62
+    ++ ascii "nothing runs\n"  -- 63
+    ++ ascii " cannot be put aside\n"  -- 64
+    ++ ascii " is suspended already\n"  -- 65
+    ++ ascii "nothing is suspended\n"  -- 66
+    ++ ascii " is suspended; 30 resumes it\n"  -- 67
+    ++ ascii " is suspended: no second erase\n"  -- 68
+    ++ ascii " is suspended and holds the page\n"  -- 69
+    ++ ascii " is suspended: no second program\n"  -- 70
+    ++ ascii " is suspended, and the range holds it\n"  -- 71
+    ++ ascii "WEL is 0; 06 first\n"  -- 72
+    ++ ascii "WPLD is 1 until power-up\n"  -- 73
+    ++ ascii "SEC is 1 for good\n"  -- 74
+    ++ ascii "a byte goes to places 000 to 007\n"  -- 75
+    ++ ascii "block %a to %a, bit %n, is locked; 98 or 42 opens it\n"  -- 76
+    ++ ascii "block %a to %a, bit %n, is locked, and WPLD is 1 until power-up\n"  -- 77
+    ++ ascii "block %a to %a, bit %n, is locked for good\n"  -- 78
+    ++ ascii "\n"  -- 79
+    ++ ascii "the array has %n bytes, not 2097152\n"  -- 80
+    ++ ascii "the Security ID has %n bytes, not 2048\n"  -- 81
+    ++ ascii "the frame has more than 65536 bytes\n"  -- 82
+    ++ ascii "the reply has more than 65536 bytes\n"  -- 83
+    ++ ascii "the reply has %n byte%s, the marks %n\n"  -- 84
+    ++ ascii "the protection register is 2^48 or more\n"  -- 85
+    ++ ascii "the permanent register is 2^48 or more\n"  -- 86
+    ++ ascii "a read lock is permanent\n"  -- 87
+    ++ ascii "a permanent bit is not set in the protection register\n"  -- 88
+    ++ ascii "the running sector, block or page is out of range\n"  -- 89
+    ++ ascii "the suspended sector, block or page is out of range\n"  -- 90
+    ++ ascii "suspended work is no sector erase, block erase or page program\n"  -- 91
+    ++ ascii "two erases, two programs, or an overlap with the suspended work\n"  -- 92
+    ++ ascii "the running range has a write lock\n"  -- 93
+    ++ ascii "the suspended range has a write lock\n"  -- 94
+    ++ ascii "Security ID work with SEC 1, or into places 000 to 007\n"  -- 95
+    ++ ascii "the buffer is not FF, and no program runs or is suspended\n"  -- 96
+    ++ ascii "\n"  -- 97
+    ++ ascii "\n"  -- 98
+    ++ ascii "\n"  -- 99
+    ++ ascii "no operation\n"  -- 100
+    ++ ascii "enable reset\n"  -- 101
+    ++ ascii "reset\n"  -- 102
+    ++ ascii "to SQI\n"  -- 103
+    ++ ascii "to SPI\n"  -- 104
+    ++ ascii "read status\n"  -- 105
+    ++ ascii "read configuration\n"  -- 106
+    ++ ascii "read protection\n"  -- 107
+    ++ ascii "read identity\n"  -- 108
+    ++ ascii "read identity\n"  -- 109
+    ++ ascii "read\n"  -- 110
+    ++ ascii "read\n"  -- 111
+    ++ ascii "read\n"  -- 112
+    ++ ascii "read Security ID\n"  -- 113
+    ++ ascii "write enable\n"  -- 114
+    ++ ascii "write disable\n"  -- 115
+    ++ ascii "erase sector\n"  -- 116
+    ++ ascii "erase block\n"  -- 117
+    ++ ascii "erase array\n"  -- 118
+    ++ ascii "page program\n"  -- 119
+    ++ ascii "page program\n"  -- 120
+    ++ ascii "program Security ID\n"  -- 121
+    ++ ascii "lock Security ID\n"  -- 122
+    ++ ascii "write configuration\n"  -- 123
+    ++ ascii "write protection\n"  -- 124
+    ++ ascii "set permanent bits\n"  -- 125
+    ++ ascii "lock protection down\n"  -- 126
+    ++ ascii "clear write locks\n"  -- 127
+    ++ ascii "suspend\n"  -- 128
+    ++ ascii "resume\n"  -- 129
+    ++ ascii "opcode %b\n"  -- 130
+    ++ ascii "\n"  -- 131
+    ++ ascii "\n"  -- 132
+    ++ ascii " %a\n"  -- 133
+    ++ ascii " %a, %n byte%s\n"  -- 134
+    ++ ascii " %r\n"  -- 135
+    ++ ascii " %p\n"  -- 136
+    ++ ascii " %p, %n byte%s\n"  -- 137
+    ++ ascii " %b\n"  -- 138
+    ++ ascii "\n"  -- 139
+    ++ ascii "status %b\n"  -- 140
+    ++ ascii "BUSY: an operation runs\n"  -- 141
+    ++ ascii "WEL: writes are enabled\n"  -- 142
+    ++ ascii "WSE: an erase is suspended\n"  -- 143
+    ++ ascii "WSP: a program is suspended\n"  -- 144
+    ++ ascii "WPLD: protection is locked down until power-up\n"  -- 145
+    ++ ascii "SEC: the Security ID is locked for good\n"  -- 146
+    ++ ascii "configuration %b\n"  -- 147
+    ++ ascii "IOC: quad input and output on\n"  -- 148
+    ++ ascii "BPNV: no permanent bit is set\n"  -- 149
+    ++ ascii "WPEN: the WP# pin is enabled\n"  -- 150
+    ++ ascii "protocol SPI\n"  -- 151
+    ++ ascii "protocol SQI\n"  -- 152
+    ++ ascii ", reset enabled\n"  -- 153
+    ++ ascii ", reset not enabled\n"  -- 154
+    ++ ascii "no bit is set\n"  -- 155
+    ++ ascii "running: \n"  -- 156
+    ++ ascii "suspended: \n"  -- 157
+    ++ ascii "protection %r, permanent %r\n"  -- 158
+    ++ ascii "%a to %a  \n"  -- 159
+    ++ ascii "open\n"  -- 160
+    ++ ascii "write-locked\n"  -- 161
+    ++ ascii "read-locked\n"  -- 162
+    ++ ascii "write-locked, read-locked\n"  -- 163
+    ++ ascii "permanent\n"  -- 164
+    ++ ascii "write-locked for good\n"  -- 165
+    ++ ascii "read-locked, permanent\n"  -- 166
+    ++ ascii "write-locked for good, read-locked\n"  -- 167
+    ++ ascii "locked down: WPLD 1\n"  -- 168
+    ++ ascii "not locked down: WPLD 0\n"  -- 169
+    ++ ascii "dump %a, %n byte%s\n"  -- 170
+    ++ ascii "dump of the Security ID %p, %n byte%s\n"  -- 171
+    ++ ascii "wrong: \n"  -- 172
+    ++ ascii "the line ends too early\n"  -- 173
+    ++ ascii "\"\n"  -- 174
+    ++ ascii "..\n"  -- 175
+    ++ ascii "\" at column %n\n"  -- 176
+    ++ ascii "allowed: \n"  -- 177
+    ++ ascii "hint: \n"  -- 178
+    ++ ascii "a byte is two hex digits, as 06\n"  -- 179
+    ++ ascii "bytes stand apart, as DE AD BE EF\n"  -- 180
+    ++ ascii "words are lower case, as done\n"  -- 181
+    ++ ascii "expected from +%o\n"  -- 182
+    ++ ascii "at +%o: the chip gave \n"  -- 183
+    ++ ascii ", the script expects \n"  -- 184
+    ++ ascii "the script expects %n byte%s, the reply has %n\n"  -- 185
+    ++ ascii "the script expects done\n"  -- 186
+    ++ ascii "the script expects refused %n\n"  -- 187
+    ++ ascii "the script expects the reply kept\n"  -- 188
+    ++ ascii "strict: the script expects no refusal\n"  -- 189
+    ++ ascii "the script expects %n byte%s, the dump has %n\n"  -- 190
+    ++ ascii "at %a: the memory has %b, the script expects %b\n"  -- 191
+    ++ ascii "%n event%s, %n refused, %n difference%s\n"  -- 192
+    ++ ascii ", %n wrong line%s\n"  -- 193
+    ++ ascii "a script without an event checks nothing\n"  -- 194
+    ++ ascii "+%o\n"  -- 195
+    ++ ascii ".. %n more byte%s; the line \"full\" shows all\n"  -- 196
+    ++ ascii "%a\n"  -- 197
+    ++ ascii "  |\n"  -- 198
+    ++ ascii "|\n"  -- 199
+    ++ ascii "%b\n"  -- 200
+    ++ ascii "unknown %b\n"  -- 201
+    ++ ascii "any byte\n"  -- 202
+    ++ ascii "the script expects at most 2 bytes of status\n"  -- 203
+    ++ ascii "the records differ from the line\n"  -- 204
+    ++ ascii "%n script%s: \n"  -- 205
+    ++ ascii "%f \n"  -- 206
+    ++ ascii "\n"  -- 207
+    ++ ascii "fill %a, %n byte%s of %b\n"  -- 208
+    ++ ascii "fill of the Security ID %p, %n byte%s of %b\n"  -- 209
+    ++ ascii "buffer from place %n, %n byte%s of %b\n"  -- 210
+    ++ ascii "lent: %n bytes of the array, %n of the Security ID\n"  -- 211
+    ++ ascii "the record is set as the line says\n"  -- 212
+    ++ ascii "the memories hold a pattern\n"  -- 213
+    ++ ascii "strict: a refusal that no ! expects is a difference\n"  -- 214
+    ++ ascii "long replies in full\n"  -- 215
+    ++ ascii "long replies cut after 64 bytes\n"  -- 216
+    ++ ascii "the record is as the line says\n"  -- 217
+    ++ ascii "the record is not as the line says\n"  -- 218
+    ++ ascii "%n difference%s in all\n"  -- 219
+    ++ ascii "        in all: \n"  -- 220
+    ++ ascii "\n"  -- 221
+    ++ ascii "a byte, >, done, cut, status, work, locks, dump, new, fill, ..\n"  -- 222
+    ++ ascii "a byte, * how often, > a count, ! a number, # remark\n"  -- 223
+    ++ ascii "how often, from 1\n"  -- 224
+    ++ ascii "a byte, > a count, ! a number, # remark\n"  -- 225
+    ++ ascii "a count of reply bytes, in decimal\n"  -- 226
+    ++ ascii "/ a count, = expected bytes, ! a number, # remark\n"  -- 227
+    ++ ascii "a count of mark bytes, in decimal\n"  -- 228
+    ++ ascii "= expected bytes, ! a number, # remark\n"  -- 229
+    ++ ascii "a byte, ??, ~ a byte, kept\n"  -- 230
+    ++ ascii "a byte, ??, ~ a byte, * how often, ! a number, # remark\n"  -- 231
+    ++ ascii "a byte\n"  -- 232
+    ++ ascii "how often, from 1\n"  -- 233
+    ++ ascii "a byte, ??, ~ a byte, ! a number, # remark\n"  -- 234
+    ++ ascii "a number from 0 (done) to 12\n"  -- 235
+    ++ ascii "nothing more, or # remark\n"  -- 236
+    ++ ascii "! a number, # remark\n"  -- 237
+    ++ ascii "a count of bytes, in decimal\n"  -- 238
+    ++ ascii "= expected bytes, # remark\n"  -- 239
+    ++ ascii "a byte, ??, ~ a byte\n"  -- 240
+    ++ ascii "a byte, ??, ~ a byte, * how often, # remark\n"  -- 241
+    ++ ascii "a byte\n"  -- 242
+    ++ ascii "how often, from 1\n"  -- 243
+    ++ ascii "a byte, ??, ~ a byte, # remark\n"  -- 244
+    ++ ascii "id, or a place of the array, one to six hex digits\n"  -- 245
+    ++ ascii "a place of the Security ID, one to six hex digits\n"  -- 246
+    ++ ascii "a count of bytes, in decimal\n"  -- 247
+    ++ ascii "id, or a place of the array, one to six hex digits\n"  -- 248
+    ++ ascii "a place, one to six hex digits\n"  -- 249
+    ++ ascii "a count of bytes, in decimal\n"  -- 250
+    ++ ascii "a byte\n"  -- 251
+    ++ ascii "how many bytes of the array are lent, in decimal\n"  -- 252
+    ++ ascii "how many bytes of the Security ID are lent, in decimal\n"  -- 253
+    ++ ascii "protect, perm, run, aside, sqi, wel, ioc, wpen, wpld, sec, enable\n"  -- 254
+    ++ ascii "a register, one to sixteen hex digits\n"  -- 255
+    ++ ascii "a register, one to sixteen hex digits\n"  -- 256
+    ++ ascii "sector, block, array, page, id, lock, config, bits\n"  -- 257
+    ++ ascii "sector, block, array, page, id, lock, config, bits\n"  -- 258
+    ++ ascii "its number, one to sixteen hex digits\n"  -- 259
+    ++ ascii "its number, one to sixteen hex digits\n"  -- 260
+
+-- form n with three numbers, behind a row
+unfoldable pub form : ℕ → ℕ → ℕ → ℕ → Row → Row
+form n a b c r = filled page r n a b c

@@ -1,0 +1,2 @@
+-- Why refusal 8 was given.
+pub mod Suspension

@@ -1,0 +1,4 @@
+-- Laws of reasons.
+pub mod Reasons
+pub mod Sentences
+pub mod Unique

@@ -1,0 +1,2 @@
+-- Why a number was given.
+pub mod Why
