@@ -10,6 +10,7 @@ use expecting::Verdict;
 use rules::Chip;
 use script::Line;
 use script::Reading;
+pub use settings::arrange;
 ghost use mathlib.Core.Path.{_≡_};
 ghost use Rattle.playing.specs.Settings.{withBench};
 ghost use Rattle.playing.specs.Lines.{unjudged, begun, nextLine, wrongCounted, Played, withReading, Taken};

@@ -24,28 +24,7 @@ pub fn draw(seed: u64, question: u64, n: u64) -> u64 {
     (seed_of(seed, question) >> 8) % n
 }
 
-pub fn draw_place(seed: u64, question: u64, n: usize) -> usize {
-    draw(seed, question, n as u64) as usize
-}
-
-pub fn draw_byte(seed: u64, question: u64) -> u8 {
-    (draw(seed, question, 256) % 256) as u8
-}
-
 // Once in n.
 pub fn once_in(seed: u64, question: u64, n: u64) -> bool {
     draw(seed, question, n) == 0
-}
-
-// 48 random bits: none, one, few, half or all of them.
-pub fn draw_bits(seed: u64, question: u64) -> u64 {
-    let one = seed_of(seed, question) >> 16;
-    let two = seed_of(one, question) >> 16;
-    match draw(two, question, 8) {
-        0 | 1 | 2 => 0,
-        3 | 4 => 1 << (two % 48),
-        5 => one & two,
-        6 => one,
-        _ => 0xFFFFFFFFFFFF,
-    }
 }

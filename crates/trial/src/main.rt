@@ -1,115 +1,293 @@
-// Both models of the bench chip, tried side by side: the scripts that the arguments name against the values of document 01, and
-// random runs against each other. A difference is printed as a script that can be played again.
-mod bench;
+// Both models of the bench chip, side by side: the scripts that the arguments name, against what they expect and each other; then random
+// lines of the same language, against each other. A difference in a random run is printed as a script that can be played again.
+// Differences planted in the second model show that each comparison is made.
 mod bytes;
-mod chips;
-mod counts;
 mod dice;
-mod frames;
-mod lines;
+mod feed;
 mod mapping;
-mod places;
-mod play;
+mod other;
 mod report;
-mod runs;
-mod say;
-mod series;
-mod tally;
+mod source;
 
-use bench::Identity;
-use bench::Memory;
-use series::Totals;
+use bytes::at;
+use feed::Feed;
+use feed::Input;
+use playing::Playing;
+use report::Tally;
+use script::Line;
+use second::Flat;
+use source::Index;
 
-fn counted(t: Totals, c: play::Counts) -> Totals {
-    Totals {
-        events: std::num::wrapping_add_u64(t.events, c.events),
-        differences: std::num::wrapping_add_u64(t.differences, c.differences),
+type Memory = [u8; 2097153];
+
+type Identity = [u8; 2049];
+
+type Bytes = [u8; 65537];
+
+// The bytes that come, and the two models.
+struct Trial {
+    feed: Feed,
+    now: Playing,
+    flat: Flat,
+}
+
+// A line of the whole language that reaches the chip.
+fn is_event(verb: u8) -> bool {
+    match verb {
+        1 | 2 | 3 => true,
+        _ => false,
     }
 }
 
-// A script that cannot be opened counts as a difference.
-fn file_tried(
-    t: Totals,
-    name: &[u8],
-    tally: &mut [u64; 1024],
-    array: &mut Memory,
-    security: &mut Identity,
-    array2: &mut Memory,
-    security2: &mut Identity,
-) -> Totals {
-    let fd = os::open_read(name);
-    if fd < 0 {
-        say::say(name);
-        say::say(b" cannot be opened\n");
-        return Totals {
-            events: t.events,
-            differences: std::num::wrapping_add_u64(t.differences, 1),
-        };
+fn plant_of(f: Feed, verb: u8) -> u64 {
+    if is_event(verb) {
+        return f.plant;
     }
-    let c = play::script_played(fd, name, tally, array, security, array2, security2);
-    libc::close(fd);
-    counted(t, c)
+    0
 }
 
-fn argument_tried(
-    t: Totals,
-    i: usize,
-    tally: &mut [u64; 1024],
-    array: &mut Memory,
-    security: &mut Identity,
-    array2: &mut Memory,
-    security2: &mut Identity,
-) -> Totals {
-    let mut name = io::buffer();
-    let n = os::arg(i, &mut name);
-    file_tried(t, &name[..n], tally, array, security, array2, security2)
-}
-
-fn scripts_tried(
-    tally: &mut [u64; 1024],
-    array: &mut Memory,
-    security: &mut Identity,
-    array2: &mut Memory,
-    security2: &mut Identity,
-) -> Totals {
-    let n = os::arg_count();
-    let mut t = Totals {
-        events: 0,
-        differences: 0,
-    };
-    let mut i: usize = 1;
-    while i < n {
-        let at = i;
-        i += 1;
-        t = argument_tried(t, at, tally, array, security, array2, security2);
+// What is not as it should be after a line is told, and counted; of random lines and planted differences it is only counted, but where they are printed.
+fn told(f: Feed, before: Playing, now: Playing, odd: u64) -> Feed {
+    let mut next = f;
+    let unmet = report::unmet(before) != report::unmet(now);
+    let bench = now.bench;
+    if feed::shows(f) {
+        report::line_said(f.word, bench.line, unmet, odd);
     }
-    t
+    if odd != 0 {
+        next.odd = std::num::wrapping_add_u64(f.odd, 1);
+    }
+    next
 }
 
-// The scripts, then the random runs: from new chips, from well-formed records, from broken ones.
+// A case is counted, or an event of a random run.
+fn counted(
+    f: Feed,
+    before: Flat,
+    l: Line,
+    number: u8,
+    tally: &mut Tally,
+    frame: &Bytes,
+    remark: &Bytes,
+) -> Feed {
+    let mut next = f;
+    if f.random {
+        if is_event(l.verb) {
+            report::event_counted(tally, before, l, frame, number);
+        }
+        return next;
+    }
+    if l.verb == 4 {
+        next.cases = std::num::wrapping_add_u64(f.cases, 1);
+        report::case_counted(tally, l, remark);
+    }
+    next
+}
+
+// A line that the first model has played.
+fn tried(
+    t: Trial,
+    now: Playing,
+    tally: &mut Tally,
+    array: &Memory,
+    security: &Identity,
+    frame: &Bytes,
+    remark: &Bytes,
+    reply: &Bytes,
+    marks: &Bytes,
+    array2: &mut Memory,
+    security2: &mut Identity,
+    reply2: &mut Bytes,
+    marks2: &mut Bytes,
+) -> Trial {
+    let reading = now.reading;
+    let l = script::line_of(reading);
+    let flat = t.flat;
+    let f = t.feed;
+    let s = other::played(flat, now, l, array2, security2, frame, reply2, marks2);
+    let s = other::planted(plant_of(f, l.verb), s, array2, security2, reply2, marks2);
+    let odd = other::odd(
+        now,
+        l,
+        s,
+        feed::is_whole(f),
+        array,
+        security,
+        reply,
+        marks,
+        array2,
+        security2,
+        reply2,
+        marks2,
+    );
+    let f = counted(f, flat, l, s.number, tally, frame, remark);
+    let before = t.now;
+    let feed = told(f, before, now, odd);
+    let flat = s.state;
+    Trial { feed, now, flat }
+}
+
+// A script's own lines begin on a bench of their own.
+fn fresh(f: Feed, now: Playing) -> Playing {
+    if f.fresh {
+        return playing::start(false);
+    }
+    now
+}
+
+// A byte is taken, or more come.
+fn turn(
+    t: Trial,
+    tally: &mut Tally,
+    input: &mut Input,
+    forms: &mut Input,
+    index: &mut Index,
+    array: &mut Memory,
+    security: &mut Identity,
+    frame: &mut Bytes,
+    expected: &mut Bytes,
+    known: &mut Bytes,
+    remark: &mut Bytes,
+    reply: &mut Bytes,
+    marks: &mut Bytes,
+    array2: &mut Memory,
+    security2: &mut Identity,
+    reply2: &mut Bytes,
+    marks2: &mut Bytes,
+) -> Trial {
+    let mut next = t;
+    let f = t.feed;
+    let now = t.now;
+    if f.taken < f.came {
+        let b = at(input, f.taken);
+        let now = playing::take(
+            now,
+            b,
+            array,
+            security,
+            frame,
+            expected,
+            known,
+            remark,
+            reply,
+            marks,
+        );
+        let feed = feed::took(f);
+        next.feed = feed;
+        let reading = now.reading;
+        if reading.ended {
+            return tried(
+                next,
+                now,
+                tally,
+                array,
+                security,
+                frame,
+                remark,
+                reply,
+                marks,
+                array2,
+                security2,
+                reply2,
+                marks2,
+            );
+        }
+        next.now = now;
+        return next;
+    }
+    let now = fresh(f, now);
+    let f = feed::started(f);
+    let feed = feed::more(f, now, tally, input, forms, index);
+    next.feed = feed;
+    next.now = now;
+    next
+}
+
+// A proved loop has to end, and nothing says that an input does: so it counts its turns down, from a number that no run uses up.
+fn turned(
+    tally: &mut Tally,
+    input: &mut Input,
+    forms: &mut Input,
+    index: &mut Index,
+    array: &mut Memory,
+    security: &mut Identity,
+    frame: &mut Bytes,
+    expected: &mut Bytes,
+    known: &mut Bytes,
+    remark: &mut Bytes,
+    reply: &mut Bytes,
+    marks: &mut Bytes,
+    array2: &mut Memory,
+    security2: &mut Identity,
+    reply2: &mut Bytes,
+    marks2: &mut Bytes,
+) {
+    let mut t = begun();
+    let mut turns = u64::MAX;
+    while turns > 0 && t.feed.phase != feed::OVER {
+        turns -= 1;
+        t = turn(
+            t,
+            tally,
+            input,
+            forms,
+            index,
+            array,
+            security,
+            frame,
+            expected,
+            known,
+            remark,
+            reply,
+            marks,
+            array2,
+            security2,
+            reply2,
+            marks2,
+        );
+    }
+}
+
+fn begun() -> Trial {
+    let feed = feed::first();
+    let now = playing::start(false);
+    let flat = second::fresh();
+    Trial { feed, now, flat }
+}
+
 fn main() {
     let mut tally = [0u64; 1024];
+    let mut input = [0u8; 65536];
+    let mut forms = [0u8; 65536];
+    let mut index = [0u64; 4096];
     let mut array = [255u8; 2097153];
     let mut security = [255u8; 2049];
+    let mut frame = [0u8; 65537];
+    let mut expected = [0u8; 65537];
+    let mut known = [0u8; 65537];
+    let mut remark = [0u8; 65537];
+    let mut reply = [0u8; 65537];
+    let mut marks = [0u8; 65537];
     let mut array2 = [255u8; 2097153];
     let mut security2 = [255u8; 2049];
-    let t = scripts_tried(
+    let mut reply2 = [0u8; 65537];
+    let mut marks2 = [0u8; 65537];
+    turned(
         &mut tally,
+        &mut input,
+        &mut forms,
+        &mut index,
         &mut array,
         &mut security,
+        &mut frame,
+        &mut expected,
+        &mut known,
+        &mut remark,
+        &mut reply,
+        &mut marks,
         &mut array2,
         &mut security2,
+        &mut reply2,
+        &mut marks2,
     );
-    let all = series::all_series(
-        t,
-        &mut tally,
-        &mut array,
-        &mut security,
-        &mut array2,
-        &mut security2,
-    );
-    report::counts_said(&tally);
-    say::say_number(b"", all.events);
-    say::say_number(b" events compared, ", all.differences);
-    say::say(b" differences\n");
 }

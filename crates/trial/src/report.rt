@@ -1,114 +1,219 @@
-// What is said of the counts: a kind that came up less than a hundred times is named, and so the output differs from the
-// expected one.
-use crate::chips::WAYS;
-use crate::counts::BESIDE;
-use crate::counts::BROKEN;
-use crate::counts::BROKEN_TAKEN;
-use crate::counts::CUTS;
-use crate::counts::FRAMES;
-use crate::counts::LONG;
-use crate::counts::NUMBERS;
-use crate::counts::PROTOCOLS;
-use crate::counts::RESETS;
-use crate::counts::RUNNING;
-use crate::counts::SOUND_REFUSED;
-use crate::counts::STARTS;
-use crate::counts::SUSPENDED;
-use crate::counts::TAKEN;
-use crate::frames::listed;
-use crate::say::say;
-use crate::say::say_number;
-use crate::tally::count;
-use crate::tally::lines_tried;
+// What came up in the random lines: a kind that came up less than a hundred times is named, and so the output differs from the expected one.
+use crate::bytes::at;
+use playing::Playing;
+use script::Line;
+use second::Flat;
 
-const MANY: u64 = 100;
+pub type Tally = [u64; 1024];
 
-// Whether the kind numbered i came up often; if not, it is named.
-fn often(tally: &[u64], place: usize, name: &[u8], i: u64) -> bool {
-    let n = count(tally, place);
-    if MANY <= n {
-        return true;
+// Places of the tally: frames by opcode, done ones, events by number, by what runs, by what is suspended; the checklist's lines.
+const SENT: usize = 0;
+
+const DONE: usize = 256;
+
+const NUMBERS: usize = 512;
+
+const RUNNING: usize = 530;
+
+const SUSPENDED: usize = 540;
+
+const BESIDE: usize = 550;
+
+const LINES: usize = 600;
+
+fn plus(base: usize, n: usize) -> usize {
+    std::num::wrapping_add_usize(base, n)
+}
+
+fn bump(tally: &mut Tally, i: usize) {
+    if i < 1024 {
+        let n = tally[i];
+        tally[i] = std::num::wrapping_add_u64(n, 1);
     }
-    say(b"too seldom: ");
+}
+
+fn count(tally: &Tally, i: usize) -> u64 {
+    if i < 1024 {
+        return tally[i];
+    }
+    0
+}
+
+// An event of a random run, with the record before it.
+pub fn event_counted(tally: &mut Tally, before: Flat, l: Line, frame: &[u8], number: u8) {
+    bump(tally, plus(NUMBERS, number as usize));
+    bump(tally, plus(RUNNING, before.run_kind as usize));
+    bump(tally, plus(SUSPENDED, before.sus_kind as usize));
+    if before.sus_kind != 0 {
+        bump(tally, plus(BESIDE, before.run_kind as usize));
+    }
+    if l.sent != 0 {
+        let opcode = at(frame, 0) as usize;
+        bump(tally, plus(SENT, opcode));
+        if number == 0 {
+            bump(tally, plus(DONE, opcode));
+        }
+    }
+}
+
+// The checklist's line that a case names, in front of its remark.
+pub fn case_counted(tally: &mut Tally, l: Line, remark: &[u8]) {
+    let mut number: usize = 0;
+    let mut i: usize = 1;
+    while i < l.remark {
+        let b = at(remark, i);
+        if (b < 48) | (57 < b) {
+            bump(tally, plus(LINES, number));
+            return;
+        }
+        number = plus(number % 1000 * 10, (b % 16) as usize);
+        i += 1;
+    }
+}
+
+// ---- what is said
+
+pub fn say(text: &[u8]) {
+    io::write_all(1, text);
+}
+
+pub fn say_number(text: &[u8], n: u64) {
+    io::write_all(1, text);
+    io::print_decimal(1, n);
+}
+
+fn seldom_said(name: &[u8], kind: u8, n: u64) {
     say(name);
-    say_number(b", number ", i);
-    say_number(b": ", n);
-    say(b"\n");
-    false
+    say_number(b", too seldom: ", kind as u64);
+    say_number(b" came ", n);
+    say(b" times\n");
 }
 
-fn say_often(name: &[u8], kinds: u64, all: bool) {
-    if all {
-        say(name);
-        say_number(b": ", kinds);
-        say(b" kinds, each many times\n");
-    }
-}
-
-// The kinds counted at a run of places.
-fn kinds_said(tally: &[u64], base: usize, kinds: u64, name: &[u8]) {
-    let mut all = true;
-    let mut i: u64 = 0;
-    while i < kinds {
-        let place = std::num::wrapping_add_usize(base, i as usize);
-        all = often(tally, place, name, i) & all;
-        i += 1;
-    }
-    say_often(name, kinds, all);
-}
-
-// The listed opcodes.
-fn opcodes_said(tally: &[u64], base: usize, name: &[u8]) {
-    let mut all = true;
+// How many of the kinds came up too seldom; these are named.
+fn seldom(tally: &Tally, base: usize, kinds: &[u8], name: &[u8]) -> u64 {
+    let mut seldom: u64 = 0;
     let mut i: usize = 0;
-    while i < 30 {
-        let opcode = listed(i);
-        let place = std::num::wrapping_add_usize(base, opcode as usize);
-        all = often(tally, place, name, opcode as u64) & all;
-        i += 1;
-    }
-    say_often(name, 30, all);
-}
-
-// The lines 1 to 81 of the checklist.
-fn lines_said(tally: &[u64]) {
-    let mut missing: u64 = 0;
-    let mut i: u64 = 1;
-    while i < 82 {
-        if count(tally, lines_tried(i)) == 0 {
-            say_number(b"no case tries line ", i);
-            say(b"\n");
-            missing = std::num::wrapping_add_u64(missing, 1);
+    while i < kinds.len() {
+        let n = count(tally, plus(base, at(kinds, i) as usize));
+        if n < 100 {
+            seldom_said(name, at(kinds, i), n);
+            seldom = std::num::wrapping_add_u64(seldom, 1);
         }
         i += 1;
     }
-    say_number(b"checklist: lines 1 to 81, not tried: ", missing);
+    seldom
+}
+
+fn kinds_said(tally: &Tally, base: usize, kinds: &[u8], name: &[u8]) {
+    let n = seldom(tally, base, kinds, name);
+    say(name);
+    say_number(b": ", kinds.len() as u64);
+    say_number(b" kinds, too seldom ", n);
     say(b"\n");
 }
 
-// Counts of what must never be.
-fn never_said(tally: &[u64]) {
-    say_number(b"broken records taken: ", count(tally, BROKEN_TAKEN));
-    say_number(
-        b", well-formed records refused: ",
-        count(tally, SOUND_REFUSED),
+fn untried_said(i: usize) {
+    say_number(b"the checklist's line without a case: ", i as u64);
+    say(b"\n");
+}
+
+// How many lines of the checklist have no case; these are named.
+fn untried(tally: &Tally) -> u64 {
+    let mut n: u64 = 0;
+    let mut i: usize = 1;
+    while i < 82 {
+        if count(tally, plus(LINES, i)) == 0 {
+            untried_said(i);
+            n = std::num::wrapping_add_u64(n, 1);
+        }
+        i += 1;
+    }
+    n
+}
+
+pub fn counts_said(tally: &Tally) {
+    let listed =
+        b"\x00\x66\x99\x38\xff\x05\x35\x72\x9f\xaf\x03\x0b\x6b\x88\x06\x04\x20\xd8\xc7\x02\x32\xa5\x85\x01\x42\xe8\x8d\x98\xb0\x30";
+    let n = untried(tally);
+    say_number(b"checklist: lines 1 to 81, not tried: ", n);
+    say(b"\n");
+    kinds_said(tally, SENT, listed, b"opcodes sent");
+    kinds_said(tally, DONE, listed, b"opcodes done");
+    kinds_said(
+        tally,
+        NUMBERS,
+        b"\x00\x01\x02\x03\x04\x05\x06\x07\x08\x09\x0a\x0b\x0c",
+        b"numbers",
     );
+    kinds_said(
+        tally,
+        RUNNING,
+        b"\x00\x01\x02\x03\x04\x05\x06\x07\x08",
+        b"running work",
+    );
+    kinds_said(tally, SUSPENDED, b"\x00\x01\x02\x04", b"suspended work");
+    kinds_said(
+        tally,
+        BESIDE,
+        b"\x00\x01\x02\x04\x05",
+        b"work beside a suspension",
+    );
+}
+
+// ---- a line
+
+// What of a script is not as it should be: expectations that are not met, wrong lines.
+pub fn unmet(p: Playing) -> u64 {
+    let b = p.bench;
+    let t = b.tally;
+    std::num::wrapping_add_u64(t.differences, t.wrong)
+}
+
+pub fn events(p: Playing) -> u64 {
+    let b = p.bench;
+    let t = b.tally;
+    t.events
+}
+
+fn named(odd: u64, bit: u64, name: &[u8]) {
+    if odd & bit != 0 {
+        say(name);
+    }
+}
+
+// In what the models differ.
+fn odd_said(odd: u64) {
+    say(b"the models differ:");
+    named(odd, 1, b" number");
+    named(odd, 2, b" record");
+    named(odd, 4, b" reply");
+    named(odd, 8, b" marks");
+    named(odd, 16, b" array");
+    named(odd, 32, b" Security ID");
     say(b"\n");
 }
 
-pub fn counts_said(tally: &[u64; 1024]) {
-    lines_said(tally);
-    kinds_said(tally, STARTS, 3, b"starts");
-    opcodes_said(tally, FRAMES, b"opcodes sent");
-    opcodes_said(tally, TAKEN, b"opcodes done");
-    kinds_said(tally, NUMBERS, 13, b"numbers");
-    kinds_said(tally, RUNNING, 9, b"running work");
-    kinds_said(tally, SUSPENDED, 4, b"suspended work");
-    kinds_said(tally, BESIDE, 1, b"work beside a suspension");
-    kinds_said(tally, PROTOCOLS, 2, b"protocols");
-    kinds_said(tally, LONG, 2, b"data longer than a page");
-    kinds_said(tally, CUTS, 7, b"cuts of running work");
-    kinds_said(tally, RESETS, 3, b"resets");
-    kinds_said(tally, BROKEN, WAYS as u64, b"broken records");
-    never_said(tally);
+pub fn say_word(i: usize) {
+    let mut name = io::buffer();
+    let n = os::arg(i, &mut name);
+    say(&name[..n]);
+}
+
+fn place_said(word: usize, line: u64) {
+    say(b"# ");
+    say_word(word);
+    say_number(b":", line);
+    say(b": ");
+}
+
+// What is wrong after a line of the script that an argument names.
+pub fn line_said(word: usize, line: u64, unmet: bool, odd: u64) {
+    if unmet {
+        place_said(word, line);
+        say(b"not what it expects\n");
+    }
+    if odd != 0 {
+        place_said(word, line);
+        odd_said(odd);
+    }
 }

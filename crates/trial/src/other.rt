@@ -1,0 +1,218 @@
+// The second model beside the first: the same line, with memories of its own.
+use crate::bytes::same;
+use crate::bytes::same_front;
+use crate::bytes::within;
+use crate::mapping::flat_of;
+use crate::mapping::same_records;
+use playing::Deed;
+use playing::Event;
+use playing::Playing;
+use script::Line;
+use second::Flat;
+use second::Step;
+
+fn chip_now(p: Playing) -> Flat {
+    let b = p.bench;
+    let c = b.chip;
+    flat_of(c)
+}
+
+// How many marks a frame wants: as many as reply bytes, where it does not say.
+fn marks_wanted(slots: [u64; 24]) -> usize {
+    if slots[2] == 0 {
+        return slots[1] as usize;
+    }
+    slots[3] as usize
+}
+
+// Reply and marks hold 5A and 07 before a frame, as the first model's do.
+fn sent(
+    f: Flat,
+    array: &mut [u8],
+    security: &mut [u8],
+    sent: &[u8],
+    reply: &mut [u8],
+    marks: &mut [u8],
+) -> Step {
+    let r = reply.len();
+    let m = marks.len();
+    memory::set_all(reply, 0, r, 0x5A);
+    memory::set_all(marks, 0, m, 0x07);
+    second::frame(f, array, security, sent, reply, marks)
+}
+
+fn frame(
+    f: Flat,
+    l: Line,
+    array: &mut [u8],
+    security: &mut [u8],
+    bytes: &[u8],
+    reply: &mut [u8],
+    marks: &mut [u8],
+) -> Step {
+    let slots = l.slots;
+    let n = within(l.sent, bytes);
+    let r = within(slots[1] as usize, reply);
+    let m = within(marks_wanted(slots), marks);
+    sent(
+        f,
+        array,
+        security,
+        &bytes[..n],
+        &mut reply[..r],
+        &mut marks[..m],
+    )
+}
+
+// As much of the memories as the first model was lent.
+fn event(
+    f: Flat,
+    e: Event,
+    p: Playing,
+    l: Line,
+    array: &mut [u8],
+    security: &mut [u8],
+    sent: &[u8],
+    reply: &mut [u8],
+    marks: &mut [u8],
+) -> Step {
+    let b = p.bench;
+    let slots = l.slots;
+    let a = within(b.array, array);
+    let s = within(b.security, security);
+    match e {
+        Event::Frame => frame(
+            f,
+            l,
+            &mut array[..a],
+            &mut security[..s],
+            sent,
+            reply,
+            marks,
+        ),
+        Event::Completion => second::completion(f, &mut array[..a], &mut security[..s]),
+        Event::Cut => second::power_cut(f, &mut array[..a], &mut security[..s], slots[7]),
+    }
+}
+
+// The line on the second model. What is set is set here too, and a question asks the first one.
+pub fn played(
+    f: Flat,
+    p: Playing,
+    l: Line,
+    array: &mut [u8; 2097153],
+    security: &mut [u8; 2049],
+    sent: &[u8; 65537],
+    reply: &mut [u8; 65537],
+    marks: &mut [u8; 65537],
+) -> Step {
+    let slots = l.slots;
+    let deed = playing::deed_of(l.verb);
+    match deed {
+        Deed::Event(e) => event(f, e, p, l, array, security, sent, reply, marks),
+        Deed::Setting(s) => {
+            playing::arrange(s, slots, array, security);
+            Step {
+                number: 0,
+                state: chip_now(p),
+            }
+        }
+        Deed::Nothing => Step {
+            number: p.number,
+            state: f,
+        },
+        Deed::Question(_) => Step {
+            number: p.number,
+            state: f,
+        },
+        Deed::Wrong => Step {
+            number: p.number,
+            state: f,
+        },
+    }
+}
+
+// ---- a planted difference
+
+fn turn(s: &mut [u8]) {
+    if 0 < s.len() {
+        s[0] = s[0] ^ 1;
+    }
+}
+
+fn planted_step(kind: u64, s: Step) -> Step {
+    let mut state = s.state;
+    if kind == 2 {
+        state.wel = !state.wel;
+    }
+    let number = if kind == 1 { s.number ^ 1 } else { s.number };
+    Step { number, state }
+}
+
+// In the number, the record, the reply, the marks, the array or the Security ID: the comparisons in their order.
+pub fn planted(
+    kind: u64,
+    s: Step,
+    array: &mut [u8; 2097153],
+    security: &mut [u8; 2049],
+    reply: &mut [u8; 65537],
+    marks: &mut [u8; 65537],
+) -> Step {
+    match kind {
+        3 => turn(reply),
+        4 => turn(marks),
+        5 => turn(array),
+        6 => turn(security),
+        _ => {}
+    }
+    planted_step(kind, s)
+}
+
+// ---- the comparisons
+
+fn bit(same: bool, value: u64) -> u64 {
+    if same {
+        return 0;
+    }
+    value
+}
+
+fn odd_memory(whole: bool, array: &[u8], security: &[u8], array2: &[u8], security2: &[u8]) -> u64 {
+    if !whole {
+        return 0;
+    }
+    bit(same(array, array2), 16) | bit(same(security, security2), 32)
+}
+
+fn odd_reply(l: Line, reply: &[u8], marks: &[u8], reply2: &[u8], marks2: &[u8]) -> u64 {
+    let slots = l.slots;
+    let r = slots[1] as usize;
+    let m = marks_wanted(slots);
+    bit(same_front(r, reply, reply2), 4) | bit(same_front(m, marks, marks2), 8)
+}
+
+fn odd_record(p: Playing, s: Step) -> u64 {
+    let b = p.bench;
+    let c = b.chip;
+    bit(p.number == s.number, 1) | bit(same_records(c, s.state), 2)
+}
+
+// In what the two differ after a line: a bit for each comparison.
+pub fn odd(
+    p: Playing,
+    l: Line,
+    s: Step,
+    whole: bool,
+    array: &[u8; 2097153],
+    security: &[u8; 2049],
+    reply: &[u8; 65537],
+    marks: &[u8; 65537],
+    array2: &[u8; 2097153],
+    security2: &[u8; 2049],
+    reply2: &[u8; 65537],
+    marks2: &[u8; 65537],
+) -> u64 {
+    odd_record(p, s)
+        | odd_reply(l, reply, marks, reply2, marks2)
+        | odd_memory(whole, array, security, array2, security2)
+}
