@@ -156,3 +156,35 @@ afterRunKind = 37
 -- after aside and a kind with a number
 abbrev pub afterAsideKind : ℕ
 afterAsideKind = 38
+
+-- after > 0: no reply, of which nothing can be expected
+abbrev pub afterNoReply : ℕ
+afterNoReply = 39
+
+-- after > 0 /
+abbrev pub afterNoReplySlash : ℕ
+afterNoReplySlash = 40
+
+-- after = of a frame and only ??, which expects nothing yet
+abbrev pub afterAny : ℕ
+afterAny = 41
+
+-- after these and *
+abbrev pub afterAnyStar : ℕ
+afterAnyStar = 42
+
+-- after these, * and how often
+abbrev pub afterAnyTimes : ℕ
+afterAnyTimes = 43
+
+-- after = of a question and only ??
+abbrev pub afterAnswerAny : ℕ
+afterAnswerAny = 44
+
+-- after these and *
+abbrev pub afterAnswerAnyStar : ℕ
+afterAnswerAnyStar = 45
+
+-- after these, * and how often
+abbrev pub afterAnswerAnyTimes : ℕ
+afterAnswerAnyTimes = 46

@@ -11,7 +11,7 @@ use Rattle.rules.specs.Texts.{ascii}
 use Rattle.grammar.specs.declared.Word.{Word}
 use Rattle.grammar.specs.declared.Entry.{Entry}
 use Rattle.grammar.specs.Words.{key, keyWith}
-use Rattle.grammar.specs.Places.{lineStart, afterByte, afterByteStar, afterBytes, afterReply, afterReplyCount, afterSlash, afterMarkCount, afterEqual, afterExpected, afterTilde, afterExpectedStar, afterExpectedTimes, afterRefuse, lineDone, afterEvent, afterCut, afterQuestion, afterAsked, afterAnswer, afterAnswerTilde, afterAnswerStar, afterAnswerTimes, afterDump, afterDumpId, afterDumpPlace, afterFill, afterFillId, afterFillPlace, afterFillCount, afterLend, afterLendArray, inFields, afterProtect, afterPerm, afterRun, afterAside, afterRunKind, afterAsideKind}
+use Rattle.grammar.specs.Places.{lineStart, afterByte, afterByteStar, afterBytes, afterReply, afterReplyCount, afterSlash, afterMarkCount, afterEqual, afterExpected, afterTilde, afterExpectedStar, afterExpectedTimes, afterRefuse, lineDone, afterEvent, afterCut, afterQuestion, afterAsked, afterAnswer, afterAnswerTilde, afterAnswerStar, afterAnswerTimes, afterDump, afterDumpId, afterDumpPlace, afterFill, afterFillId, afterFillPlace, afterFillCount, afterLend, afterLendArray, inFields, afterProtect, afterPerm, afterRun, afterAside, afterRunKind, afterAsideKind, afterNoReply, afterNoReplySlash, afterAny, afterAnyStar, afterAnyTimes, afterAnswerAny, afterAnswerAnyStar, afterAnswerAnyTimes}
 use Rattle.grammar.specs.Slots.{verb, wanted, marksGiven, marks, expecting, judged, refused, from, size, filling, ofId, protection, permanent, runKind, runNumber, asideKind, asideNumber, sqi, wel, ioc, wpen, wpld, sec, enable}
 use Rattle.grammar.specs.Verbs as verbs
 
@@ -150,17 +150,23 @@ table =
     ∷ row afterBytes (word "!") afterRefuse no (says judged 1)
     ∷ row afterByteStar times afterBytes sendsAgain nothing
     -- its reply
-    ∷ row afterReply number afterReplyCount no (keeps wanted)
+    ∷ row afterReply times afterReplyCount no (keeps wanted)
+    ∷ row afterReply number afterNoReply no (keeps wanted)
     ∷ row afterReplyCount (word "/") afterSlash no (says marksGiven 1)
     ∷ row afterReplyCount (word "=") afterEqual no (says expecting 1)
     ∷ row afterReplyCount (word "!") afterRefuse no (says judged 1)
     ∷ row afterSlash number afterMarkCount no (keeps marks)
     ∷ row afterMarkCount (word "=") afterEqual no (says expecting 1)
     ∷ row afterMarkCount (word "!") afterRefuse no (says judged 1)
+    -- of no reply and no marks nothing can be expected
+    ∷ row afterNoReply (word "/") afterNoReplySlash no (says marksGiven 1)
+    ∷ row afterNoReply (word "!") afterRefuse no (says judged 1)
+    ∷ row afterNoReplySlash times afterMarkCount no (keeps marks)
+    ∷ row afterNoReplySlash number afterEvent no (keeps marks)
     -- what is expected of it
     ∷ row afterEqual (word "kept") afterEvent no (says expecting 2)
     ∷ row afterEqual byte afterExpected expects nothing
-    ∷ row afterEqual (word "??") afterExpected expectsAny nothing
+    ∷ row afterEqual (word "??") afterAny expectsAny nothing
     ∷ row afterEqual (word "~") afterTilde no nothing
     ∷ row afterExpected byte afterExpected expects nothing
     ∷ row afterExpected (word "??") afterExpected expectsAny nothing
@@ -173,6 +179,15 @@ table =
     ∷ row afterExpectedTimes (word "!") afterRefuse no (says judged 1)
     ∷ row afterTilde byte afterExpected expectsUnknown nothing
     ∷ row afterExpectedStar times afterExpectedTimes expectsAgain nothing
+    -- ?? alone expects nothing: a byte must follow
+    ∷ row afterAny byte afterExpected expects nothing
+    ∷ row afterAny (word "??") afterAny expectsAny nothing
+    ∷ row afterAny (word "~") afterTilde no nothing
+    ∷ row afterAny (word "*") afterAnyStar no nothing
+    ∷ row afterAnyStar times afterAnyTimes expectsAgain nothing
+    ∷ row afterAnyTimes byte afterExpected expects nothing
+    ∷ row afterAnyTimes (word "??") afterAny expectsAny nothing
+    ∷ row afterAnyTimes (word "~") afterTilde no nothing
     -- the refusal
     ∷ row afterRefuse refusal lineDone no (keeps refused)
     -- events
@@ -188,10 +203,11 @@ table =
     ∷ row afterDump (word "id") afterDumpId no (says ofId 1)
     ∷ row afterDump address afterDumpPlace no (keepsHex from)
     ∷ row afterDumpId address afterDumpPlace no (keepsHex from)
-    ∷ row afterDumpPlace number afterQuestion no (keeps size)
+    ∷ row afterDumpPlace times afterQuestion no (keeps size)
+    ∷ row afterDumpPlace number lineDone no (keeps size)
     ∷ row afterQuestion (word "=") afterAsked no (says expecting 1)
     ∷ row afterAsked byte afterAnswer expects nothing
-    ∷ row afterAsked (word "??") afterAnswer expectsAny nothing
+    ∷ row afterAsked (word "??") afterAnswerAny expectsAny nothing
     ∷ row afterAsked (word "~") afterAnswerTilde no nothing
     ∷ row afterAnswer byte afterAnswer expects nothing
     ∷ row afterAnswer (word "??") afterAnswer expectsAny nothing
@@ -202,6 +218,14 @@ table =
     ∷ row afterAnswerTimes (word "~") afterAnswerTilde no nothing
     ∷ row afterAnswerTilde byte afterAnswer expectsUnknown nothing
     ∷ row afterAnswerStar times afterAnswerTimes expectsAgain nothing
+    ∷ row afterAnswerAny byte afterAnswer expects nothing
+    ∷ row afterAnswerAny (word "??") afterAnswerAny expectsAny nothing
+    ∷ row afterAnswerAny (word "~") afterAnswerTilde no nothing
+    ∷ row afterAnswerAny (word "*") afterAnswerAnyStar no nothing
+    ∷ row afterAnswerAnyStar times afterAnswerAnyTimes expectsAgain nothing
+    ∷ row afterAnswerAnyTimes byte afterAnswer expects nothing
+    ∷ row afterAnswerAnyTimes (word "??") afterAnswerAny expectsAny nothing
+    ∷ row afterAnswerAnyTimes (word "~") afterAnswerTilde no nothing
     -- the chip
     ∷ row lineStart (word "new") lineDone no (says verb verbs.new)
     ∷ row lineStart (word "fill") afterFill no (says verb verbs.fill)
@@ -261,7 +285,7 @@ table =
 unfoldable pub ends : List ℕ
 ends =
     lineStart ∷ afterByte ∷ afterBytes ∷ afterReplyCount ∷ afterMarkCount ∷ afterExpected ∷ afterExpectedTimes
-    ∷ lineDone ∷ afterEvent ∷ afterQuestion ∷ afterAnswer ∷ afterAnswerTimes ∷ inFields ∷ []
+    ∷ lineDone ∷ afterEvent ∷ afterQuestion ∷ afterAnswer ∷ afterAnswerTimes ∷ inFields ∷ afterNoReply ∷ []
 
 abbrev pub canEnd : ℕ → Bool
 canEnd p = oneOf p ends

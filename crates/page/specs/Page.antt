@@ -268,6 +268,14 @@ page =
     ++ ascii "sector, block, array, page, id, lock, config, bits\n"  -- 258
     ++ ascii "its number, one to sixteen hex digits\n"  -- 259
     ++ ascii "its number, one to sixteen hex digits\n"  -- 260
+    ++ ascii "/ a count, ! a number, # remark\n"  -- 261
+    ++ ascii "a count of mark bytes, in decimal\n"  -- 262
+    ++ ascii "a byte, ~ a byte, ??, * how often: ?? alone expects nothing\n"  -- 263
+    ++ ascii "how often, from 1\n"  -- 264
+    ++ ascii "a byte, ~ a byte, ??: ?? alone expects nothing\n"  -- 265
+    ++ ascii "a byte, ~ a byte, ??, * how often: ?? alone expects nothing\n"  -- 266
+    ++ ascii "how often, from 1\n"  -- 267
+    ++ ascii "a byte, ~ a byte, ??: ?? alone expects nothing\n"  -- 268
 
 -- form n with three numbers, behind a row
 unfoldable pub form : ℕ → ℕ → ℕ → ℕ → Row → Row

@@ -269,7 +269,15 @@ a register, one to sixteen hex digits\n\
 sector, block, array, page, id, lock, config, bits\n\
 sector, block, array, page, id, lock, config, bits\n\
 its number, one to sixteen hex digits\n\
-its number, one to sixteen hex digits\n",
+its number, one to sixteen hex digits\n\
+/ a count, ! a number, # remark\n\
+a count of mark bytes, in decimal\n\
+a byte, ~ a byte, ??, * how often: ?? alone expects nothing\n\
+how often, from 1\n\
+a byte, ~ a byte, ??: ?? alone expects nothing\n\
+a byte, ~ a byte, ??, * how often: ?? alone expects nothing\n\
+how often, from 1\n\
+a byte, ~ a byte, ??: ?? alone expects nothing\n",
         r,
         n,
         a,

@@ -201,9 +201,11 @@ fn unheld(p: Playing, l: Line, array: &[u8], security: &[u8], expected: &[u8]) -
     let slots = l.slots;
     let x = within(l.expected, expected);
     if slots[10] != 0 {
-        return bytes::unheld(p, l, security, &expected[..x]);
+        let s = within(2048, security);
+        return bytes::unheld(p, l, &security[..s], &expected[..x]);
     }
-    bytes::unheld(p, l, array, &expected[..x])
+    let a = within(2097152, array);
+    bytes::unheld(p, l, &array[..a], &expected[..x])
 }
 
 // A row of what is told.

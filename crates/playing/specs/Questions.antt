@@ -1,5 +1,5 @@
 -- What a script asks: nothing on the chip changes, but what it expects may not be met.
-use Prim.Native.Nat.{ℕ, _%_}
+use Prim.Native.Nat.{ℕ, _+_, _%_}
 use mathlib.Core.Path.{_≡_}
 use mathlib.Core.Bool.{Bool, true, false, not, _||_}
 use mathlib.Core.List.{List, [], _∷_}
@@ -29,16 +29,16 @@ answered p b number held = record { bench = b; reading = p .reading; before = p 
 
 -- ---- bytes
 
--- n places are compared with the expected bytes, over and over: not met where one differs, or they do not come out even
-abbrev pub unmetAt : ℕ → ℕ → ℕ → Bool
-unmetAt held n count = ltb held n || not (eqb (pick (eqb count 0) 0 (n % count)) 0)
+-- n places are compared with the expected bytes, over and over: not met where one differs, they do not come out even, or the memory has no such places
+abbrev pub unmetAt : ℕ → ℕ → ℕ → ℕ → ℕ → Bool
+unmetAt held size start n count = ltb held n || not (eqb (pick (eqb count 0) 0 (n % count)) 0) || ltb size (start + n)
 
-abbrev pub comparedTo : Playing → ℕ → ℕ → ℕ → Playing
-comparedTo p held n count = answered p (pick (unmetAt held n count) (oneUnmet (p .bench)) (p .bench)) (p .number) held
+abbrev pub comparedTo : Playing → ℕ → ℕ → ℕ → ℕ → ℕ → Playing
+comparedTo p held size start n count = answered p (pick (unmetAt held size start n count) (oneUnmet (p .bench)) (p .bench)) (p .number) held
 
 pub record Compared (p : Playing) (start n : ℕ) (memory expected known : List ℕ) (p′ : Playing) : Type 0 where
   pub first : First (unheld memory start expected known (length expected)) n (p′ .held)
-  pub playing : p′ ≡ comparedTo p (p′ .held) n (length expected)
+  pub playing : p′ ≡ comparedTo p (p′ .held) (length memory) start n (length expected)
 
 -- where a line expects nothing, nothing is compared
 abbrev pub ComparedIf : Bool → Playing → ℕ → ℕ → List ℕ → List ℕ → List ℕ → Playing → Type 0

@@ -5,9 +5,9 @@ use crate::Question;
 use rules::plain::smaller;
 use script::Line;
 ghost use mathlib.Core.Path.{_≡_};
-ghost use lib.Dec.{eqb};
+ghost use lib.Dec.{eqb, ltb};
 ghost use lib.ListN.{length};
-ghost use Prim.Native.Nat.{_%_};
+ghost use Prim.Native.Nat.{_+_, _%_};
 ghost use Rattle.rules.specs.Words.{pick};
 ghost use Rattle.expecting.specs.Records.{sameRecord};
 ghost use Rattle.playing.specs.Questions.{oneUnmet, answered, Compared, ComparedIf, registersOf, silent, QuestionPlayed};
@@ -20,6 +20,19 @@ fn remainder(i: usize, n: usize) -> usize
         return 0;
     }
     i % n
+}
+
+// The n places from `start` on go past the end of so many.
+fn past_end(size: usize, start: usize, n: usize) -> bool
+    ensures { λ r. ⌜ r ≡ ltb size (start + n) ⌝ }
+{
+    if size < start {
+        return true;
+    }
+    if size - start < n {
+        return true;
+    }
+    false
 }
 
 fn one_unmet(b: Bench) -> Bench
@@ -55,7 +68,7 @@ fn compared(
     let b = p.bench;
     let count = expected.len();
     let held = expecting::first_unheld(memory, start, n, expected, known, count);
-    if (held < n) | (remainder(n, count) != 0) {
+    if (held < n) | (remainder(n, count) != 0) | past_end(memory.len(), start, n) {
         return answered(p, one_unmet(b), p.number, held);
     }
     answered(p, b, p.number, held)

@@ -6,7 +6,7 @@ use mathlib.Core.List.{List, [], _∷_}
 use lib.ListN.{replicate, set, take}
 use Rattle.rules.specs.Words.{pick}
 use Rattle.rules.specs.Texts.{ascii}
-use Rattle.grammar.specs.Places.{lineStart, afterByte, afterByteStar, afterBytes, afterReply, afterReplyCount, afterSlash, afterMarkCount, afterEqual, afterExpected, afterTilde, afterExpectedStar, afterExpectedTimes, afterRefuse, lineDone, afterEvent, afterCut, afterQuestion, afterAsked, afterAnswer, afterAnswerTilde, afterAnswerStar, afterAnswerTimes, afterDump, afterDumpId, afterDumpPlace, afterFill, afterFillId, afterFillPlace, afterFillCount, afterLend, afterLendArray, inFields, afterProtect, afterPerm, afterRun, afterAside, afterRunKind, afterAsideKind}
+use Rattle.grammar.specs.Places.{lineStart, afterByte, afterByteStar, afterBytes, afterReply, afterReplyCount, afterSlash, afterMarkCount, afterEqual, afterExpected, afterTilde, afterExpectedStar, afterExpectedTimes, afterRefuse, lineDone, afterEvent, afterCut, afterQuestion, afterAsked, afterAnswer, afterAnswerTilde, afterAnswerStar, afterAnswerTimes, afterDump, afterDumpId, afterDumpPlace, afterFill, afterFillId, afterFillPlace, afterFillCount, afterLend, afterLendArray, inFields, afterProtect, afterPerm, afterRun, afterAside, afterRunKind, afterAsideKind, afterNoReply, afterNoReplySlash, afterAny, afterAnyStar, afterAnyTimes, afterAnswerAny, afterAnswerAnyStar, afterAnswerAnyTimes}
 use Rattle.grammar.specs.Slots.{verb, wanted, marksGiven, marks, expecting, judged, refused, from, size, filling, ofId, protection, permanent, runKind, runNumber, asideKind, asideNumber, sqi, wel, ioc, wpen, wpld, sec, enable}
 use Rattle.grammar.specs.Verbs as verbs
 use Rattle.script.specs.declared.Line.{Line}
@@ -135,11 +135,18 @@ lines =
     ∷ row "05 > 2 / 2 = FF*2 ! 0" verbs.frame (λ l. with wanted 2 (with marksGiven 1 (with marks 2 (with expecting 1 (with judged 1 l))))) (0x05 ∷ []) (0xFF ∷ 0xFF ∷ []) (1 ∷ 1 ∷ [])
     ∷ row "05>1=77!0" verbs.frame (λ l. with wanted 1 (with expecting 1 (with judged 1 l))) (0x05 ∷ []) (0x77 ∷ []) (1 ∷ [])
     ∷ row ">4=~FF*2 ??*2" verbs.frame (λ l. with wanted 4 (with expecting 1 l)) [] (0xFF ∷ 0xFF ∷ 0x00 ∷ 0x00 ∷ []) (2 ∷ 2 ∷ 0 ∷ 0 ∷ [])
+    ∷ row ">4=??*2 ?? 77" verbs.frame (λ l. with wanted 4 (with expecting 1 l)) [] (0x00 ∷ 0x00 ∷ 0x00 ∷ 0x77 ∷ []) (0 ∷ 0 ∷ 0 ∷ 1 ∷ [])
+    ∷ sends "05 > 0 ! 0" (0x05 ∷ []) (with judged 1)
+    ∷ sends "05 > 0 / 0 ! 0" (0x05 ∷ []) (λ l. with marksGiven 1 (with judged 1 l))
+    ∷ sends "05 > 0 / 2 = kept" (0x05 ∷ []) (λ l. with marksGiven 1 (with marks 2 (with expecting 2 l)))
     ∷ sends "03 > 2 = kept ! 4" (0x03 ∷ []) (λ l. with wanted 2 (with expecting 2 (with judged 1 (with refused 4 l))))
     ∷ plain "done!12" verbs.done (λ l. with judged 1 (with refused 12 l))
     ∷ plain "cut 7!5" verbs.cut (λ l. with from 7 (with judged 1 (with refused 5 l)))
     ∷ plain "status" verbs.status alone
     ∷ row "status = 00 ??" verbs.status (with expecting 1) [] (0x00 ∷ 0x00 ∷ []) (1 ∷ 0 ∷ [])
+    ∷ row "status = ?? ~08" verbs.status (with expecting 1) [] (0x00 ∷ 0x08 ∷ []) (0 ∷ 2 ∷ [])
+    ∷ row "dump 0 8 = ??*3 ?? 11" verbs.dump (λ l. with size 8 (with expecting 1 l)) [] (0x00 ∷ 0x00 ∷ 0x00 ∷ 0x00 ∷ 0x11 ∷ []) (0 ∷ 0 ∷ 0 ∷ 0 ∷ 1 ∷ [])
+    ∷ plain "dump 5 0" verbs.dump (with from 5)
     ∷ plain "work" verbs.work alone
     ∷ plain "locks" verbs.locks alone
     ∷ plain "dump 1fE 16" verbs.dump (λ l. with from 0x1FE (with size 16 l))
@@ -188,7 +195,14 @@ wrongLines =
     ∷ wrong "03 > 1 = 11  and no more" afterExpected "and" 3 14
     ∷ wrong "03 > 1 = 11 kept" afterExpected "kept" 4 13
     ∷ wrong "03 > 1 = ~ ??" afterTilde "??" 2 12
-    ∷ wrong "03 > 1 = ??*" afterExpectedStar "" 0 13
+    ∷ wrong "03 > 1 = 11*" afterExpectedStar "" 0 13
+    ∷ wrong "03 > 0 = kept" afterNoReply "=" 1 8
+    ∷ wrong "03 > 0 / ! 0" afterNoReplySlash "!" 1 10
+    ∷ wrong "03 > 0 / 0 = kept" afterEvent "=" 1 12
+    ∷ wrong "03 > 1 = ??" afterAny "" 0 12
+    ∷ wrong "03 > 1 = ?? ! 0" afterAny "!" 1 13
+    ∷ wrong "03 > 1 = ??*" afterAnyStar "" 0 13
+    ∷ wrong "03 > 4 = ??*4" afterAnyTimes "" 0 14
     ∷ wrong "03 > 1 = 11*2*" afterExpectedTimes "*" 1 14
     ∷ wrong "05 > 1 != 00" afterRefuse "=" 1 9
     ∷ wrong "02 ! 13" afterRefuse "13" 2 6
@@ -201,6 +215,10 @@ wrongLines =
     ∷ wrong "dump 0 4 = kept" afterAsked "kept" 4 12
     ∷ wrong "dump 0 4 = 11 ! 0" afterAnswer "!" 1 15
     ∷ wrong "status = ~" afterAnswerTilde "" 0 11
+    ∷ wrong "status = ??" afterAnswerAny "" 0 12
+    ∷ wrong "status = ??*x" afterAnswerAnyStar "x" 1 13
+    ∷ wrong "dump 0 4 = ??*4 # nothing" afterAnswerAnyTimes "" 0 17
+    ∷ wrong "dump 0 0 = FF" lineDone "=" 1 10
     ∷ wrong "status = 11*x" afterAnswerStar "x" 1 13
     ∷ wrong "status = 11*2 *" afterAnswerTimes "*" 1 15
     ∷ wrong "dump 1000000 1" afterDump "1000000" 7 6

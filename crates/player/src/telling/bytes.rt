@@ -191,6 +191,10 @@ fn unheld_row(p: Playing, start: usize, n: usize, memory: &[u8], expected: &[u8]
     if count == 0 {
         return rows::empty();
     }
+    let there = rows::count_within(memory.len(), start, n);
+    if there < n {
+        return rows::below(190, n as u64, there as u64, 0);
+    }
     if n % count != 0 {
         return rows::below(190, count as u64, n as u64, 0);
     }
@@ -211,6 +215,9 @@ fn status_unheld(p: Playing, expected: &[u8]) -> Row {
     let mut registers = [0u8; 2];
     registers[0] = acting::status_of(rest);
     registers[1] = acting::configuration_of(rest);
+    if 2 < expected.len() {
+        return rows::below(203, 0, 0, 0);
+    }
     unheld_row(p, 0, expected.len(), &registers, expected)
 }
 

@@ -167,7 +167,7 @@ fn suspended_row(p: Playing) -> Row {
 // What is allowed at a place of the grammar.
 fn allowed_row(place: u8) -> Row {
     let r = rows::below(177, 0, 0, 0);
-    rows::form(r, 222 + smaller(place as usize, 38), 0, 0, 0)
+    rows::form(r, 222 + smaller(place as usize, 46), 0, 0, 0)
 }
 
 pub fn second(p: Playing, l: Line, sent: &[u8], reply: &[u8], marks: &[u8]) -> Row {
