@@ -1,5 +1,5 @@
 -- No second outcome: whatever meets the guarantee of a public function of this crate at the same input is the same record without its buffer, the
--- same register and the same buffer. Assumes nothing.
+-- same register, the same buffer and the same turn. Assumes nothing.
 use Rattle.rules.proofs.Promises.{one}
 use Rattle.rules.proofs.Outcomes.{OneResult, OneList}
 use Rattle.acting.proofs.commands.acted.Reads as acted
@@ -11,6 +11,8 @@ use Rattle.acting.proofs.pages.page_rested.Reads as page-rested
 use Rattle.acting.proofs.power.new_rest.Reads as new-rest
 use Rattle.acting.proofs.registers.configuration_of.Reads as configuration-of
 use Rattle.acting.proofs.registers.status_of.Reads as status-of
+use Rattle.acting.proofs.turns.done.Reads as done
+use Rattle.acting.proofs.turns.refused.Reads as refused
 
 pub acted-one : OneResult acted.Post
 acted-one κ a x y r r′ p q = one p q
@@ -38,3 +40,9 @@ configuration-of-one κ a x y r r′ p q = one p q
 
 pub status-of-one : OneResult status-of.Post
 status-of-one κ a x y r r′ p q = one p q
+
+pub done-one : OneResult done.Post
+done-one κ a x y r r′ p q = one p q
+
+pub refused-one : OneResult refused.Post
+refused-one κ a x y r r′ p q = one p q

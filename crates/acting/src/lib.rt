@@ -4,6 +4,7 @@ mod ends;
 mod pages;
 mod power;
 mod registers;
+mod turns;
 
 pub use commands::acted;
 pub use commands::used;
@@ -14,3 +15,5 @@ pub use pages::page_rested;
 pub use power::new_rest;
 pub use registers::configuration_of;
 pub use registers::status_of;
+pub use turns::done;
+pub use turns::refused;
