@@ -31,7 +31,7 @@ pub fn completion_turn(
     }
     memory::finish_array(run, page, 2097152, array);
     memory::finish_security(run, page, 2097152, security);
-    acting::page_rested(aside, page);
+    pages::page_rested(aside, page);
     done(acting::completed(r))
 }
 

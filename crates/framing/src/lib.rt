@@ -39,7 +39,7 @@ fn command(
         Answer::Done => {
             let kind = form.kind;
             replying::respond(kind, r, array, security, sent, reply, marks);
-            acting::page_after(kind, sent, page);
+            pages::page_after(kind, sent, page);
             done(acting::acted(kind, sent, r))
         }
         Answer::Refused(why) => {

@@ -44,8 +44,8 @@ fn show(
     ensures { λ _. ⌜ Replied (now (reply .entry)) (now (marks .entry)) (now (reply .exit)) (now (marks .exit)) (λ i. shown s r (lent (now (array .entry))) (lent (now (security .entry))) (now (sent .entry)) i) ⌝ }
 {
     match s {
-        Source::Status => fill_both(reply, marks, acting::status_of(r), 1),
-        Source::Configuration => fill_both(reply, marks, acting::configuration_of(r), 1),
+        Source::Status => fill_both(reply, marks, registers::status_of(r), 1),
+        Source::Configuration => fill_both(reply, marks, registers::configuration_of(r), 1),
         Source::Protection => {
             reading::read_protection(r.locks.protection, reply);
             mark_all(marks);

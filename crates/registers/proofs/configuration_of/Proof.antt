@@ -1,9 +1,9 @@
 -- Three flags at their bits. Assumes nothing.
 use lib.Dec.{eqb}
-use Rattle.acting.proofs.Flags.{configuration-byte}
+use Rattle.registers.proofs.Flags.{configuration-byte}
 use borrow.Author.Needs.{needs}
-use Rattle.acting.proofs.registers.configuration_of.Statement.{statement}
-use Rattle.acting.proofs.registers.configuration_of.Tie as tie
+use Rattle.registers.proofs.configuration_of.Statement.{statement}
+use Rattle.registers.proofs.configuration_of.Tie as tie
 
 pub configuration-of-spec : {M : Type 1} → statement M
 configuration-of-spec =

@@ -1,7 +1,7 @@
 -- Each kind has its clause. Assumes nothing.
 use borrow.Author.Needs.{needs}
-use Rattle.acting.proofs.pages.page_after.Statement.{statement}
-use Rattle.acting.proofs.pages.page_after.Tie as tie
+use Rattle.pages.proofs.page_after.Statement.{statement}
+use Rattle.pages.proofs.page_after.Tie as tie
 
 pub page-after-spec : {M : Type 1} → statement M
 page-after-spec =

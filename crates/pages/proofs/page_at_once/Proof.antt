@@ -1,7 +1,7 @@
 -- A reset blanks it; the others leave it. Assumes nothing.
 use borrow.Author.Needs.{needs}
-use Rattle.acting.proofs.pages.page_at_once.Statement.{statement}
-use Rattle.acting.proofs.pages.page_at_once.Tie as tie
+use Rattle.pages.proofs.page_at_once.Statement.{statement}
+use Rattle.pages.proofs.page_at_once.Tie as tie
 
 pub page-at-once-spec : {M : Type 1} → statement M
 page-at-once-spec =

@@ -1,8 +1,8 @@
 -- The two programs fill it; the others leave it. Assumes nothing.
 use Rattle.rules.specs.Programs.{pageBuffer, securityBuffer}
 use borrow.Author.Needs.{needs}
-use Rattle.acting.proofs.pages.page_of.Statement.{statement}
-use Rattle.acting.proofs.pages.page_of.Tie as tie
+use Rattle.pages.proofs.page_of.Statement.{statement}
+use Rattle.pages.proofs.page_of.Tie as tie
 
 pub page-of-spec : {M : Type 1} → statement M
 unfolding pageBuffer securityBuffer

@@ -1,10 +1,10 @@
 -- Six flags at their bits, BUSY twice. Assumes nothing.
 use mathlib.Core.Bool.{not}
 use Rattle.rules.specs.Works.{isNothing, isErase, isProgram}
-use Rattle.acting.proofs.Flags.{status-byte}
+use Rattle.registers.proofs.Flags.{status-byte}
 use borrow.Author.Needs.{needs}
-use Rattle.acting.proofs.registers.status_of.Statement.{statement}
-use Rattle.acting.proofs.registers.status_of.Tie as tie
+use Rattle.registers.proofs.status_of.Statement.{statement}
+use Rattle.registers.proofs.status_of.Tie as tie
 
 pub status-of-spec : {M : Type 1} → statement M
 status-of-spec =

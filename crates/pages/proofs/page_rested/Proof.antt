@@ -9,8 +9,8 @@ use Rattle.rules.specs.declared.Work.{Work}
 use Rattle.rules.specs.Works.{isProgram}
 use Rattle.rules.specs.Programs.{blank}
 use Rattle.rules.specs.Commands.{bufferRested}
-use Rattle.acting.proofs.pages.page_rested.Statement.{statement}
-use Rattle.acting.proofs.pages.page_rested.Tie as tie
+use Rattle.pages.proofs.page_rested.Statement.{statement}
+use Rattle.pages.proofs.page_rested.Tie as tie
 
 dropped : (w : Work) (b : List ℕ) → not (isProgram w) ≡ true → blank ≡ bufferRested w b
 dropped w b t = rw (not-true (isProgram w) t)
