@@ -7,11 +7,11 @@ use lib.Dec.{ltb}
 use lib.ListN.{length, getD, set, take, drop, length-set}
 use borrow.Author.Tests.{ltb-true, ltb-false, lt-ltb}
 use Rattle.rules.proofs.Bools.{and-split}
-use Rattle.bench.proofs.Texts.{over-next, over-end}
+use Rattle.meanings.proofs.Texts.{over-next, over-end}
 use borrow.Author.Needs.{needs}
 use native.Mathlib.Omega.{arith}
-use Rattle.bench.proofs.put_text.Statement.{statement}
-use Rattle.bench.proofs.put_text.Tie as tie
+use Rattle.meanings.proofs.put_text.Statement.{statement}
+use Rattle.meanings.proofs.put_text.Tie as tie
 
 abbrev Inv-loop : tie.InvT-loop
 Inv-loop lent₀ text i₀ lent i = record { low : i ≤ length text; fits : i ≤ length lent; size : length lent ≡ length lent₀; is : lent ≡ take i text ++ drop i lent₀ }

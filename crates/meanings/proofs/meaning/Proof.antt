@@ -1,10 +1,10 @@
 -- Each number has its text, and a number above 12 has none. Assumes nothing.
 use mathlib.Core.Path.{refl}
 use native.Mathlib.Omega.{arith}
-use Rattle.bench.specs.Meanings.{meaning}
-use Rattle.bench.proofs.Texts.{put, none}
-use Rattle.bench.proofs.fulkibono_meaning.Statement.{statement}
-use Rattle.bench.proofs.fulkibono_meaning.Tie as tie
+use Rattle.meanings.specs.Meanings.{meaning}
+use Rattle.meanings.proofs.Texts.{put, none}
+use Rattle.meanings.proofs.meaning.Statement.{statement}
+use Rattle.meanings.proofs.meaning.Tie as tie
 
 returns-3 : tie.Need-returns-3
 unfolding meaning
@@ -29,8 +29,8 @@ returns-7 c = let m = c .before .before .before .before .before in put (m .befor
 returns-8 : tie.Need-returns-8
 returns-8 c = none (c .before .before .before .before .args .number) _ (omega arith)
 
-pub fulkibono-meaning-spec : {M : Type 1} → statement M
-fulkibono-meaning-spec =
+pub meaning-spec : {M : Type 1} → statement M
+meaning-spec =
     tie.close
     (tie.spec
     (λ c κs. omega arith)

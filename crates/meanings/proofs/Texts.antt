@@ -9,7 +9,7 @@ use lib.Dec.{ltb}
 use lib.ListN.{length, getD, set, take, drop, drop-of-length-le}
 use lib.Seq.{take-suc, take-all, take-nil, drop-cons, set-append-seam, append-snoc, length-take-le}
 use borrow.Author.Tests.{ltb-true, ltb-false, ne-eqb}
-use Rattle.bench.specs.Meanings.{meaning, over, MeaningBytes}
+use Rattle.meanings.specs.Meanings.{meaning, over, MeaningBytes}
 
 -- one byte more
 pub over-next : (t l : List ℕ) (i : ℕ) → i < length t → i < length l

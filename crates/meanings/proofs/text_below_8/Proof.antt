@@ -1,10 +1,10 @@
 -- Each number has its text. Assumes nothing.
 use mathlib.Core.Path.{refl}
 use native.Mathlib.Omega.{arith}
-use Rattle.bench.specs.Meanings.{meaning}
-use Rattle.bench.proofs.Texts.{put}
-use Rattle.bench.proofs.text_below_8.Statement.{statement}
-use Rattle.bench.proofs.text_below_8.Tie as tie
+use Rattle.meanings.specs.Meanings.{meaning}
+use Rattle.meanings.proofs.Texts.{put}
+use Rattle.meanings.proofs.text_below_8.Statement.{statement}
+use Rattle.meanings.proofs.text_below_8.Tie as tie
 
 returns : tie.Need-returns
 unfolding meaning
