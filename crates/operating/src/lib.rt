@@ -1,14 +1,20 @@
-// One SPI operation: the completion that is due, the frame, and what the tool is shown of the reply.
-use crate::Bench;
-use crate::showing::show;
+// One SPI operation on the bench chip: the completion that is due, the frame, and what the tool is shown of the reply.
 use rules::Answer;
 use rules::Chip;
+use serprog::show;
 ghost use mathlib.Core.Path.{_≡_};
 ghost use Rattle.rules.specs.Frames.{opcode};
 ghost use Rattle.rules.specs.Registers.{busy};
 ghost use Rattle.rules.specs.Commands.{newChip};
 ghost use Rattle.rules.specs.Promises.{benchOf};
-ghost use Rattle.serprog.specs.Operations.{isDone, dueBefore, readsAfter, SettledPromise, OperationPromise, AnswerPromise};
+ghost use Rattle.operating.specs.Operations.{isDone, dueBefore, readsAfter, SettledPromise, OperationPromise, AnswerPromise};
+
+// The chip, how many status reads it has answered since it is busy (0 or 1), and whether the tool is shown the sibling's identity.
+pub struct Bench {
+    pub chip: Chip,
+    pub reads: u8,
+    pub disguise: bool,
+}
 
 pub fn new_bench(disguise: bool) -> Bench
     ensures { λ r. ⌜ r ≡ record { chip = newChip; reads = 0; disguise = disguise } ⌝ }

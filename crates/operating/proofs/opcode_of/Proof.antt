@@ -2,8 +2,8 @@
 use mathlib.Core.Path.{sym}
 use lib.ListN.{List·getD-eq-default}
 use borrow.Author.Needs.{needs}
-use Rattle.serprog.proofs.operations.opcode_of.Statement.{statement}
-use Rattle.serprog.proofs.operations.opcode_of.Tie as tie
+use Rattle.operating.proofs.opcode_of.Statement.{statement}
+use Rattle.operating.proofs.opcode_of.Tie as tie
 
 shared-slice-read-result : tie.Need-shared-slice-read-result
 shared-slice-read-result c = search needs

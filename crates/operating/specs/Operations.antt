@@ -12,9 +12,9 @@ use Rattle.rules.specs.Numbers.{State, Frame}
 use Rattle.rules.specs.Machine.{Outcome, frame, completion, left}
 use Rattle.rules.specs.Promises.{benchOf, carriedOf, stateOf, frameOf}
 use Rattle.rules.specs.Promises as promises
-use Rattle.serprog.specs.declared.Bench.{Bench}
+use Rattle.operating.specs.declared.Bench.{Bench}
 use Rattle.serprog.specs.Commands.{ack}
 use Rattle.serprog.specs.Showing.{shownReply}
 
 -- ---- time: "completion arrives before the second status read after a long command"
 

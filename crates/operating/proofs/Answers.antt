@@ -9,8 +9,8 @@ use borrow.Rule.Slice.PartMut.{midOf, putMid}
 use Rattle.rules.specs.Words.{lent}
 use Rattle.rules.specs.Promises.{benchOf, carriedOf, stateOf, frameOf}
 use Rattle.rules.proofs.Promises.{lent-ext}
-use Rattle.serprog.specs.declared.Bench.{Bench}
-use Rattle.serprog.specs.Operations.{leaves, operated, OperationPromise, afterByte, after, answeredBy, answeredOperation, AnswerPromise}
+use Rattle.operating.specs.declared.Bench.{Bench}
+use Rattle.operating.specs.Operations.{leaves, operated, OperationPromise, afterByte, after, answeredBy, answeredOperation, AnswerPromise}
 
 lent-after : (x : ℕ) (l : List ℕ) → lent (x ∷ l) ≡ after x (lent l)
 lent-after x l = lent-ext refl go

@@ -1,7 +1,7 @@
 -- A new chip. Assumes nothing.
 use borrow.Author.Needs.{needs}
-use Rattle.serprog.proofs.operations.new_bench.Statement.{statement}
-use Rattle.serprog.proofs.operations.new_bench.Tie as tie
+use Rattle.operating.proofs.new_bench.Statement.{statement}
+use Rattle.operating.proofs.new_bench.Tie as tie
 
 new-requires : tie.Need-new-requires
 new-requires c κs = search needs

@@ -3,10 +3,10 @@ use mathlib.Core.Path.{_∙_}
 use Prim.Native.Nat.{_-_}
 use lib.ListN.{length, set, length-set}
 use borrow.Rule.Slice.PartMut.{same-len-mid}
-use Rattle.serprog.proofs.Answers.{answers, nothing-answered}
+use Rattle.operating.proofs.Answers.{answers, nothing-answered}
 use borrow.Author.Needs.{needs}
-use Rattle.serprog.proofs.operations.answer_operation.Statement.{statement}
-use Rattle.serprog.proofs.operations.answer_operation.Tie as tie
+use Rattle.operating.proofs.answer_operation.Statement.{statement}
+use Rattle.operating.proofs.answer_operation.Tie as tie
 
 slice-write-answer : tie.Need-slice-write-answer
 slice-write-answer c = search needs

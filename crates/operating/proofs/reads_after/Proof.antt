@@ -1,8 +1,8 @@
 -- Each way is what its tests say. Assumes nothing.
 use borrow.Author.Tests.{eq-eqb, ne-eqb}
 use borrow.Author.Needs.{needs}
-use Rattle.serprog.proofs.operations.reads_after.Statement.{statement}
-use Rattle.serprog.proofs.operations.reads_after.Tie as tie
+use Rattle.operating.proofs.reads_after.Statement.{statement}
+use Rattle.operating.proofs.reads_after.Tie as tie
 
 returns : tie.Need-returns
 returns c = rw (c .before .if1 .taken, eq-eqb _ _ (c .if2 .taken))

@@ -1,8 +1,8 @@
 -- The chip's completion, or nothing. Assumes nothing.
-use Rattle.serprog.proofs.Laws.{settles, stays}
+use Rattle.operating.proofs.Laws.{settles, stays}
 use borrow.Author.Needs.{needs}
-use Rattle.serprog.proofs.operations.settled.Statement.{statement}
-use Rattle.serprog.proofs.operations.settled.Tie as tie
+use Rattle.operating.proofs.settled.Statement.{statement}
+use Rattle.operating.proofs.settled.Tie as tie
 
 completion-requires : tie.Need-completion-requires
 completion-requires c κs = search needs

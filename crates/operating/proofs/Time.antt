@@ -9,8 +9,8 @@ use Rattle.rules.specs.Registers.{busy}
 use Rattle.rules.specs.Frames.{opcode}
 use Rattle.rules.specs.Numbers.{State, Frame}
 use Rattle.rules.specs.Machine.{frame, completion, left}
-use Rattle.serprog.specs.declared.Bench.{Bench}
-use Rattle.serprog.specs.Operations.{dueBefore, readsAfter, settledState, finished, operated}
+use Rattle.operating.specs.declared.Bench.{Bench}
+use Rattle.operating.specs.Operations.{dueBefore, readsAfter, settledState, finished, operated}
 
 neither : (b : Bool) → (b && false) ≡ false
 neither true = refl

@@ -1,8 +1,8 @@
 -- The calls in a row are the operation. Assumes nothing.
-use Rattle.serprog.proofs.Laws.{operates}
+use Rattle.operating.proofs.Laws.{operates}
 use borrow.Author.Needs.{needs}
-use Rattle.serprog.proofs.operations.operate.Statement.{statement}
-use Rattle.serprog.proofs.operations.operate.Tie as tie
+use Rattle.operating.proofs.operate.Statement.{statement}
+use Rattle.operating.proofs.operate.Tie as tie
 
 opcode-of-requires : tie.Need-opcode-of-requires
 opcode-of-requires c κs = search needs
