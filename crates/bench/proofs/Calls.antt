@@ -9,19 +9,19 @@ use lib.Seq.{length-take-le, length-front, take-at}
 use borrow.Author.Tests.{eq-eqb, ne-eqb, not-true, not-false}
 use Rattle.rules.specs.declared.Chip.{Chip}
 use Rattle.rules.specs.declared.Rest.{Rest}
+use Rattle.rules.specs.declared.Turn.{Turn}
 use Rattle.rules.specs.Fields.{chipOf}
 use Rattle.rules.specs.Programs.{blank}
 use Rattle.rules.specs.Commands.{newChip}
 use Rattle.rules.specs.Numbers.{answerNumber}
 use Rattle.rules.specs.Machine.{Outcome, step, run}
-use Rattle.rules.specs.Promises.{Bench, Carried, Returned, benchOf, returnedOf, stateOf, outcomeOf}
+use Rattle.rules.specs.Promises.{Bench, Carried, Returned, benchOf, returnedOf, afterOf, stateOf, outcomeOf}
 use Rattle.rules.specs.Demands.{Call, frameCall, completionCall, cutCall, Meets, eventOf}
 use Rattle.rules.proofs.Runs.{demand-2}
 use Rattle.record_code.specs.Layout.{recordSize, restCode, code, isCode, NothingReserved, restIn, chipIn}
 use Rattle.record_code.proofs.Faithful.{code-of, chip-in, known-length, known-reserved, reserved-kept}
 use Rattle.chip.specs.declared.turns.Event.{Event}
-use Rattle.chip.specs.declared.turns.Turn.{Turn}
-use Rattle.chip.specs.Turns.{afterOf, callOf, LentFor}
+use Rattle.chip.specs.Turns.{callOf, LentFor}
 use Rattle.bench.specs.Boundary.{LentBench, cameOf, untouched, seenOf, coded, called, CallPromise, newBytes, NewPromise}
 
 -- ---- the page in a record's bytes

@@ -1,6 +1,5 @@
 -- Laws of the boundary.
 pub mod Calls
-pub mod Texts
 pub mod Outcomes
 pub mod Unique
 pub mod Refusals

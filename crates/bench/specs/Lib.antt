@@ -2,4 +2,3 @@
 pub mod Boundary
 pub mod Refusals
 pub mod Demands
-pub mod Meanings

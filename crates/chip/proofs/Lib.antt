@@ -1,4 +1,2 @@
--- Laws that the proofs cite.
-pub mod Shows
-pub mod Events
+-- No second outcome.
 pub mod Unique

@@ -8,13 +8,13 @@ use Rattle.rules.specs.declared.After.{After}
 use Rattle.rules.specs.declared.Answer.{Answer}
 use Rattle.rules.specs.declared.Chip.{Chip}
 use Rattle.rules.specs.declared.Rest.{Rest}
+use Rattle.rules.specs.declared.Turn.{Turn}
 use Rattle.rules.specs.Fields.{chipOf}
-use Rattle.rules.specs.Promises.{Bench, Returned, benchOf, carriedOf, returnedOf}
+use Rattle.rules.specs.Promises.{Bench, Returned, benchOf, carriedOf, returnedOf, afterOf}
 use Rattle.rules.specs.Demands.{Call, frameCall, completionCall, cutCall, Meets}
 use Rattle.rules.proofs.Promises as promises
 use Rattle.chip.specs.declared.turns.Event.{Event}
-use Rattle.chip.specs.declared.turns.Turn.{Turn}
-use Rattle.chip.specs.Turns.{afterOf, callOf}
+use Rattle.chip.specs.Turns.{callOf}
 use Rattle.chip.proofs.new.Reads as new
 use Rattle.chip.proofs.frame.Reads as frame
 use Rattle.chip.proofs.completion.Reads as completion

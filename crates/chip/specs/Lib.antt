@@ -1,2 +1,2 @@
--- The events where the page buffer lies with the caller.
+-- Any of the three events where the page buffer lies with the caller.
 pub mod Turns

@@ -1,13 +1,12 @@
 // The bench chip: a new chip, a frame, a completion, a power cut.
 mod numbers;
-mod replies;
 mod turns;
 
 pub use numbers::answer_number;
 use rules::After;
 use rules::Chip;
+pub use rules::Turn;
 pub use turns::Event;
-pub use turns::Turn;
 pub use turns::take_turn;
 ghost use mathlib.Core.Path.{_≡_};
 ghost use mathlib.Core.List.{[]};
@@ -39,7 +38,7 @@ pub fn frame(
     let mut page = c.buffer;
     let before = c.rest;
     let known = turns::state_right(before, &page, array.len(), security.len());
-    let t = turns::frame_turn(
+    let t = framing::frame_turn(
         known,
         before,
         &mut page,
@@ -62,7 +61,7 @@ pub fn completion(c: Chip, array: &mut [u8], security: &mut [u8]) -> After
     let mut page = c.buffer;
     let before = c.rest;
     let known = turns::state_right(before, &page, array.len(), security.len());
-    let t = turns::completion_turn(known, before, &mut page, array, security);
+    let t = ending::completion_turn(known, before, &mut page, array, security);
     let answer = t.answer;
     let rest = t.rest;
     let chip = Chip { buffer: page, rest };
@@ -76,7 +75,7 @@ pub fn power_cut(c: Chip, array: &mut [u8], security: &mut [u8], k: u64) -> Afte
     let mut page = c.buffer;
     let before = c.rest;
     let known = turns::state_right(before, &page, array.len(), security.len());
-    let t = turns::cut_turn(known, before, &mut page, array, security, k);
+    let t = ending::cut_turn(known, before, &mut page, array, security, k);
     let answer = t.answer;
     let rest = t.rest;
     let chip = Chip { buffer: page, rest };

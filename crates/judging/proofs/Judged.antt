@@ -1,97 +1,21 @@
 -- The parts of the decision, put together. Assumes nothing.
-use Prim.Native.Nat.{ℕ, _+_, _*_, _/_, _%_, _≤_, _<_}
+use Prim.Native.Nat.{ℕ, _*_, _/_, _%_, _<_}
 use mathlib.Core.Path.{_≡_, refl, sym, ap, _∙_}
-use mathlib.Core.Bool.{Bool, true, false, not, _&&_, _||_, false≢true}
+use mathlib.Core.Bool.{Bool, true, false, not, _&&_, _||_}
 use mathlib.Core.List.{List, [], _∷_}
 use native.Mathlib.Omega.{arith}
 use lib.Dec.{eqb}
-use borrow.Author.Tests.{not-true}
 use lib.ListN.{length, drop, length-drop}
-use Rattle.rules.specs.declared.Block.{Block}
 use Rattle.rules.specs.declared.Form.{Form}
-use Rattle.rules.specs.declared.Range.{Range}
 use Rattle.rules.specs.declared.Rest.{Rest}
-use Rattle.rules.specs.declared.Work.{Work}
-use Rattle.rules.specs.Words.{oneOf, every, range, holds}
-use Rattle.rules.specs.Blocks.{arraySize, blockOf, blockAt, span, writeLocked}
-use Rattle.rules.specs.Works.{isNothing, isErase, isProgram, canSuspend, arrayRange}
-use Rattle.rules.specs.Frames.{formOf, listed, lengthRight, address, securityAddress}
+use Rattle.rules.specs.Words.{oneOf}
+use Rattle.rules.specs.Blocks.{writeLocked}
+use Rattle.rules.specs.Frames.{listed, lengthRight, address, securityAddress}
 use Rattle.rules.specs.Programs.{reaches, reachesFirst}
-use Rattle.rules.specs.WellFormed.{numbersRight}
 use Rattle.rules.specs.Numbers.{notListed, wrongLength, whileBusy, noEnable, noIoc, suspension, closed, lockedTarget, first, commandTests}
-use Rattle.rules.proofs.Bools.{or-none, never, every-of}
-use Rattle.rules.proofs.Blocks.{blockOf-lt, block-placed}
-use Rattle.rules.proofs.Ranges.{array-inside}
-use Rattle.rules.proofs.WellFormed.{nothing}
+use Rattle.rules.proofs.Bools.{or-none}
+use Rattle.named.proofs.Lists.{not-among}
 use Rattle.judging.specs.Judging.{Judgeable, changeTests}
-
--- ---- ranges
-
-pub found-inside : (w : Work) (r : Range) → numbersRight w ≡ true → r ≡ arrayRange w → r .start + r .size ≤ arraySize
-found-inside w r h e = rw e (array-inside w h)
-
-pub block-found : (a n : ℕ) → a < arraySize → n ≡ blockOf a → n < 40
-block-found a n h e = rw e (blockOf-lt a h)
-
-pub block-inside : (n : ℕ) (b : Block) → n < 40 → b ≡ blockAt n → b .start + b .size ≤ arraySize
-block-inside n b h e = rw e (block-placed n h .inside)
-
--- ---- opcodes
-
--- an opcode that is in no list has no part of it either
-not-among : (ks ns : List ℕ) (x : ℕ) → every (λ n. oneOf n ks) ns ≡ true → oneOf x ks ≡ false → oneOf x ns ≡ false
-not-among ks ns x e f = never (oneOf x ns) (λ t. false≢true (sym f ∙ every-of (λ n. oneOf n ks) ns e x t))
-
--- ---- 8, of an opcode that changes one block
-
-module _ (o : ℕ) where
-  abbrev changing : List ℕ
-  changing = 0x20 ∷ 0xD8 ∷ 0x02 ∷ 0x32 ∷ []
-
-  no-erase : (w h : Bool) → (w && oneOf o changing) ≡ false → false ≡ (w && (oneOf o (0x20 ∷ 0xD8 ∷ []) || oneOf o (0x02 ∷ 0x32 ∷ []) && h))
-  no-erase false h f = refl
-  no-erase true h f = rw (not-among changing (0x20 ∷ 0xD8 ∷ []) o refl f, not-among changing (0x02 ∷ 0x32 ∷ []) o refl f)
-
-  no-program : (w h k : Bool) → (w && oneOf o changing) ≡ false → false ≡ (w && (oneOf o (0x02 ∷ 0x32 ∷ []) || oneOf o (0x20 ∷ []) && h || oneOf o (0xD8 ∷ []) && k))
-  no-program false h k f = refl
-  no-program true h k f =
-      rw (not-among changing (0x02 ∷ 0x32 ∷ []) o refl f, not-among changing (0x20 ∷ []) o refl f, not-among changing (0xD8 ∷ []) o refl f)
-
-  module _ (aside : Work) (sent : List ℕ) (x y : Bool) (ey : y ≡ oneOf o changing) (none : not (x && y) ≡ true) where
-    pub no-erase-beside : x ≡ isErase aside
-        → false ≡ (isErase aside && (oneOf o (0x20 ∷ 0xD8 ∷ []) || oneOf o (0x02 ∷ 0x32 ∷ []) && holds (arrayRange aside) (address sent)))
-    no-erase-beside ex = no-erase (isErase aside) _ ((λ i. sym ex i && sym ey i) ∙ not-true _ none)
-
-    pub no-program-beside : x ≡ isProgram aside
-        → false
-        ≡ (isProgram aside
-        && (oneOf o (0x02 ∷ 0x32 ∷ [])
-        || oneOf o (0x20 ∷ []) && holds (range (address sent / 4096 * 4096) 4096) (arrayRange aside .start)
-        || oneOf o (0xD8 ∷ []) && holds (span (blockAt (blockOf (address sent)))) (arrayRange aside .start)))
-    no-program-beside ex = no-program (isProgram aside) _ _ ((λ i. sym ex i && sym ey i) ∙ not-true _ none)
-
--- ---- 8, with nothing suspended
-
-and-true : (a : Bool) → (a && true) ≡ a
-and-true true = refl
-and-true false = refl
-
-and-none : (a : Bool) → (a && false) ≡ false
-and-none true = refl
-and-none false = refl
-
-or-three : (a : Bool) → a ≡ (a || false || false || false)
-or-three true = refl
-or-three false = refl
-
-pub none-beside : (r : Rest) (o : ℕ) (sent : List ℕ) → isNothing (r .works .suspended) ≡ true
-    → (oneOf o (0xB0 ∷ []) && not (canSuspend (r .works .running)) || oneOf o (0x30 ∷ [])) ≡ suspension r o sent
-none-beside r o sent e =
-    let b = oneOf o (0xB0 ∷ []) in
-    let c = canSuspend (r .works .running) in
-    let t = oneOf o (0x30 ∷ []) in
-    let w = oneOf o (0xC7 ∷ 0x01 ∷ 0x42 ∷ 0x8D ∷ 0xE8 ∷ 0x98 ∷ 0xA5 ∷ 0x85 ∷ []) in
-    rw (nothing (r .works .suspended) e, and-true c, and-true t, and-none w) (or-three (b && not c || t))
 
 -- ---- 10 and 11
 

@@ -100,8 +100,8 @@ fn status(p: Playing, l: Line, expected: &[u8], known: &[u8]) -> Playing
     let c = b.chip;
     let rest = c.rest;
     let mut registers = [0u8; 2];
-    registers[0] = acting::status_of(rest);
-    registers[1] = acting::configuration_of(rest);
+    registers[0] = registers::status_of(rest);
+    registers[1] = registers::configuration_of(rest);
     compared_if(
         slots[4] == 0,
         p,

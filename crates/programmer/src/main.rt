@@ -1,4 +1,4 @@
-// A serprog programmer on standard input and output, with the bench chip behind it. What it answers is decided by `serprog`.
+// A serprog programmer on standard input and output, with the bench chip behind it. What it answers is decided by `serprog` and `operating`.
 mod bytes;
 mod session;
 

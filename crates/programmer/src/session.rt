@@ -1,7 +1,7 @@
 // The session: one command after the other, each answered before the next is read, until the input ends.
 use crate::bytes;
+use operating::Bench;
 use serprog::Answer;
-use serprog::Bench;
 ghost use Prim.Native.Nat.{_≤_, _<_};
 ghost use lib.ListN.{length};
 
@@ -55,7 +55,7 @@ fn replied(
     requires { ⌜ (n < length (now answer)) × (n ≤ length (now marks)) ⌝ }
 {
     let end = n + 1;
-    serprog::answer_operation(
+    operating::answer_operation(
         b,
         array,
         security,
@@ -162,7 +162,7 @@ pub fn serve(disguise: bool) {
     let mut answer = [0u8; 65537];
     let mut marks = [0u8; 65536];
     turns(
-        serprog::new_bench(disguise),
+        operating::new_bench(disguise),
         &mut array,
         &mut security,
         &mut sent,

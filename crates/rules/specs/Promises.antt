@@ -4,7 +4,9 @@ use mathlib.Core.List.{List}
 use Prim.Native.Nat.{ℕ}
 use Rattle.rules.specs.declared.After.{After}
 use Rattle.rules.specs.declared.Chip.{Chip}
+use Rattle.rules.specs.declared.Turn.{Turn}
 use Rattle.rules.specs.Words.{lent}
+use Rattle.rules.specs.Fields.{chipOf}
 use Rattle.rules.specs.Numbers.{answerNumber, State, Frame}
 use Rattle.rules.specs.Machine.{Outcome, frame, completion, powerCut}
 
@@ -37,6 +39,10 @@ carriedOf sent reply marks = record { sent = sent; reply = reply; marks = marks 
 
 abbrev pub returnedOf : After → List ℕ → List ℕ → List ℕ → List ℕ → Returned
 returnedOf r array security reply marks = record { after = r; array = array; security = security; reply = reply; marks = marks }
+
+-- what an event gives back, with the page buffer that it leaves
+abbrev pub afterOf : Turn → List ℕ → After
+afterOf t page = record { answer = t .answer; chip = chipOf page (t .rest) }
 
 -- ---- the same for the machine
 

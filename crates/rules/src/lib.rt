@@ -80,6 +80,12 @@ pub struct After {
     pub chip: Chip,
 }
 
+// The same where the page buffer lies with the caller: the answer, and the rest of the record.
+pub struct Turn {
+    pub answer: Answer,
+    pub rest: Rest,
+}
+
 // What a reading frame gives.
 pub enum Source {
     Status,

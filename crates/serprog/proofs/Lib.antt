@@ -1,8 +1,6 @@
 -- Laws that the proofs cite, and what holds of the rules.
 pub mod Arms
 pub mod Laws
-pub mod Answers
 pub mod Map
 pub mod Disguise
-pub mod Time
 pub mod Unique

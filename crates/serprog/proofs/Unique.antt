@@ -1,23 +1,16 @@
 -- No second outcome: whatever meets the guarantee of a public function of this crate at the same input is the same result and the same lent memory.
 -- An equation; a slice is the only one with its memory. Assumes nothing.
 use Prim.Native.Nat.{ℕ}
-use mathlib.Core.Path.{_≡_, ap}
+use mathlib.Core.Path.{_≡_}
 use mathlib.Core.Bool.{Bool}
 use mathlib.Core.List.{List}
 use denote.Ref.{RefT}
 use Rattle.rules.proofs.Promises.{one, lent-one}
 use Rattle.rules.proofs.Outcomes.{OneResult}
-use Rattle.serprog.specs.declared.Bench.{Bench}
-use Rattle.serprog.specs.Operations.{Operated, leaves}
 use Rattle.serprog.proofs.commands.shape_of.Reads as shape-of
 use Rattle.serprog.proofs.commands.answer_to.Reads as answer-to
 use Rattle.serprog.proofs.commands.length_of.Reads as length-of
 use Rattle.serprog.proofs.commands.lengths_fit.Reads as lengths-fit
-use Rattle.serprog.proofs.operations.new_bench.Reads as new-bench
-use Rattle.serprog.proofs.operations.due.Reads as due
-use Rattle.serprog.proofs.operations.reads_after.Reads as reads-after
-use Rattle.serprog.proofs.operations.operate.Reads as operate
-use Rattle.serprog.proofs.operations.answer_operation.Reads as answer-operation
 use Rattle.serprog.proofs.showing.show.Reads as show
 
 pub shape-of-one : OneResult shape-of.Post
@@ -32,50 +25,6 @@ length-of-one κ a x y r r′ p q = one p q
 pub lengths-fit-one : OneResult lengths-fit.Post
 lengths-fit-one κ a x y r r′ p q = one p q
 
-pub new-bench-one : OneResult new-bench.Post
-new-bench-one κ a x y r r′ p q = one p q
-
-pub due-one : OneResult due.Post
-due-one κ a x y r r′ p q = one p q
-
-pub reads-after-one : OneResult reads-after.Post
-reads-after-one κ a x y r r′ p q = one p q
-
 pub show-one : (κ : List ℕ × Unit {0}) (a x y : Bool × (Bool × (ℕ × (RefT (List ℕ) × Unit {0})))) → show.Post κ a tt x → show.Post κ a tt y
     → x .1 .1 .1 .0 .now ≡ y .1 .1 .1 .0 .now
 show-one κ a x y p q = lent-one _ _ (one p q)
-
--- ---- an operation
-
-abbrev pub Slices : Type 0
-Slices = RefT (List ℕ) × (RefT (List ℕ) × (RefT (List ℕ) × (RefT (List ℕ) × (RefT (List ℕ) × Unit {0}))))
-
--- the result, and the array, the Security ID, the reply and the marks at exit
-pub record Same (r r′ : Bench) (x y : Slices) : Type 0 where
-  pub result : r ≡ r′
-  pub array-same : x .0 .now ≡ y .0 .now
-  pub security-same : x .1 .0 .now ≡ y .1 .0 .now
-  pub reply-same : x .1 .1 .1 .0 .now ≡ y .1 .1 .1 .0 .now
-  pub marks-same : x .1 .1 .1 .1 .0 .now ≡ y .1 .1 .1 .1 .0 .now
-
-abbrev left : Bench → Slices → Operated
-left r x = leaves r (x .0 .now) (x .1 .0 .now) (x .1 .1 .1 .0 .now) (x .1 .1 .1 .1 .0 .now)
-
-same-by : (r r′ : Bench) (x y : Slices) → left r x ≡ left r′ y → Same r r′ x y
-same-by r r′ x y e =
-    record {
-      result = ap (λ (o : Operated). o .bench) e;
-      array-same = lent-one _ _ (ap (λ (o : Operated). o .array) e);
-      security-same = lent-one _ _ (ap (λ (o : Operated). o .security) e);
-      reply-same = lent-one _ _ (ap (λ (o : Operated). o .reply) e);
-      marks-same = lent-one _ _ (ap (λ (o : Operated). o .marks) e);
-    }
-
-abbrev OneOperation : {K : Type 0} → (K → Bench × Slices → Bench → Bench × Slices → Type 0) → Type 0
-OneOperation {K} Post = (κ : K) (a x y : Bench × Slices) (r r′ : Bench) → Post κ a r x → Post κ a r′ y → Same r r′ (x .1) (y .1)
-
-pub operate-one : OneOperation operate.Post
-operate-one κ a x y r r′ p q = same-by r r′ (x .1) (y .1) (one (p .outcome) (q .outcome))
-
-pub answer-operation-one : OneOperation answer-operation.Post
-answer-operation-one κ a x y r r′ p q = same-by r r′ (x .1) (y .1) (one (p .outcome) (q .outcome))

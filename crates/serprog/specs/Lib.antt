@@ -1,4 +1,3 @@
--- What a serprog programmer with the bench chip does.
+-- What a serprog programmer answers, and what it shows.
 pub mod Commands
 pub mod Showing
-pub mod Operations

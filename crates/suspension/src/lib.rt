@@ -1,7 +1,6 @@
 // Why the suspension rule refused a frame. specs/Suspension.antt.
 use describing::work;
 use describing::work_places;
-use judging::named;
 use page::form;
 use rules::Work;
 use writing::Row;

@@ -1,7 +1,6 @@
 // Why a number was given. specs/Why.antt.
 use describing::opcode_of;
 use describing::work_places;
-use judging::named;
 use locked::locked;
 use page::form;
 use rules::Chip;

@@ -213,8 +213,8 @@ fn unheld_row(p: Playing, start: usize, n: usize, memory: &[u8], expected: &[u8]
 fn status_unheld(p: Playing, expected: &[u8]) -> Row {
     let rest = heads::rest_now(p);
     let mut registers = [0u8; 2];
-    registers[0] = acting::status_of(rest);
-    registers[1] = acting::configuration_of(rest);
+    registers[0] = registers::status_of(rest);
+    registers[1] = registers::configuration_of(rest);
     if 2 < expected.len() {
         return rows::below(203, 0, 0, 0);
     }

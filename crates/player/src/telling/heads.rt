@@ -125,7 +125,7 @@ fn question_row(p: Playing, q: Question, l: Line) -> Row {
     let works = rest.works;
     let run = works.running;
     match q {
-        Question::Status => rows::numbered(line, 140, acting::status_of(rest) as u64, 0, 0),
+        Question::Status => rows::numbered(line, 140, registers::status_of(rest) as u64, 0, 0),
         Question::Work => rows::work_places(rows::numbered(line, 156, 0, 0, 0), run),
         Question::Locks => rows::numbered(line, 158, locks.protection, locks.permanent, 0),
         Question::Dump => dump_row(line, slots),
@@ -187,7 +187,7 @@ pub fn second(p: Playing, l: Line, sent: &[u8], reply: &[u8], marks: &[u8]) -> R
 
 pub fn status_bit(p: Playing, i: usize) -> Row {
     let rest = rest_now(p);
-    if blocks::bit_at(acting::status_of(rest) as u64, smaller(i, 5) as u32) {
+    if blocks::bit_at(registers::status_of(rest) as u64, smaller(i, 5) as u32) {
         return rows::below(141 + smaller(i, 5), 0, 0, 0);
     }
     rows::empty()
@@ -196,7 +196,7 @@ pub fn status_bit(p: Playing, i: usize) -> Row {
 pub fn configuration(p: Playing, l: Line) -> Row {
     let rest = rest_now(p);
     if l.verb == STATUS {
-        return rows::below(147, acting::configuration_of(rest) as u64, 0, 0);
+        return rows::below(147, registers::configuration_of(rest) as u64, 0, 0);
     }
     rows::empty()
 }
@@ -214,7 +214,7 @@ fn bit_of(i: usize) -> u32
 
 pub fn bit(p: Playing, l: Line, i: usize) -> Row {
     let rest = rest_now(p);
-    if (l.verb == STATUS) & blocks::bit_at(acting::configuration_of(rest) as u64, bit_of(i)) {
+    if (l.verb == STATUS) & blocks::bit_at(registers::configuration_of(rest) as u64, bit_of(i)) {
         return rows::below(148 + smaller(i, 2), 0, 0, 0);
     }
     rows::empty()

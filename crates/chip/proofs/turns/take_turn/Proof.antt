@@ -4,10 +4,10 @@ use mathlib.Core.Path.{_≡_, sym}
 use mathlib.Core.List.{List, []}
 use Rattle.rules.specs.declared.After.{After}
 use Rattle.rules.specs.Fields.{chipOf}
-use Rattle.rules.specs.Promises.{Bench, Carried, Returned, benchOf, carriedOf, returnedOf, FramePromise, CompletionPromise, CutPromise}
+use Rattle.rules.specs.Promises.{Bench, Carried, Returned, benchOf, carriedOf, returnedOf, afterOf, FramePromise, CompletionPromise, CutPromise}
 use Rattle.rules.specs.Demands.{Meets}
 use Rattle.chip.specs.declared.turns.Event.{Event}
-use Rattle.chip.specs.Turns.{afterOf, callOf, LentFor}
+use Rattle.chip.specs.Turns.{callOf, LentFor}
 use borrow.Author.Needs.{needs}
 use Rattle.chip.proofs.turns.take_turn.Statement.{statement}
 use Rattle.chip.proofs.turns.take_turn.Tie as tie

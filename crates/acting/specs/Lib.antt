@@ -1,0 +1,2 @@
+-- What is known before an event.
+pub mod Turns

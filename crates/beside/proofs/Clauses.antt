@@ -1,0 +1,82 @@
+-- The clauses of refusal 8: ranges inside the array, opcodes that change no block, and nothing suspended. Assumes nothing.
+use Prim.Native.Nat.{ℕ, _+_, _*_, _/_, _≤_, _<_}
+use mathlib.Core.Path.{_≡_, refl, sym, _∙_}
+use mathlib.Core.Bool.{Bool, true, false, not, _&&_, _||_}
+use mathlib.Core.List.{List, [], _∷_}
+use borrow.Author.Tests.{not-true}
+use Rattle.rules.specs.declared.Block.{Block}
+use Rattle.rules.specs.declared.Range.{Range}
+use Rattle.rules.specs.declared.Rest.{Rest}
+use Rattle.rules.specs.declared.Work.{Work}
+use Rattle.rules.specs.Words.{oneOf, range, holds}
+use Rattle.rules.specs.Blocks.{arraySize, blockOf, blockAt, span}
+use Rattle.rules.specs.Works.{isNothing, isErase, isProgram, canSuspend, arrayRange}
+use Rattle.rules.specs.Frames.{address}
+use Rattle.rules.specs.WellFormed.{numbersRight}
+use Rattle.rules.specs.Numbers.{suspension}
+use Rattle.rules.proofs.Blocks.{blockOf-lt, block-placed}
+use Rattle.rules.proofs.Ranges.{array-inside}
+use Rattle.rules.proofs.WellFormed.{nothing}
+use Rattle.named.proofs.Lists.{not-among}
+
+-- ---- ranges
+
+pub found-inside : (w : Work) (r : Range) → numbersRight w ≡ true → r ≡ arrayRange w → r .start + r .size ≤ arraySize
+found-inside w r h e = rw e (array-inside w h)
+
+pub block-found : (a n : ℕ) → a < arraySize → n ≡ blockOf a → n < 40
+block-found a n h e = rw e (blockOf-lt a h)
+
+pub block-inside : (n : ℕ) (b : Block) → n < 40 → b ≡ blockAt n → b .start + b .size ≤ arraySize
+block-inside n b h e = rw e (block-placed n h .inside)
+
+-- ---- an opcode that changes one block
+
+module _ (o : ℕ) where
+  abbrev changing : List ℕ
+  changing = 0x20 ∷ 0xD8 ∷ 0x02 ∷ 0x32 ∷ []
+
+  no-erase : (w h : Bool) → (w && oneOf o changing) ≡ false → false ≡ (w && (oneOf o (0x20 ∷ 0xD8 ∷ []) || oneOf o (0x02 ∷ 0x32 ∷ []) && h))
+  no-erase false h f = refl
+  no-erase true h f = rw (not-among changing (0x20 ∷ 0xD8 ∷ []) o refl f, not-among changing (0x02 ∷ 0x32 ∷ []) o refl f)
+
+  no-program : (w h k : Bool) → (w && oneOf o changing) ≡ false → false ≡ (w && (oneOf o (0x02 ∷ 0x32 ∷ []) || oneOf o (0x20 ∷ []) && h || oneOf o (0xD8 ∷ []) && k))
+  no-program false h k f = refl
+  no-program true h k f =
+      rw (not-among changing (0x02 ∷ 0x32 ∷ []) o refl f, not-among changing (0x20 ∷ []) o refl f, not-among changing (0xD8 ∷ []) o refl f)
+
+  module _ (aside : Work) (sent : List ℕ) (x y : Bool) (ey : y ≡ oneOf o changing) (none : not (x && y) ≡ true) where
+    pub no-erase-beside : x ≡ isErase aside
+        → false ≡ (isErase aside && (oneOf o (0x20 ∷ 0xD8 ∷ []) || oneOf o (0x02 ∷ 0x32 ∷ []) && holds (arrayRange aside) (address sent)))
+    no-erase-beside ex = no-erase (isErase aside) _ ((λ i. sym ex i && sym ey i) ∙ not-true _ none)
+
+    pub no-program-beside : x ≡ isProgram aside
+        → false
+        ≡ (isProgram aside
+        && (oneOf o (0x02 ∷ 0x32 ∷ [])
+        || oneOf o (0x20 ∷ []) && holds (range (address sent / 4096 * 4096) 4096) (arrayRange aside .start)
+        || oneOf o (0xD8 ∷ []) && holds (span (blockAt (blockOf (address sent)))) (arrayRange aside .start)))
+    no-program-beside ex = no-program (isProgram aside) _ _ ((λ i. sym ex i && sym ey i) ∙ not-true _ none)
+
+-- ---- nothing suspended
+
+and-true : (a : Bool) → (a && true) ≡ a
+and-true true = refl
+and-true false = refl
+
+and-none : (a : Bool) → (a && false) ≡ false
+and-none true = refl
+and-none false = refl
+
+or-three : (a : Bool) → a ≡ (a || false || false || false)
+or-three true = refl
+or-three false = refl
+
+pub none-beside : (r : Rest) (o : ℕ) (sent : List ℕ) → isNothing (r .works .suspended) ≡ true
+    → (oneOf o (0xB0 ∷ []) && not (canSuspend (r .works .running)) || oneOf o (0x30 ∷ [])) ≡ suspension r o sent
+none-beside r o sent e =
+    let b = oneOf o (0xB0 ∷ []) in
+    let c = canSuspend (r .works .running) in
+    let t = oneOf o (0x30 ∷ []) in
+    let w = oneOf o (0xC7 ∷ 0x01 ∷ 0x42 ∷ 0x8D ∷ 0xE8 ∷ 0x98 ∷ 0xA5 ∷ 0x85 ∷ []) in
+    rw (nothing (r .works .suspended) e, and-true c, and-true t, and-none w) (or-three (b && not c || t))

@@ -1,0 +1,28 @@
+-- Nothing to refuse, or the clause's tests. Assumes nothing.
+use mathlib.Core.Path.{sym, _∙_}
+use borrow.Author.Tests.{not-false}
+use Rattle.rules.proofs.Bools.{and-split}
+use native.Mathlib.Omega.{arith}
+use Rattle.beside.proofs.Clauses.{block-found, block-inside, no-program-beside}
+use borrow.Author.Needs.{needs}
+use Rattle.beside.proofs.beside_program.Statement.{statement}
+use Rattle.beside.proofs.beside_program.Tie as tie
+
+pub beside-program-spec : {M : Type 1} → statement M
+beside-program-spec =
+    tie.close
+    (tie.spec
+    (λ c κs. search needs)
+    (λ c κs. search needs)
+    (λ c. no-program-beside (c .before .before .before .before .args .op) (c .before .before .before .before .args .aside) (c .before .before .before .before .args .sent .now) _ _ (c .before .in-a-block .ensures) (c .if1 .taken) (c .before .before .is-program .ensures))
+    (λ c κs. search needs)
+    (λ c κs. search needs)
+    (λ c. search needs)
+    (λ c κs. search needs)
+    (λ c κs. block-found _ _ (c .before .address-of .ensures .1) (c .block-of .ensures))
+    (λ c κs. let h = c .before .before .address-of .ensures .1 in omega arith)
+    (λ c κs. block-inside _ _ (block-found _ _ (c .before .before .before .address-of .ensures .1) (c .before .before .block-of .ensures)) (c .before .block-at .ensures))
+    (λ c κs. search needs)
+    (λ c κs. search needs)
+    (λ c κs. search needs)
+    (λ c. rw ((sym (c .before .before .before .before .before .before .before .before .before .before .before .is-program .ensures) ∙ and-split _ _ (not-false _ (c .before .before .before .before .before .before .before .before .before .if1 .left)) .0), c .is2 .ensures, c .before .is .ensures, c .before .before .programs .ensures, c .before .before .before .holds-place2 .ensures, c .before .before .before .before .holds-place .ensures, c .before .before .before .before .before .block-at .ensures, c .before .before .before .before .before .before .block-of .ensures, c .before .before .before .before .before .before .before .address-of .ensures .0, c .before .before .before .before .before .before .before .before .array-range .ensures)))

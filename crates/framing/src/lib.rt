@@ -1,0 +1,83 @@
+// A frame where the page buffer lies with the caller: it changes in place, the rest of the record goes in and out by value.
+use acting::done;
+use acting::refused;
+use rules::Answer;
+use rules::Refusal;
+use rules::Rest;
+use rules::Turn;
+ghost use mathlib.Core.Path.{_≡_};
+ghost use mathlib.Core.Bool.{_&&_};
+ghost use lib.Dec.{eqb, leb};
+ghost use Rattle.rules.specs.Fields.{chipOf};
+ghost use Rattle.rules.specs.Promises.{benchOf, carriedOf, returnedOf, afterOf, FramePromise};
+ghost use Rattle.acting.specs.Turns.{StateKnown};
+ghost use Rattle.framing.specs.Framing.{Commandable, TurnedAway};
+
+fn frame_right(sent_len: usize, reply_len: usize, marks_len: usize) -> bool
+    ensures { λ b. ⌜ b ≡ (leb «sent_len» 65536 && leb «reply_len» 65536 && eqb «reply_len» «marks_len») ⌝ }
+{
+    (sent_len <= 65536) & (reply_len <= 65536) & (reply_len == marks_len)
+}
+
+// A frame that is neither empty nor malformed.
+fn command(
+    r: Rest,
+    page: &mut [u8],
+    array: &[u8],
+    security: &[u8],
+    sent: &[u8],
+    reply: &mut [u8],
+    marks: &mut [u8],
+) -> Turn
+    requires { ⌜ Commandable r (now page) (now array) (now security) (now sent) (now reply) (now marks) ⌝ }
+    ensures { λ t. ⌜ FramePromise (benchOf (chipOf (now (page .entry)) r) (now (array .entry)) (now (security .entry))) (carriedOf (now (sent .entry)) (now (reply .entry)) (now (marks .entry))) (returnedOf (afterOf t (now (page .exit))) (now (array .entry)) (now (security .entry)) (now (reply .exit)) (now (marks .exit))) ⌝ }
+{
+    let op = sent[0];
+    let form = opcodes::form_of(op);
+    let answer = judging::judge(r, op, form, sent);
+    match answer {
+        Answer::Done => {
+            let kind = form.kind;
+            replying::respond(kind, r, array, security, sent, reply, marks);
+            pages::page_after(kind, sent, page);
+            done(acting::acted(kind, sent, r))
+        }
+        Answer::Refused(why) => {
+            replying::fill_both(reply, marks, 255, 0);
+            refused(why, acting::used(r))
+        }
+    }
+}
+
+// Refusal 1 leaves every byte; 2 fills the reply and the marks.
+fn turned_away(r: Rest, right: bool, reply: &mut [u8], marks: &mut [u8]) -> Turn
+    ensures { λ t. ⌜ TurnedAway r right (now (reply .entry)) (now (marks .entry)) t (now (reply .exit)) (now (marks .exit)) ⌝ }
+{
+    if right {
+        replying::fill_both(reply, marks, 255, 0);
+        return refused(Refusal::Empty, r);
+    }
+    refused(Refusal::Malformed, r)
+}
+
+// A frame: the bytes sent while CE# is low, and the two reply buffers.
+pub fn frame_turn(
+    known: bool,
+    r: Rest,
+    page: &mut [u8],
+    array: &[u8],
+    security: &[u8],
+    sent: &[u8],
+    reply: &mut [u8],
+    marks: &mut [u8],
+) -> Turn
+    requires { ⌜ StateKnown known r (now page) (now array) (now security) ⌝ }
+    ensures { λ t. ⌜ FramePromise (benchOf (chipOf (now (page .entry)) r) (now (array .entry)) (now (security .entry))) (carriedOf (now (sent .entry)) (now (reply .entry)) (now (marks .entry))) (returnedOf (afterOf t (now (page .exit))) (now (array .entry)) (now (security .entry)) (now (reply .exit)) (now (marks .exit))) ⌝ }
+{
+    let fits = frame_right(sent.len(), reply.len(), marks.len());
+    let right = known & fits;
+    if right & (0 < sent.len()) {
+        return command(r, page, array, security, sent, reply, marks);
+    }
+    turned_away(r, right, reply, marks)
+}

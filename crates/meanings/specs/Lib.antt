@@ -1,0 +1,2 @@
+-- The meaning of each number.
+pub mod Meanings

@@ -1,0 +1,3 @@
+-- Laws of lists of opcodes.
+pub mod Lists
+pub mod Unique

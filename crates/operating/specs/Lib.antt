@@ -1,0 +1,2 @@
+-- One operation on the bench chip.
+pub mod Operations

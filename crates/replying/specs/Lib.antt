@@ -1,0 +1,2 @@
+-- What a reply is asked, and what it leaves.
+pub mod Replying
