@@ -20,7 +20,7 @@ use Rattle.memory.proofs.finish_array.Reads as finish-array
 use Rattle.memory.proofs.finish_security.Reads as finish-security
 
 -- a patch leaves no second list
-patched-one : {l k l₀ : List ℕ} {from n : ℕ} {f : ℕ → ℕ} → Patched l l₀ from n f → Patched k l₀ from n f → l ≡ k
+pub patched-one : {l k l₀ : List ℕ} {from n : ℕ} {f : ℕ → ℕ} → Patched l l₀ from n f → Patched k l₀ from n f → l ≡ k
 patched-one {l} {k} {l₀} {from} {n} {f} p q = ext-getD 0 l k (p .size ∙ sym (q .size)) (λ i below. go i (decLt i from) (decLt i (from + n)))
   where
     go : (i : ℕ) → Dec (i < from) → Dec (i < from + n) → getD l i 0 ≡ getD k i 0

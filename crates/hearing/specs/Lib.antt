@@ -1,0 +1,2 @@
+-- A serprog command half heard.
+pub mod Heard

@@ -1,0 +1,4 @@
+-- Laws of a session.
+mod Parts
+mod Operations
+pub mod Unique

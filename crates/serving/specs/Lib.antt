@@ -1,0 +1,2 @@
+-- A serprog session, byte by byte.
+pub mod Sessions
