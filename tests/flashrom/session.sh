@@ -5,7 +5,8 @@ set -eu
 for tool in flashrom socat rt; do
     command -v "$tool" >/dev/null || { echo "$0 needs $tool, which is not installed"; exit 2; }
 done
-out=$PWD/target/flashrom
+root=$PWD
+out=$root/target/flashrom
 port=${FULKIBONO_PORT:-14747}
 known='SST26VF016B(A)'
 rm -rf "$out"
@@ -14,10 +15,10 @@ rt check programmer >"$out/check.txt" 2>&1 || { cat "$out/check.txt"; exit 1; }
 
 # the program is code for x86-64; on another processor the kit's emulator runs it
 if [ "$(uname -m)" = x86_64 ]; then
-    programmer() { target/bin/programmer "$@"; }
+    programmer() { "$root/target/bin/programmer" "$@"; }
 else
     tools=$(cd "$(dirname "$(rt doc)")/.." && pwd -P)/on/$(uname -m)/toolchain
-    programmer() { "$tools/bin/qemu-x86_64" "$tools/lib/ld-linux-x86-64.so.2" --library-path "$tools/lib" target/bin/programmer "$@"; }
+    programmer() { "$tools/bin/qemu-x86_64" "$tools/lib/ld-linux-x86-64.so.2" --library-path "$tools/lib" "$root/target/bin/programmer" "$@"; }
 fi
 
 # what goes in and comes out is kept in stdin and stdout
