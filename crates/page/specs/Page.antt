@@ -1,7 +1,8 @@
--- The page of forms: rows as data, a form a line. 01, Numbers the bench gives back, has each number in the words of its line there.
+-- The page of forms: rows as data, a form a line. Each number has its line in 01, in the words that a C program gets for it.
 use Prim.Native.Nat.{ℕ}
 use mathlib.Core.List.{List, [], _++_}
 use Rattle.rules.specs.Texts.{ascii}
+use Rattle.meanings.specs.Meanings.{meaning}
 use Rattle.writing.specs.declared.Row.{Row}
 use Rattle.forms.specs.Forms.{filled}
 
@@ -31,19 +32,19 @@ page =
     ++ ascii "refused %n\n"  -- 21
     ++ ascii " line  sent                    answer and reply\n"  -- 22
     ++ ascii "#\n"  -- 23
-    ++ ascii "done\n"  -- 24
-    ++ ascii "record not well-formed, or a length outside \"Sizes\"\n"  -- 25
-    ++ ascii "frame empty\n"  -- 26
-    ++ ascii "opcode not listed, or not in this protocol\n"  -- 27
-    ++ ascii "length not as listed\n"  -- 28
-    ++ ascii "BUSY, and opcode not 05, 66, 99, B0\n"  -- 29
-    ++ ascii "99 with no enable\n"  -- 30
-    ++ ascii "6B or 32 with IOC 0\n"  -- 31
-    ++ ascii "suspension rule\n"  -- 32
-    ++ ascii "WEL needed and 0\n"  -- 33
-    ++ ascii "42 or 98 with WPLD 1; A5 or 85 with SEC 1; A5 to places 0 to 7\n"  -- 34
-    ++ ascii "20, D8, 02, 32 in a write-locked block; C7 with a write lock set\n"  -- 35
-    ++ ascii "completion with nothing running\n"  -- 36
+    ++ (meaning 0 ++ ascii "\n")  -- 24
+    ++ (meaning 1 ++ ascii "\n")  -- 25
+    ++ (meaning 2 ++ ascii "\n")  -- 26
+    ++ (meaning 3 ++ ascii "\n")  -- 27
+    ++ (meaning 4 ++ ascii "\n")  -- 28
+    ++ (meaning 5 ++ ascii "\n")  -- 29
+    ++ (meaning 6 ++ ascii "\n")  -- 30
+    ++ (meaning 7 ++ ascii "\n")  -- 31
+    ++ (meaning 8 ++ ascii "\n")  -- 32
+    ++ (meaning 9 ++ ascii "\n")  -- 33
+    ++ (meaning 10 ++ ascii "\n")  -- 34
+    ++ (meaning 11 ++ ascii "\n")  -- 35
+    ++ (meaning 12 ++ ascii "\n")  -- 36
     ++ ascii "\n"  -- 37
     ++ ascii "\n"  -- 38
     ++ ascii "\n"  -- 39

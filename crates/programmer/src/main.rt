@@ -91,6 +91,6 @@ fn arguments_taken(n: usize) -> Session {
 fn main() {
     let s = arguments_taken(os::arg_count());
     if !s.served & !s.wrong {
-        desk::serve(0, s.disguise);
+        session_served(s, b"-");
     }
 }

@@ -1,4 +1,5 @@
 -- The page in code is the page of the definitions. Assumes nothing.
+use Rattle.meanings.specs.Meanings.{meaning}
 use Rattle.page.specs.Page.{page, form}
 use borrow.Author.Needs.{needs}
 use Rattle.page.proofs.form.Statement.{statement}
@@ -11,7 +12,7 @@ fill-requires : tie.Need-fill-requires
 fill-requires c κs = search needs
 
 returns : tie.Need-returns
-unfolding page form
+unfolding meaning page form
 returns c = c .fill .ensures
 
 pub form-spec : {M : Type 1} → statement M
