@@ -55,6 +55,8 @@ pub struct Feed {
     // of this script or of all random lines: cases, and lines after which the models differ
     pub cases: u64,
     pub odd: u64,
+    // how often the memories were compared
+    pub compared: u64,
     // of all of them
     pub events: u64,
     pub differences: u64,
@@ -79,6 +81,7 @@ pub fn first() -> Feed {
         printed: false,
         cases: 0,
         odd: 0,
+        compared: 0,
         events: 0,
         differences: 0,
     }
@@ -106,6 +109,18 @@ pub fn took(f: Feed) -> Feed {
     next
 }
 
+// After a line in which the models differ or not.
+pub fn with_line(f: Feed, odd: u64) -> Feed {
+    let mut next = f;
+    if is_whole(f) {
+        next.compared = std::num::wrapping_add_u64(f.compared, 1);
+    }
+    if odd != 0 {
+        next.odd = std::num::wrapping_add_u64(f.odd, 1);
+    }
+    next
+}
+
 // A script's own lines are counted from its first one on.
 pub fn started(f: Feed) -> Feed {
     let mut next = f;
@@ -113,6 +128,7 @@ pub fn started(f: Feed) -> Feed {
         next.fresh = false;
         next.cases = 0;
         next.odd = 0;
+        next.compared = 0;
     }
     next
 }
@@ -215,6 +231,12 @@ fn plant_said(plant: u64) {
     }
 }
 
+fn compared_said(f: Feed, now: Playing) {
+    say_number(b" events, memories compared ", f.compared);
+    say_number(b" times, ", differences(f, now));
+    say(b" differences\n");
+}
+
 // Its row; with a planted difference it is played once more for each comparison, and counts for nothing else.
 fn ended(f: Feed, now: Playing) -> Feed {
     libc::close(f.fd);
@@ -222,8 +244,7 @@ fn ended(f: Feed, now: Playing) -> Feed {
     plant_said(f.plant);
     say_number(b": ", f.cases);
     say_number(b" cases, ", report::events(now));
-    say_number(b" events, ", differences(f, now));
-    say(b" differences\n");
+    compared_said(f, now);
     let mut next = in_phase(f, NEXT);
     if f.plant == 0 {
         next.events = std::num::wrapping_add_u64(f.events, report::events(now));
@@ -283,8 +304,7 @@ fn next_series(f: Feed, now: Playing) -> Feed {
     if next.series == 3 {
         say_word(f.word);
         say_number(b": ", report::events(now));
-        say_number(b" events, ", differences(f, now));
-        say(b" differences\n");
+        compared_said(f, now);
         next.events = std::num::wrapping_add_u64(f.events, report::events(now));
         next.differences = std::num::wrapping_add_u64(f.differences, differences(f, now));
         next.plant = 2;

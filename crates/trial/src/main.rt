@@ -48,16 +48,12 @@ fn plant_of(f: Feed, verb: u8) -> u64 {
 
 // What is not as it should be after a line is told, and counted; of random lines and planted differences it is only counted, but where they are printed.
 fn told(f: Feed, before: Playing, now: Playing, odd: u64) -> Feed {
-    let mut next = f;
     let unmet = report::unmet(before) != report::unmet(now);
     let bench = now.bench;
     if feed::shows(f) {
         report::line_said(f.word, bench.line, unmet, odd);
     }
-    if odd != 0 {
-        next.odd = std::num::wrapping_add_u64(f.odd, 1);
-    }
-    next
+    feed::with_line(f, odd)
 }
 
 // A case is counted, or an event of a random run.
