@@ -1,3 +1,2 @@
--- Laws that the proofs cite.
-pub mod Events
+-- Laws over the contracts.
 pub mod Unique

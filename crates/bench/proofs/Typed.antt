@@ -30,8 +30,9 @@ use Rattle.rules.proofs.Bools.{and-split}
 use Rattle.rules.proofs.Blocks.{blockOf-lt}
 use Rattle.rules.proofs.Fields.{num-small}
 use Rattle.rules.proofs.Effects.{fill-length}
-use Rattle.record_code.specs.Layout.{recordSize, numberAt, fieldIn, numberOf, workRight, isCode, restIn, chipIn, TypedRest, Typed}
-use Rattle.record_code.proofs.Laws.{work-kept}
+use Rattle.record_code.specs.Layout.{recordSize, numberAt, fieldIn, isCode, restIn, chipIn, TypedRest, Typed}
+use Rattle.numbering.specs.Numbering.{numberOf, workRight}
+use Rattle.numbering.proofs.Works.{work-kept}
 use Rattle.record_code.proofs.Faithful.{known-length}
 use Rattle.bench.specs.Refusals.{OfBytes}
 use Rattle.bench.proofs.Calls.{page-size}

@@ -17,7 +17,7 @@ ghost use Rattle.rules.specs.Promises.{benchOf, carriedOf, returnedOf, FramePro
 pub fn new() -> Chip
     ensures { λ r. ⌜ r ≡ newChip ⌝ }
 {
-    let rest = acting::new_rest();
+    let rest = power::new_rest();
     Chip {
         buffer: [255; 256],
         rest,

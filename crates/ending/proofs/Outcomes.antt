@@ -20,7 +20,7 @@ use Rattle.rules.specs.Machine.{completion, powerCut}
 use Rattle.rules.specs.Promises.{benchOf, returnedOf, afterOf, stateOf, outcomeOf}
 use Rattle.rules.proofs.Numbers.{completion-given, cut-given}
 use Rattle.rules.proofs.Refusals.{completion-refused, cut-refused, completion-done-whole, cut-done-whole}
-use Rattle.acting.proofs.Events.{outcome-ext}
+use Rattle.turns.proofs.Events.{outcome-ext}
 
 module _ (r : Rest) (page array security : List ℕ) where
   abbrev at : State

@@ -1,13 +1,13 @@
 // A completion and a power cut where the page buffer lies with the caller: it changes in place, the rest of the record goes in and out by value.
-use acting::done;
-use acting::refused;
+use turns::done;
+use turns::refused;
 use rules::Refusal;
 use rules::Rest;
 use rules::Turn;
 ghost use mathlib.Core.List.{[]};
 ghost use Rattle.rules.specs.Fields.{chipOf};
 ghost use Rattle.rules.specs.Promises.{benchOf, returnedOf, afterOf, CompletionPromise, CutPromise};
-ghost use Rattle.acting.specs.Turns.{StateKnown};
+ghost use Rattle.turns.specs.Turns.{StateKnown};
 
 // The running operation ends.
 pub fn completion_turn(
@@ -32,7 +32,7 @@ pub fn completion_turn(
     memory::finish_array(run, page, 2097152, array);
     memory::finish_security(run, page, 2097152, security);
     pages::page_rested(aside, page);
-    done(acting::completed(r))
+    done(settling::completed(r))
 }
 
 // A power cut after k bytes of the running operation.
@@ -56,5 +56,5 @@ pub fn cut_turn(
     memory::finish_array(run, page, n, array);
     memory::finish_security(run, page, n, security);
     memory::blank_page(page);
-    done(acting::cut(r, 0 < k))
+    done(settling::cut(r, 0 < k))
 }

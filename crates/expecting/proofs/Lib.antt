@@ -1,5 +1,4 @@
 -- Laws that the proofs cite.
 pub mod Firsts
 pub mod Cases
-pub mod Sames
 pub mod Unique

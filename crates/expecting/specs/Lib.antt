@@ -1,4 +1,2 @@
--- When what a script expects is met, the record that it says, and what is counted.
+-- When what a script expects is met.
 pub mod Expectations
-pub mod Records
-pub mod Tallies

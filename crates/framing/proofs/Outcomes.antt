@@ -24,7 +24,7 @@ use Rattle.rules.specs.Promises.{benchOf, carriedOf, returnedOf, afterOf, state
 use Rattle.rules.proofs.Bools.{and-split, not-intro}
 use Rattle.rules.proofs.Numbers.{first-above, frame-given}
 use Rattle.rules.proofs.Refusals.{frame-refused-1, frame-refused-2, frame-refused-more, frame-done-whole}
-use Rattle.acting.proofs.Events.{outcome-ext, state-parts, suspended-right}
+use Rattle.turns.proofs.Events.{outcome-ext, state-parts, suspended-right}
 use Rattle.replying.specs.Replying.{Replied, Showable}
 use Rattle.framing.specs.Framing.{Commandable, TurnedAway}
 

@@ -1,6 +1,6 @@
 // A frame where the page buffer lies with the caller: it changes in place, the rest of the record goes in and out by value.
-use acting::done;
-use acting::refused;
+use turns::done;
+use turns::refused;
 use rules::Answer;
 use rules::Refusal;
 use rules::Rest;
@@ -10,7 +10,7 @@ ghost use mathlib.Core.Bool.{_&&_};
 ghost use lib.Dec.{eqb, leb};
 ghost use Rattle.rules.specs.Fields.{chipOf};
 ghost use Rattle.rules.specs.Promises.{benchOf, carriedOf, returnedOf, afterOf, FramePromise};
-ghost use Rattle.acting.specs.Turns.{StateKnown};
+ghost use Rattle.turns.specs.Turns.{StateKnown};
 ghost use Rattle.framing.specs.Framing.{Commandable, TurnedAway};
 
 fn frame_right(sent_len: usize, reply_len: usize, marks_len: usize) -> bool

@@ -7,8 +7,8 @@ use native.Mathlib.Nat.{pow-suc, pow-le-pow-right}
 use lib.Dec.{lit<}
 use lib.ListN.{length}
 use borrow.Author.Tests.{le-leb, lt-leb}
-use Rattle.grammar.specs.declared.Word.{Word}
-use Rattle.grammar.specs.Words.{oneMore, noWord, wordWith, keyFrom, key}
+use Rattle.spelling.specs.declared.Word.{Word}
+use Rattle.spelling.specs.Words.{oneMore, noWord, wordWith, keyFrom, key}
 use Rattle.grammar.specs.Table.{keys, position, called}
 use Rattle.grammar.proofs.Spelled.{spelled, length-is}
 

@@ -10,8 +10,8 @@ use lib.ListN.{length, getD, drop, drop-of-length-le}
 use lib.Seq.{drop-cons, drop-drop, getD-drop}
 use borrow.Author.Tests.{eq-eqb, ne-eqb}
 use Rattle.rules.specs.Words.{pick, oneOf}
-use Rattle.grammar.specs.declared.Word.{Word}
-use Rattle.grammar.specs.Words.{keyWith}
+use Rattle.spelling.specs.declared.Word.{Word}
+use Rattle.spelling.specs.Words.{keyWith}
 use Rattle.grammar.specs.Table.{Row, rowIn, rowsFrom, firstOf, noEntry, hasClass, position, keysFrom, numbersIn}
 use Rattle.grammar.proofs.Picks.{picked, passed-over}
 

@@ -9,8 +9,8 @@ use lib.Dec.{ltb, lit<, lit≤}
 use lib.ListN.{length}
 use borrow.Author.Tests.{ltb-true}
 use Rattle.rules.proofs.Bools.{and-split}
-use Rattle.grammar.specs.declared.Word.{Word}
-use Rattle.grammar.specs.Words.{digitOf, most, oneMore, tensOf, noWord, wordWith, byteOf}
+use Rattle.spelling.specs.declared.Word.{Word}
+use Rattle.spelling.specs.Words.{digitOf, most, oneMore, tensOf, noWord, wordWith, byteOf}
 use Rattle.grammar.specs.Table.{byte, hasClass}
 
 -- the word w with more bytes, the first of them at that column

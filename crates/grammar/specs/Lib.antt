@@ -1,5 +1,4 @@
--- The words of a script's line and its grammar. The language as a whole is told in crate `script`, specs/Lib.
-pub mod Words
+-- The grammar of a script's line. The language as a whole is told in crate `script`, specs/Lib.
 pub mod Places
 pub mod Slots
 pub mod Verbs

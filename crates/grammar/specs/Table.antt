@@ -8,9 +8,9 @@ use lib.Dec.{eqb, ltb, leb}
 use lib.ListN.{length, getD, drop, set}
 use Rattle.rules.specs.Words.{pick, oneOf}
 use Rattle.rules.specs.Texts.{ascii}
-use Rattle.grammar.specs.declared.Word.{Word}
+use Rattle.spelling.specs.declared.Word.{Word}
 use Rattle.grammar.specs.declared.Entry.{Entry}
-use Rattle.grammar.specs.Words.{key, keyWith}
+use Rattle.spelling.specs.Words.{key, keyWith}
 use Rattle.grammar.specs.Places.{lineStart, afterByte, afterByteStar, afterBytes, afterReply, afterReplyCount, afterSlash, afterMarkCount, afterEqual, afterExpected, afterTilde, afterExpectedStar, afterExpectedTimes, afterRefuse, lineDone, afterEvent, afterCut, afterQuestion, afterAsked, afterAnswer, afterAnswerTilde, afterAnswerStar, afterAnswerTimes, afterDump, afterDumpId, afterDumpPlace, afterFill, afterFillId, afterFillPlace, afterFillCount, afterLend, afterLendArray, inFields, afterProtect, afterPerm, afterRun, afterAside, afterRunKind, afterAsideKind, afterNoReply, afterNoReplySlash, afterAny, afterAnyStar, afterAnyTimes, afterAnswerAny, afterAnswerAnyStar, afterAnswerAnyTimes}
 use Rattle.grammar.specs.Slots.{verb, wanted, marksGiven, marks, expecting, judged, refused, from, size, filling, ofId, protection, permanent, runKind, runNumber, asideKind, asideNumber, sqi, wel, ioc, wpen, wpld, sec, enable}
 use Rattle.grammar.specs.Verbs as verbs

@@ -1,13 +1,13 @@
 // The table: what may follow what, and what a word says where it stands. specs/Table.antt.
 use crate::Entry;
-use crate::Word;
-use crate::words::key_after;
+use spelling::Word;
+use spelling::key_after;
 ghost use mathlib.Core.Path.{_≡_};
 ghost use Prim.Native.Nat.{_+_, _-_, min};
 ghost use lib.Dec.{eqb};
 ghost use lib.ListN.{getD};
 ghost use Rattle.rules.specs.Words.{pick, oneOf};
-ghost use Rattle.grammar.specs.Words.{keyWith};
+ghost use Rattle.spelling.specs.Words.{keyWith};
 ghost use Rattle.grammar.specs.Table.{position, keysFrom, called, hasClass, firstOf, rowsIn, numbersIn, nextOf, canEnd, valueOf, slotsWith};
 
 // ---- the words

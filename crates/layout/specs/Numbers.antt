@@ -6,7 +6,8 @@ use Rattle.rules.specs.declared.Rest.{Rest}
 use Rattle.rules.specs.declared.Work.the-variants.{Nothing, EraseSector, EraseBlock, EraseArray, ProgramPage, ProgramSecurity, LockSecurity, WriteConfiguration, AddPermanent}
 use Rattle.rules.specs.Fields.{withSqi, withWel, withIoc, withWpen, withWpld, withSec, withEnable, flagsNumber}
 use Rattle.rules.specs.Commands.{newChip}
-use Rattle.record_code.specs.Layout.{recordSize, placeOf, kindOf}
+use Rattle.numbering.specs.Numbering.{kindOf}
+use Rattle.record_code.specs.Layout.{recordSize, placeOf}
 
 -- the flags' byte where a new chip's record has one flag set
 abbrev pub flagBy : (Bool → Rest → Rest) → ℕ

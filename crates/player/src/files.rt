@@ -2,7 +2,7 @@
 use crate::parts::within;
 use crate::telling;
 use crate::telling::Place;
-use expecting::Tally;
+use tallies::Tally;
 use playing::Playing;
 use rows::Row;
 
@@ -259,7 +259,7 @@ fn input_played(s: Session, fd: i32) -> Session {
     say_row(rows::plain(22, 0, 0, 0));
     let t = script_played(fd, s.strict, s.prompt);
     totals_told(rows::empty(), t);
-    let sum = expecting::sum_of(s.tally, t);
+    let sum = tallies::sum_of(s.tally, t);
     let mut next = s;
     next.scripts = std::num::wrapping_add_u64(s.scripts, 1);
     next.tally = sum;
@@ -345,7 +345,7 @@ pub fn all_played() {
         strict: false,
         prompt: false,
         scripts: 0,
-        tally: expecting::no_events(),
+        tally: tallies::no_events(),
     };
     let n = os::arg_count();
     if n < 2 {

@@ -14,9 +14,9 @@ use Rattle.rules.specs.Promises.{benchOf, stateOf}
 use Rattle.grammar.specs.Slots as slots
 use Rattle.script.specs.declared.Line.{Line}
 use Rattle.expecting.specs.declared.Verdict.{Verdict}
-use Rattle.expecting.specs.Records.{slot, said}
+use Rattle.fields.specs.Records.{slot, said}
 use Rattle.expecting.specs.Expectations.{Judged, unmet}
-use Rattle.expecting.specs.Tallies.{afterEvent}
+use Rattle.tallies.specs.Tallies.{afterEvent}
 use Rattle.playing.specs.declared.Bench.{Bench}
 use Rattle.playing.specs.declared.Event.{Event}
 use Rattle.playing.specs.declared.Playing.{Playing}

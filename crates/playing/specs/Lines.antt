@@ -9,7 +9,7 @@ use Rattle.script.specs.declared.Line.{Line}
 use Rattle.script.specs.declared.Reading.{Reading}
 use Rattle.script.specs.Lines.{fresh, lineOf, StepPromise}
 use Rattle.expecting.specs.declared.Verdict.{Verdict}
-use Rattle.expecting.specs.Tallies.{untold, afterWrong}
+use Rattle.tallies.specs.Tallies.{untold, afterWrong}
 use Rattle.playing.specs.declared.Bench.{Bench}
 use Rattle.playing.specs.declared.Deed.{Deed}
 use Rattle.playing.specs.declared.Playing.{Playing}

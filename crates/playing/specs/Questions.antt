@@ -12,8 +12,8 @@ use Rattle.rules.specs.Registers.{status, configuration}
 use Rattle.grammar.specs.Slots as slots
 use Rattle.script.specs.declared.Line.{Line}
 use Rattle.expecting.specs.Expectations.{First, unheld}
-use Rattle.expecting.specs.Records.{slot, sameRecord}
-use Rattle.expecting.specs.Tallies.{afterUnmet}
+use Rattle.fields.specs.Records.{slot, sameRecord}
+use Rattle.tallies.specs.Tallies.{afterUnmet}
 use Rattle.playing.specs.declared.Bench.{Bench}
 use Rattle.playing.specs.declared.Playing.{Playing}
 use Rattle.playing.specs.declared.Question.{Question}

@@ -12,8 +12,8 @@ use Rattle.rules.specs.Blocks.{arraySize, securitySize}
 use Rattle.rules.specs.Fields.{chipOf}
 use Rattle.rules.specs.Commands.{newChip}
 use Rattle.grammar.specs.Slots as slots
-use Rattle.expecting.specs.declared.Tally.{Tally}
-use Rattle.expecting.specs.Records.{slot, recordOf}
+use Rattle.tallies.specs.declared.Tally.{Tally}
+use Rattle.fields.specs.Records.{slot, recordOf}
 use Rattle.playing.specs.declared.Bench.{Bench}
 use Rattle.playing.specs.declared.Playing.{Playing}
 use Rattle.playing.specs.declared.Setting.{Setting}

@@ -152,7 +152,7 @@ fn counted(p: Playing, after: After, number: u8, v: Verdict) -> Playing
 {
     let c = after.chip;
     let mut bench = p.bench;
-    let tally = expecting::with_event(bench.tally, number, expecting::unmet(v));
+    let tally = tallies::with_event(bench.tally, number, expecting::unmet(v));
     bench.chip = c;
     bench.tally = tally;
     let mut next = p;

@@ -5,7 +5,7 @@ mod questions;
 mod settings;
 
 pub use deeds::deed_of;
-use expecting::Tally;
+use tallies::Tally;
 use expecting::Verdict;
 use rules::Chip;
 use script::Line;
@@ -95,7 +95,7 @@ pub fn start(strict: bool) -> Playing
     ensures { λ q. ⌜ q ≡ begun strict ⌝ }
 {
     let chip = chip::new();
-    let tally = expecting::no_events();
+    let tally = tallies::no_events();
     let bench = Bench {
         chip,
         tally,
@@ -156,7 +156,7 @@ fn wrong(p: Playing) -> Playing
     ensures { λ q. ⌜ q ≡ wrongCounted p ⌝ }
 {
     let mut bench = p.bench;
-    let tally = expecting::with_wrong_line(bench.tally);
+    let tally = tallies::with_wrong_line(bench.tally);
     bench.tally = tally;
     with_bench(p, bench)
 }

@@ -9,7 +9,7 @@ ghost use lib.Dec.{eqb, ltb};
 ghost use lib.ListN.{length};
 ghost use Prim.Native.Nat.{_+_, _%_};
 ghost use Rattle.rules.specs.Words.{pick};
-ghost use Rattle.expecting.specs.Records.{sameRecord};
+ghost use Rattle.fields.specs.Records.{sameRecord};
 ghost use Rattle.playing.specs.Questions.{oneUnmet, answered, Compared, ComparedIf, registersOf, silent, QuestionPlayed};
 
 // The remainder; of 0 it is 0.
@@ -38,7 +38,7 @@ fn past_end(size: usize, start: usize, n: usize) -> bool
 fn one_unmet(b: Bench) -> Bench
     ensures { λ r. ⌜ r ≡ oneUnmet b ⌝ }
 {
-    let tally = expecting::with_unmet(b.tally, 1);
+    let tally = tallies::with_unmet(b.tally, 1);
     let mut next = b;
     next.tally = tally;
     next
@@ -119,7 +119,7 @@ fn is(p: Playing, l: Line) -> Playing
     let slots = l.slots;
     let b = p.bench;
     let c = b.chip;
-    if expecting::same_record(c, slots) {
+    if fields::same_record(c, slots) {
         return p;
     }
     answered(p, one_unmet(b), 1, p.held)

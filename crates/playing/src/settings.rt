@@ -107,7 +107,7 @@ fn set(b: Bench, s: Setting, slots: [u64; 24]) -> Bench
             next
         }
         Setting::Record => {
-            let c = expecting::record_of(slots);
+            let c = fields::record_of(slots);
             next.chip = c;
             next
         }

@@ -15,8 +15,10 @@ use Rattle.rules.specs.declared.Rest.{Rest}
 use Rattle.rules.specs.Fields.{locksOf, worksOf, restOf, chipOf, flagsNumber, flagsIn, flagsBound}
 use Rattle.rules.proofs.Bools.{and-split, and-both}
 use Rattle.rules.proofs.Fields.{flags-back, flags-kept}
-use Rattle.record_code.specs.Layout.{placeOf, sizeOf, recordSize, bytes, numberAt, fieldIn, kindOf, numberOf, restCode, code, workRight, workOf, restIn, isCode, NothingReserved, chipIn, decode, TypedRest, Typed}
-use Rattle.record_code.proofs.Laws.{number-past, number-bytes, bytes-number, bytes-none, parts, work-back, work-small, work-kept}
+use Rattle.numbering.specs.Numbering.{kindOf, numberOf, workRight, workOf}
+use Rattle.numbering.proofs.Works.{work-back, work-small, work-kept}
+use Rattle.record_code.specs.Layout.{placeOf, sizeOf, recordSize, bytes, numberAt, fieldIn, restCode, code, restIn, isCode, NothingReserved, chipIn, decode, TypedRest, Typed}
+use Rattle.record_code.proofs.Laws.{number-past, number-bytes, bytes-number, bytes-none, parts}
 
 -- the page and what stands behind it
 pub code-of : (b : List ℕ) (r : Rest) → code (chipOf b r) ≡ b ++ restCode r

@@ -1,6 +1,10 @@
 // The chip record as bytes: what crosses the boundary to other languages and is stored. The layout is in specs/Layout.antt.
 // The page stays where it is: these functions read and write what stands behind it.
-use rules::Flags;
+use numbering::flags_number;
+use numbering::flags_of;
+use numbering::flags_right;
+use numbering::kind_of;
+use numbering::number_of;
 use rules::Locks;
 use rules::Rest;
 use rules::Work;
@@ -8,12 +12,11 @@ use rules::Works;
 ghost use mathlib.Core.Path.{_≡_};
 ghost use mathlib.Core.List.{_++_};
 ghost use Prim.Native.Nat.{_+_, _*_, _≤_};
-ghost use lib.Dec.{eqb, ltb};
+ghost use lib.Dec.{eqb};
 ghost use lib.ListN.{length, take, drop};
-ghost use Rattle.rules.specs.Words.{num};
-ghost use Rattle.rules.specs.Fields.{flagsNumber, flagsIn, flagsBound};
 ghost use Rattle.rules.specs.Commands.{newChip};
-ghost use Rattle.record_code.specs.Layout.{bytes, numberAt, word, kindOf, numberOf, workRight, workOf, restCode, restIn, isCode, NothingReserved};
+ghost use Rattle.numbering.specs.Numbering.{workRight, workOf};
+ghost use Rattle.record_code.specs.Layout.{bytes, numberAt, word, restCode, restIn, isCode, NothingReserved};
 
 // ---- from a record to bytes
 
@@ -29,63 +32,6 @@ fn put_number(coded: &mut [u8], at: usize, n: usize, x: u64)
         left = left / 256;
         i += 1;
     }
-}
-
-fn kind_of(w: Work) -> u64
-    ensures { λ r. ⌜ r ≡ kindOf w ⌝ }
-{
-    match w {
-        Work::Nothing => 0,
-        Work::EraseSector(_) => 1,
-        Work::EraseBlock(_) => 2,
-        Work::EraseArray => 3,
-        Work::ProgramPage(_) => 4,
-        Work::ProgramSecurity(_) => 5,
-        Work::LockSecurity => 6,
-        Work::WriteConfiguration(_, _) => 7,
-        Work::AddPermanent(_) => 8,
-    }
-}
-
-// 1 or 0.
-fn bit_of(on: bool) -> u64
-    ensures { λ r. ⌜ (r ≡ num on) × (r ≤ 1) ⌝ }
-{
-    if on { 1 } else { 0 }
-}
-
-fn number_of(w: Work) -> u64
-    ensures { λ r. ⌜ r ≡ numberOf w ⌝ }
-{
-    match w {
-        Work::Nothing => 0,
-        Work::EraseSector(n) => n as u64,
-        Work::EraseBlock(n) => n as u64,
-        Work::EraseArray => 0,
-        Work::ProgramPage(n) => n as u64,
-        Work::ProgramSecurity(n) => n as u64,
-        Work::LockSecurity => 0,
-        Work::WriteConfiguration(ioc, wpen) => {
-            if ioc {
-                if wpen { 3 } else { 1 }
-            } else {
-                if wpen { 2 } else { 0 }
-            }
-        }
-        Work::AddPermanent(v) => v,
-    }
-}
-
-fn flags_number(f: Flags) -> u64
-    ensures { λ r. ⌜ r ≡ flagsNumber f ⌝ }
-{
-    bit_of(f.sqi)
-        + 2 * bit_of(f.wel)
-        + 4 * bit_of(f.ioc)
-        + 8 * bit_of(f.wpen)
-        + 16 * bit_of(f.wpld)
-        + 32 * bit_of(f.sec)
-        + 64 * bit_of(f.enable)
 }
 
 // What stands behind the page becomes a new chip's.
@@ -151,47 +97,17 @@ fn get_word(coded: &[u8], at: usize) -> u64
     )
 }
 
+// A byte of the code as a kind.
 fn work_right(kind: u8, n: u64) -> bool
     ensures { λ r. ⌜ r ≡ workRight kind n ⌝ }
 {
-    (kind < 9) & (!((kind == 0) | (kind == 3) | (kind == 6)) | (n == 0)) & ((kind != 7) | (n < 4))
+    numbering::work_right(kind as u64, n)
 }
 
 fn work_of(kind: u8, n: u64) -> Work
     ensures { λ r. ⌜ r ≡ workOf kind n ⌝ }
 {
-    match kind {
-        1 => Work::EraseSector(n as usize),
-        2 => Work::EraseBlock(n as usize),
-        3 => Work::EraseArray,
-        4 => Work::ProgramPage(n as usize),
-        5 => Work::ProgramSecurity(n as usize),
-        6 => Work::LockSecurity,
-        7 => Work::WriteConfiguration(n % 2 == 1, n / 2 % 2 == 1),
-        8 => Work::AddPermanent(n),
-        _ => Work::Nothing,
-    }
-}
-
-fn flags_of(x: u8) -> Flags
-    ensures { λ r. ⌜ r ≡ flagsIn x ⌝ }
-{
-    Flags {
-        sqi: x % 2 == 1,
-        wel: x / 2 % 2 == 1,
-        ioc: x / 4 % 2 == 1,
-        wpen: x / 8 % 2 == 1,
-        wpld: x / 16 % 2 == 1,
-        sec: x / 32 % 2 == 1,
-        enable: x / 64 % 2 == 1,
-    }
-}
-
-// No bit beyond the flags.
-fn flags_right(x: u8) -> bool
-    ensures { λ r. ⌜ r ≡ ltb x flagsBound ⌝ }
-{
-    (x as u64) < 128
+    numbering::work_of(kind as u64, n)
 }
 
 // The reserved bytes are all 0. No early exit, so that the loop becomes a few wide instructions.

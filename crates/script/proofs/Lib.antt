@@ -1,6 +1,5 @@
 -- Laws of the reading.
 pub mod Filled
 pub mod Steps
-pub mod Hinted
 pub mod Unique
 pub mod Listing

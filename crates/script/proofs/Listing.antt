@@ -2,10 +2,10 @@
 use mathlib.Core.Path.{_≡_, refl}
 use mathlib.Core.List.{map}
 use lib.ListN.{replicate}
-use Rattle.grammar.specs.Words.{digitOf, most, oneMore, tensOf, wordWith}
+use Rattle.spelling.specs.Words.{digitOf, most, oneMore, tensOf, wordWith}
 use Rattle.grammar.specs.Table.{wordList, keys, position, called, hasClass, table, ends, firstOf, nextOf, valueOf, slotsWith}
 use Rattle.script.specs.Lines.{countAfter, byteAfter, kindAfter, markAfter, takenOpen, taken, went, closed, takenInto, advanced, filled, stored, stepped, remarkAfter, readOn, lineOf, fresh}
-use Rattle.script.specs.Hints.{lower, lowered, stands, takesByte, ofDigits, hintOf}
+use Rattle.hinting.specs.Hints.{lower, lowered, stands, takesByte, ofDigits, hintOf}
 use Rattle.script.specs.Listing.{Row, WrongRow, HintRow, EndRow, showLine, showMistake, showHint, verbsFrom, remarkFrom, lines, wrongLines, hints, lineEnds, remarks}
 
 pub lines-say : map (λ (r : Row). showLine (r .text)) lines ≡ map (λ (r : Row). r .is) lines

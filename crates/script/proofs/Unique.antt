@@ -6,7 +6,6 @@ use Rattle.script.specs.Lines.{held}
 use Rattle.script.proofs.start.Reads as start
 use Rattle.script.proofs.step.Reads as step
 use Rattle.script.proofs.finish.Reads as finish
-use Rattle.script.proofs.hints.hint_of.Reads as hint-of
 use Rattle.script.proofs.lines.fresh.Reads as fresh
 use Rattle.script.proofs.lines.advanced.Reads as advanced
 use Rattle.script.proofs.lines.line_of.Reads as line-of
@@ -27,9 +26,6 @@ finish-one κ a x y r r′ p q = one (p .outcome) (q .outcome)
 
 pub line-of-one : OneResult line-of.Post
 line-of-one κ a x y r r′ p q = one p q
-
-pub hint-of-one : OneResult hint-of.Post
-hint-of-one κ a x y r r′ p q = one p q
 
 -- ---- inside the crate
 

@@ -20,8 +20,7 @@
 -- The first mistake makes the whole line wrong, and is kept: its place in the line's grammar, the word's first 24 bytes, its length (at most 25; 0 where
 -- the line ends too early) and its column.
 --
--- Crate `grammar`, specs/Words: bytes to words; specs/Table: what may follow what, and what it says. Lines, here: the input as a fold over its
--- bytes; Hints: what a wrong word may have been meant to be.
+-- Crate `spelling`, specs/Words: bytes to words; crate `grammar`, specs/Table: what may follow what, and what it says; crate `hinting`, specs/Hints:
+-- what a wrong word may have been meant to be. Lines, here: the input as a fold over its bytes.
 pub mod Lines
-pub mod Hints
 pub mod Listing

@@ -7,7 +7,7 @@ use lib.Dec.{eqb, ltb}
 use lib.ListN.{getD, set, replicate}
 use Rattle.rules.specs.Words.{pick}
 use Rattle.grammar.specs.declared.Entry.{Entry}
-use Rattle.grammar.specs.Words.{blank, lineEnd, endsWords, oneMore, noWord, wordWith, isSign, byteOf}
+use Rattle.spelling.specs.Words.{blank, lineEnd, endsWords, oneMore, noWord, wordWith, isSign, byteOf}
 use Rattle.grammar.specs.Places.{lineStart}
 use Rattle.grammar.specs.Slots.{verb}
 use Rattle.grammar.specs.Verbs as verbs

@@ -12,7 +12,7 @@ use Rattle.grammar.specs.Verbs as verbs
 use Rattle.script.specs.declared.Line.{Line}
 use Rattle.script.specs.declared.Reading.{Reading}
 use Rattle.script.specs.Lines.{Held, fresh, held, advanced, finished, readOn, remarkAfter, lineOf}
-use Rattle.script.specs.Hints.{noHint, twoDigits, apart, lowerCase, hintOf}
+use Rattle.hinting.specs.Hints.{noHint, twoDigits, apart, lowerCase, hintOf}
 
 -- ---- how a line is shown here
 

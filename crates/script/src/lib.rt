@@ -1,11 +1,9 @@
 // A script, read byte by byte. The language and what each function gives are in specs/.
-mod hints;
 mod lines;
 
-use grammar::Word;
-pub use hints::hint_of;
 pub use lines::line_of;
 use rules::plain::smaller;
+use spelling::Word;
 ghost use mathlib.Core.Path.{_≡_};
 ghost use Rattle.script.specs.Lines.{fresh, stored, StepPromise, FinishPromise};
 

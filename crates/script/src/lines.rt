@@ -3,11 +3,10 @@ use crate::Line;
 use crate::Reading;
 use grammar::Entry;
 use grammar::table;
-use grammar::words;
 ghost use mathlib.Core.Path.{_≡_};
 ghost use Prim.Native.Nat.{_%_};
 ghost use Rattle.rules.specs.Words.{pick};
-ghost use Rattle.grammar.specs.Words.{oneMore};
+ghost use Rattle.spelling.specs.Words.{oneMore};
 ghost use Rattle.script.specs.Lines.{countAfter, byteAfter, kindAfter, fresh, shownWith, markAfter, taken, went, closed, advanced, lineOf};
 
 // ---- counts, and the byte that is stored
@@ -66,7 +65,7 @@ pub fn fresh(mark: u8) -> Reading
         place: 0,
         read: 0,
         shown: [0; 24],
-        word: words::none(0),
+        word: spelling::none(0),
         sent: 0,
         expected: 0,
         last: 0,
@@ -94,24 +93,24 @@ fn shown_with(shown: [u8; 24], length: usize, b: u8) -> [u8; 24]
 fn taken(r: Reading, b: u8, mark: u8) -> Reading
     ensures { λ q. ⌜ q ≡ taken r b mark ⌝ }
 {
-    let read = words::one_more(r.read);
+    let read = spelling::one_more(r.read);
     let mut q = r;
     q.read = read;
     q.mark = mark;
     if r.mode == 0 {
         if b == 35 {
-            let none = words::none(read);
+            let none = spelling::none(read);
             q.mode = 1;
             q.word = none;
             return q;
         }
-        if words::is_blank(b) {
+        if spelling::is_blank(b) {
             return q;
         }
         let shown = r.shown;
         let word = r.word;
         let more = shown_with(shown, word.length, b);
-        let longer = words::longer(word, b, read);
+        let longer = spelling::longer(word, b, read);
         q.shown = more;
         q.word = longer;
         return q;
@@ -145,7 +144,7 @@ fn went(r: Reading, e: Entry) -> Reading
     }
     let word = r.word;
     let slots = r.slots;
-    let none = words::none(0);
+    let none = spelling::none(0);
     let heard = table::heard(slots, e, word);
     q.place = e.next;
     q.shown = [0; 24];
@@ -157,7 +156,7 @@ fn went(r: Reading, e: Entry) -> Reading
         e.store == 6,
         word.number,
     );
-    q.last = byte_after(e.store, words::byte_of(word), r.last);
+    q.last = byte_after(e.store, spelling::byte_of(word), r.last);
     q.kind = kind_after(e.store, r.kind);
     q.slots = heard;
     q
@@ -171,7 +170,7 @@ fn closed(r: Reading, b: u8) -> Reading
         return fresh(3);
     }
     let word = r.word;
-    if ((r.mode == 0) & (word.length != 0)) & (words::ends_words(b) | words::sign(word)) {
+    if ((r.mode == 0) & (word.length != 0)) & (spelling::ends_words(b) | spelling::sign(word)) {
         return went(r, table::follows(r.place, word));
     }
     r
@@ -183,7 +182,7 @@ pub fn advanced(r: Reading, b: u8) -> Reading
     ensures { λ q. ⌜ q ≡ advanced r b ⌝ }
 {
     let mut q = closed(r, b);
-    if words::ends_line(b) {
+    if spelling::ends_line(b) {
         if r.ended & (r.cr & (b == 10)) {
             return fresh(3);
         }
@@ -213,7 +212,7 @@ fn verb_at(wrong: bool, ends: bool, verb: u64) -> u8
 fn column_at(goes: bool, read: usize, column: usize) -> usize
     ensures { λ q. ⌜ q ≡ pick goes (oneMore read) column ⌝ }
 {
-    if goes { words::one_more(read) } else { column }
+    if goes { spelling::one_more(read) } else { column }
 }
 
 pub fn line_of(r: Reading) -> Line

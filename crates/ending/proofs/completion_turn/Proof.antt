@@ -1,7 +1,7 @@
 -- Malformed, idle, or the work ends. Assumes nothing.
 use mathlib.Core.Path.{sym, _∙_}
 use borrow.Author.Tests.{not-true, not-false}
-use Rattle.acting.proofs.Events.{state-parts, running-right}
+use Rattle.turns.proofs.Events.{state-parts, running-right}
 use Rattle.ending.proofs.Outcomes.{completion-malformed, completion-idle, completion-done}
 use borrow.Author.Needs.{needs}
 use Rattle.ending.proofs.completion_turn.Statement.{statement}

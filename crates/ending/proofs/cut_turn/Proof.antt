@@ -1,7 +1,7 @@
 -- Malformed, or power-up after the first k bytes. Assumes nothing.
 use mathlib.Core.Path.{sym, _∙_}
 use borrow.Author.Tests.{not-true, not-false}
-use Rattle.acting.proofs.Events.{state-parts, running-right}
+use Rattle.turns.proofs.Events.{state-parts, running-right}
 use Rattle.ending.proofs.Outcomes.{cut-malformed, cut-done}
 use borrow.Author.Needs.{needs}
 use Rattle.ending.proofs.cut_turn.Statement.{statement}

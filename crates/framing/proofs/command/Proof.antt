@@ -2,7 +2,7 @@
 use mathlib.Core.Path.{refl, sym, ap, _∙_}
 use Rattle.rules.specs.declared.Form.{Form}
 use Rattle.rules.specs.Numbers.{answerNumber}
-use Rattle.acting.proofs.Events.{suspended-right}
+use Rattle.turns.proofs.Events.{suspended-right}
 use Rattle.framing.proofs.Outcomes.{frame-parts, showable, frame-done, frame-refused}
 use borrow.Author.Needs.{needs}
 use Rattle.framing.proofs.command.Statement.{statement}

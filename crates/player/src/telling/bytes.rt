@@ -151,7 +151,7 @@ pub fn row(p: Playing, l: Line, i: usize, memory: &[u8]) -> Row {
 // What a wrong word may have been meant to be.
 fn hint_row(l: Line) -> Row {
     let word = l.word;
-    let hint = script::hint_of(l.place, &word, l.length);
+    let hint = hinting::hint_of(l.place, &word, l.length);
     if hint == 0 {
         return rows::empty();
     }

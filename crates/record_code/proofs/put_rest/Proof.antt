@@ -6,7 +6,8 @@ use lib.ListN.{take, drop, take-append-drop}
 use lib.Seq.{drop-drop}
 use Rattle.rules.specs.declared.Rest.{Rest}
 use Rattle.rules.specs.Fields.{flagsNumber}
-use Rattle.record_code.specs.Layout.{bytes, kindOf, numberOf, restCode}
+use Rattle.numbering.specs.Numbering.{kindOf, numberOf}
+use Rattle.record_code.specs.Layout.{bytes, restCode}
 use native.Mathlib.Omega.{arith}
 use borrow.Author.Needs.{needs}
 use Rattle.record_code.proofs.put_rest.Statement.{statement}

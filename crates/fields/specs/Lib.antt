@@ -1,0 +1,2 @@
+-- The record that a line says.
+pub mod Records

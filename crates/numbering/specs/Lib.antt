@@ -1,0 +1,2 @@
+-- Works as numbers.
+pub mod Numbering

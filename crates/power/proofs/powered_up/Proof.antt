@@ -1,0 +1,10 @@
+-- Field by field. Assumes nothing.
+use mathlib.Core.Path.{refl}
+use Rattle.power.proofs.powered_up.Statement.{statement}
+use Rattle.power.proofs.powered_up.Tie as tie
+
+pub powered-up-spec : {M : Type 1} → statement M
+powered-up-spec =
+    tie.close
+    (tie.spec
+    (λ c. refl))

@@ -1,0 +1,10 @@
+-- Five fields are set. Assumes nothing.
+use mathlib.Core.Path.{refl}
+use Rattle.power.proofs.reset.Statement.{statement}
+use Rattle.power.proofs.reset.Tie as tie
+
+pub reset-spec : {M : Type 1} → statement M
+reset-spec =
+    tie.close
+    (tie.spec
+    (λ c. refl))

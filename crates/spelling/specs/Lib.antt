@@ -1,0 +1,2 @@
+-- The words of a script's line.
+pub mod Words

@@ -1,0 +1,2 @@
+-- What a script's last row counts.
+pub mod Tallies
