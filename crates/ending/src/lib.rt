@@ -1,9 +1,9 @@
 // A completion and a power cut where the page buffer lies with the caller: it changes in place, the rest of the record goes in and out by value.
-use turns::done;
-use turns::refused;
 use rules::Refusal;
 use rules::Rest;
 use rules::Turn;
+use turns::done;
+use turns::refused;
 ghost use mathlib.Core.List.{[]};
 ghost use Rattle.rules.specs.Fields.{chipOf};
 ghost use Rattle.rules.specs.Promises.{benchOf, returnedOf, afterOf, CompletionPromise, CutPromise};

@@ -1,10 +1,10 @@
 // A frame where the page buffer lies with the caller: it changes in place, the rest of the record goes in and out by value.
-use turns::done;
-use turns::refused;
 use rules::Answer;
 use rules::Refusal;
 use rules::Rest;
 use rules::Turn;
+use turns::done;
+use turns::refused;
 ghost use mathlib.Core.Path.{_≡_};
 ghost use mathlib.Core.Bool.{_&&_};
 ghost use lib.Dec.{eqb, leb};

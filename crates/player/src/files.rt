@@ -2,9 +2,9 @@
 use crate::parts::within;
 use crate::telling;
 use crate::telling::Place;
-use tallies::Tally;
 use playing::Playing;
 use rows::Row;
+use tallies::Tally;
 
 // How scripts are played, and what they came to.
 pub struct Session {

@@ -5,12 +5,12 @@ mod questions;
 mod settings;
 
 pub use deeds::deed_of;
-use tallies::Tally;
 use expecting::Verdict;
 use rules::Chip;
 use script::Line;
 use script::Reading;
 pub use settings::arrange;
+use tallies::Tally;
 ghost use mathlib.Core.Path.{_≡_};
 ghost use Rattle.playing.specs.Settings.{withBench};
 ghost use Rattle.playing.specs.Lines.{unjudged, begun, nextLine, wrongCounted, Played, withReading, Taken};

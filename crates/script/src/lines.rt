@@ -212,7 +212,11 @@ fn verb_at(wrong: bool, ends: bool, verb: u64) -> u8
 fn column_at(goes: bool, read: usize, column: usize) -> usize
     ensures { λ q. ⌜ q ≡ pick goes (oneMore read) column ⌝ }
 {
-    if goes { spelling::one_more(read) } else { column }
+    if goes {
+        spelling::one_more(read)
+    } else {
+        column
+    }
 }
 
 pub fn line_of(r: Reading) -> Line

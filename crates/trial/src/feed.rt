@@ -5,12 +5,11 @@ use crate::bytes::within;
 use crate::dice::once_in;
 use crate::dice::seed_of;
 use crate::report;
-use crate::report::Tally;
 use crate::report::say;
 use crate::report::say_number;
 use crate::report::say_word;
 use crate::source;
-use crate::source::Index;
+use crate::source::Counts;
 use playing::Playing;
 
 // What comes next: another argument, a part of a script, what its end asks, a file of forms, a random line, nothing.
@@ -192,7 +191,7 @@ fn next_word(f: Feed, name: &[u8], input: &mut Input) -> Feed {
     opened(f, name, input)
 }
 
-fn next_argument(f: Feed, tally: &Tally, input: &mut Input) -> Feed {
+fn next_argument(f: Feed, counts: &Counts, input: &mut Input) -> Feed {
     let mut next = f;
     next.word = std::num::wrapping_add_usize(f.word, 1);
     if next.word < os::arg_count() {
@@ -200,7 +199,7 @@ fn next_argument(f: Feed, tally: &Tally, input: &mut Input) -> Feed {
         let n = os::arg(next.word, &mut name);
         return next_word(next, &name[..n], input);
     }
-    report::counts_said(tally);
+    report::counts_said(counts);
     say_number(b"", f.events);
     say_number(b" events compared, ", f.differences);
     say(b" differences\n");
@@ -282,7 +281,7 @@ fn forms_of(series: u64) -> u64 {
 }
 
 // The forms of a file.
-fn indexed(f: Feed, forms: &mut [u8], index: &mut Index) -> Feed {
+fn indexed(f: Feed, forms: &mut [u8], index: &mut Counts) -> Feed {
     let got = io::read_full(f.fd, forms);
     libc::close(f.fd);
     let n = within(got, forms);
@@ -344,7 +343,14 @@ fn is_sqi(now: Playing) -> bool {
 }
 
 // How a run begins, or what comes in it.
-fn any_form(f: Feed, seed: u64, sqi: bool, forms: &[u8], index: &Index, input: &mut [u8]) -> usize {
+fn any_form(
+    f: Feed,
+    seed: u64,
+    sqi: bool,
+    forms: &[u8],
+    index: &Counts,
+    input: &mut [u8],
+) -> usize {
     if f.line != 0 {
         let letter = if f.series == 2 { b'y' } else { b'a' };
         return source::any_form(input, seed, forms, index, sqi, letter);
@@ -356,7 +362,7 @@ fn any_form(f: Feed, seed: u64, sqi: bool, forms: &[u8], index: &Index, input: &
     source::any_form(input, seed, forms, index, false, letter)
 }
 
-fn random(f: Feed, now: Playing, forms: &[u8], index: &Index, input: &mut [u8]) -> Feed {
+fn random(f: Feed, now: Playing, forms: &[u8], index: &Counts, input: &mut [u8]) -> Feed {
     if forms_of(f.series) < f.line {
         return next_run(f, now, source::total(index, b'x'));
     }
@@ -379,17 +385,16 @@ fn random(f: Feed, now: Playing, forms: &[u8], index: &Index, input: &mut [u8]) 
 pub fn more(
     f: Feed,
     now: Playing,
-    tally: &Tally,
     input: &mut Input,
     forms: &mut Input,
-    index: &mut Index,
+    counts: &mut Counts,
 ) -> Feed {
     let phase = f.phase;
     match phase {
-        NEXT => next_argument(f, tally, input),
+        NEXT => next_argument(f, counts, input),
         PART => part(f, input),
         ENDED => ended(f, now),
-        FORMS => indexed(f, forms, index),
-        _ => random(f, now, forms, index, input),
+        FORMS => indexed(f, forms, counts),
+        _ => random(f, now, forms, counts, input),
     }
 }

@@ -13,10 +13,9 @@ use bytes::at;
 use feed::Feed;
 use feed::Input;
 use playing::Playing;
-use report::Tally;
 use script::Line;
 use second::Flat;
-use source::Index;
+use source::Counts;
 
 type Memory = [u8; 2097153];
 
@@ -62,20 +61,20 @@ fn counted(
     before: Flat,
     l: Line,
     number: u8,
-    tally: &mut Tally,
+    counts: &mut Counts,
     frame: &Bytes,
     remark: &Bytes,
 ) -> Feed {
     let mut next = f;
     if f.random {
         if is_event(l.verb) {
-            report::event_counted(tally, before, l, frame, number);
+            report::event_counted(counts, before, l, frame, number);
         }
         return next;
     }
     if l.verb == 4 {
         next.cases = std::num::wrapping_add_u64(f.cases, 1);
-        report::case_counted(tally, l, remark);
+        report::case_counted(counts, l, remark);
     }
     next
 }
@@ -84,7 +83,7 @@ fn counted(
 fn tried(
     t: Trial,
     now: Playing,
-    tally: &mut Tally,
+    counts: &mut Counts,
     array: &Memory,
     security: &Identity,
     frame: &Bytes,
@@ -116,7 +115,7 @@ fn tried(
         reply2,
         marks2,
     );
-    let f = counted(f, flat, l, s.number, tally, frame, remark);
+    let f = counted(f, flat, l, s.number, counts, frame, remark);
     let before = t.now;
     let feed = told(f, before, now, odd);
     let flat = s.state;
@@ -134,10 +133,9 @@ fn fresh(f: Feed, now: Playing) -> Playing {
 // A byte is taken, or more come.
 fn turn(
     t: Trial,
-    tally: &mut Tally,
+    counts: &mut Counts,
     input: &mut Input,
     forms: &mut Input,
-    index: &mut Index,
     array: &mut Memory,
     security: &mut Identity,
     frame: &mut Bytes,
@@ -175,7 +173,7 @@ fn turn(
             return tried(
                 next,
                 now,
-                tally,
+                counts,
                 array,
                 security,
                 frame,
@@ -193,7 +191,7 @@ fn turn(
     }
     let now = fresh(f, now);
     let f = feed::started(f);
-    let feed = feed::more(f, now, tally, input, forms, index);
+    let feed = feed::more(f, now, input, forms, counts);
     next.feed = feed;
     next.now = now;
     next
@@ -201,10 +199,9 @@ fn turn(
 
 // A proved loop has to end, and nothing says that an input does: so it counts its turns down, from a number that no run uses up.
 fn turned(
-    tally: &mut Tally,
+    counts: &mut Counts,
     input: &mut Input,
     forms: &mut Input,
-    index: &mut Index,
     array: &mut Memory,
     security: &mut Identity,
     frame: &mut Bytes,
@@ -224,10 +221,9 @@ fn turned(
         turns -= 1;
         t = turn(
             t,
-            tally,
+            counts,
             input,
             forms,
-            index,
             array,
             security,
             frame,
@@ -252,10 +248,9 @@ fn begun() -> Trial {
 }
 
 fn main() {
-    let mut tally = [0u64; 1024];
+    let mut counts = [0u64; 5120];
     let mut input = [0u8; 65536];
     let mut forms = [0u8; 65536];
-    let mut index = [0u64; 4096];
     let mut array = [255u8; 2097153];
     let mut security = [255u8; 2049];
     let mut frame = [0u8; 65537];
@@ -269,10 +264,9 @@ fn main() {
     let mut reply2 = [0u8; 65537];
     let mut marks2 = [0u8; 65537];
     turned(
-        &mut tally,
+        &mut counts,
         &mut input,
         &mut forms,
-        &mut index,
         &mut array,
         &mut security,
         &mut frame,

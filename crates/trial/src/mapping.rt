@@ -1,44 +1,17 @@
-// The two models' records, brought to one form: second's, which has numbers only.
+// The two models' records, brought to one form: second's, which has numbers only. Its kinds of work are those of crate numbering.
 use crate::bytes::same;
 use rules::Chip;
-use rules::Work;
 use second::Flat;
-
-// Work as a kind and a number, as second has it.
-pub struct Task {
-    pub kind: u8,
-    pub number: u64,
-}
-
-fn tasked(kind: u8, number: u64) -> Task {
-    Task { kind, number }
-}
-
-fn bit(on: bool, value: u64) -> u64 {
-    if on { value } else { 0 }
-}
-
-fn task_of(w: Work) -> Task {
-    match w {
-        Work::Nothing => tasked(0, 0),
-        Work::EraseSector(n) => tasked(1, n as u64),
-        Work::EraseBlock(n) => tasked(2, n as u64),
-        Work::EraseArray => tasked(3, 0),
-        Work::ProgramPage(n) => tasked(4, n as u64),
-        Work::ProgramSecurity(n) => tasked(5, n as u64),
-        Work::LockSecurity => tasked(6, 0),
-        Work::WriteConfiguration(ioc, wpen) => tasked(7, bit(ioc, 1) | bit(wpen, 2)),
-        Work::AddPermanent(v) => tasked(8, v),
-    }
-}
 
 pub fn flat_of(c: Chip) -> Flat {
     let rest = c.rest;
     let works = rest.works;
     let run = works.running;
     let aside = works.suspended;
-    let running = task_of(run);
-    let suspended = task_of(aside);
+    let run_kind = (numbering::kind_of(run) % 16) as u8;
+    let run_number = numbering::number_of(run);
+    let sus_kind = (numbering::kind_of(aside) % 16) as u8;
+    let sus_number = numbering::number_of(aside);
     let locks = rest.locks;
     let flags = rest.flags;
     let buffer = c.buffer;
@@ -46,10 +19,10 @@ pub fn flat_of(c: Chip) -> Flat {
         buffer,
         protection: locks.protection,
         permanent: locks.permanent,
-        run_kind: running.kind,
-        run_number: running.number,
-        sus_kind: suspended.kind,
-        sus_number: suspended.number,
+        run_kind,
+        run_number,
+        sus_kind,
+        sus_number,
         sqi: flags.sqi,
         wel: flags.wel,
         ioc: flags.ioc,

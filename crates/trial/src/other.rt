@@ -25,9 +25,11 @@ fn marks_wanted(slots: [u64; 24]) -> usize {
     slots[3] as usize
 }
 
-// Reply and marks hold 5A and 07 before a frame, as the first model's do.
-fn sent(
+// The event on as much of each memory as the first model was lent. Reply and marks hold 5A and 07 before it, as the first model's do.
+fn happened(
     f: Flat,
+    e: Event,
+    k: u64,
     array: &mut [u8],
     security: &mut [u8],
     sent: &[u8],
@@ -38,33 +40,14 @@ fn sent(
     let m = marks.len();
     memory::set_all(reply, 0, r, 0x5A);
     memory::set_all(marks, 0, m, 0x07);
-    second::frame(f, array, security, sent, reply, marks)
+    match e {
+        Event::Frame => second::frame(f, array, security, sent, reply, marks),
+        Event::Completion => second::completion(f, array, security),
+        Event::Cut => second::power_cut(f, array, security, k),
+    }
 }
 
-fn frame(
-    f: Flat,
-    l: Line,
-    array: &mut [u8],
-    security: &mut [u8],
-    bytes: &[u8],
-    reply: &mut [u8],
-    marks: &mut [u8],
-) -> Step {
-    let slots = l.slots;
-    let n = within(l.sent, bytes);
-    let r = within(slots[1] as usize, reply);
-    let m = within(marks_wanted(slots), marks);
-    sent(
-        f,
-        array,
-        security,
-        &bytes[..n],
-        &mut reply[..r],
-        &mut marks[..m],
-    )
-}
-
-// As much of the memories as the first model was lent.
+// A completion and a power cut want no reply.
 fn event(
     f: Flat,
     e: Event,
@@ -80,19 +63,19 @@ fn event(
     let slots = l.slots;
     let a = within(b.array, array);
     let s = within(b.security, security);
-    match e {
-        Event::Frame => frame(
-            f,
-            l,
-            &mut array[..a],
-            &mut security[..s],
-            sent,
-            reply,
-            marks,
-        ),
-        Event::Completion => second::completion(f, &mut array[..a], &mut security[..s]),
-        Event::Cut => second::power_cut(f, &mut array[..a], &mut security[..s], slots[7]),
-    }
+    let n = within(l.sent, sent);
+    let r = within(slots[1] as usize, reply);
+    let m = within(marks_wanted(slots), marks);
+    happened(
+        f,
+        e,
+        slots[7],
+        &mut array[..a],
+        &mut security[..s],
+        &sent[..n],
+        &mut reply[..r],
+        &mut marks[..m],
+    )
 }
 
 // The line on the second model. What is set is set here too, and a question asks the first one.

@@ -1,46 +1,45 @@
 // What came up in the random lines: a kind that came up less than a hundred times is named, and so the output differs from the expected one.
 use crate::bytes::at;
+use crate::source::Counts;
 use playing::Playing;
 use script::Line;
 use second::Flat;
 
-pub type Tally = [u64; 1024];
+// Places of what is counted: frames by opcode, done ones, events by number, by what runs, by what is suspended; the checklist's lines.
+const SENT: usize = 4096;
 
-// Places of the tally: frames by opcode, done ones, events by number, by what runs, by what is suspended; the checklist's lines.
-const SENT: usize = 0;
+const DONE: usize = 4352;
 
-const DONE: usize = 256;
+const NUMBERS: usize = 4608;
 
-const NUMBERS: usize = 512;
+const RUNNING: usize = 4626;
 
-const RUNNING: usize = 530;
+const SUSPENDED: usize = 4636;
 
-const SUSPENDED: usize = 540;
+const BESIDE: usize = 4646;
 
-const BESIDE: usize = 550;
-
-const LINES: usize = 600;
+const LINES: usize = 4696;
 
 fn plus(base: usize, n: usize) -> usize {
     std::num::wrapping_add_usize(base, n)
 }
 
-fn bump(tally: &mut Tally, i: usize) {
-    if i < 1024 {
+fn bump(tally: &mut Counts, i: usize) {
+    if i < 5120 {
         let n = tally[i];
         tally[i] = std::num::wrapping_add_u64(n, 1);
     }
 }
 
-fn count(tally: &Tally, i: usize) -> u64 {
-    if i < 1024 {
+fn count(tally: &Counts, i: usize) -> u64 {
+    if i < 5120 {
         return tally[i];
     }
     0
 }
 
 // An event of a random run, with the record before it.
-pub fn event_counted(tally: &mut Tally, before: Flat, l: Line, frame: &[u8], number: u8) {
+pub fn event_counted(tally: &mut Counts, before: Flat, l: Line, frame: &[u8], number: u8) {
     bump(tally, plus(NUMBERS, number as usize));
     bump(tally, plus(RUNNING, before.run_kind as usize));
     bump(tally, plus(SUSPENDED, before.sus_kind as usize));
@@ -57,7 +56,7 @@ pub fn event_counted(tally: &mut Tally, before: Flat, l: Line, frame: &[u8], num
 }
 
 // The checklist's line that a case names, in front of its remark.
-pub fn case_counted(tally: &mut Tally, l: Line, remark: &[u8]) {
+pub fn case_counted(tally: &mut Counts, l: Line, remark: &[u8]) {
     let mut number: usize = 0;
     let mut i: usize = 1;
     while i < l.remark {
@@ -90,7 +89,7 @@ fn seldom_said(name: &[u8], kind: u8, n: u64) {
 }
 
 // How many of the kinds came up too seldom; these are named.
-fn seldom(tally: &Tally, base: usize, kinds: &[u8], name: &[u8]) -> u64 {
+fn seldom(tally: &Counts, base: usize, kinds: &[u8], name: &[u8]) -> u64 {
     let mut seldom: u64 = 0;
     let mut i: usize = 0;
     while i < kinds.len() {
@@ -104,7 +103,7 @@ fn seldom(tally: &Tally, base: usize, kinds: &[u8], name: &[u8]) -> u64 {
     seldom
 }
 
-fn kinds_said(tally: &Tally, base: usize, kinds: &[u8], name: &[u8]) {
+fn kinds_said(tally: &Counts, base: usize, kinds: &[u8], name: &[u8]) {
     let n = seldom(tally, base, kinds, name);
     say(name);
     say_number(b": ", kinds.len() as u64);
@@ -118,7 +117,7 @@ fn untried_said(i: usize) {
 }
 
 // How many lines of the checklist have no case; these are named.
-fn untried(tally: &Tally) -> u64 {
+fn untried(tally: &Counts) -> u64 {
     let mut n: u64 = 0;
     let mut i: usize = 1;
     while i < 82 {
@@ -131,7 +130,7 @@ fn untried(tally: &Tally) -> u64 {
     n
 }
 
-pub fn counts_said(tally: &Tally) {
+pub fn counts_said(tally: &Counts) {
     let listed =
         b"\x00\x66\x99\x38\xff\x05\x35\x72\x9f\xaf\x03\x0b\x6b\x88\x06\x04\x20\xd8\xc7\x02\x32\xa5\x85\x01\x42\xe8\x8d\x98\xb0\x30";
     let n = untried(tally);

@@ -58,23 +58,24 @@ fn put_letter(line: &mut [u8], pen: Pen, letter: u8) -> Pen {
 // ---- forms
 
 // The index of the forms: for each letter where its forms begin and how many there are, each as often as it is drawn; behind them their places.
-pub type Index = [u64; 4096];
+// From 4,096 on stands what is counted (report): each array more that a program lends costs it proof.
+pub type Counts = [u64; 5120];
 
-fn entry(index: &Index, i: u64) -> u64 {
+fn entry(index: &Counts, i: u64) -> u64 {
     if i < 4096 {
         return index[i as usize];
     }
     0
 }
 
-fn enter(index: &mut Index, i: u64, n: u64) {
+fn enter(index: &mut Counts, i: u64, n: u64) {
     if i < 4096 {
         index[i as usize] = n;
     }
 }
 
 // A form that is drawn so often, behind the n that are there.
-fn form_entered(index: &mut Index, n: u64, letter: u64, often: u64, place: u64) {
+fn form_entered(index: &mut Counts, n: u64, letter: u64, often: u64, place: u64) {
     let mut i: u64 = 0;
     while i < often {
         enter(
@@ -96,7 +97,7 @@ fn form_entered(index: &mut Index, n: u64, letter: u64, often: u64, place: u64) 
 }
 
 // Every form of the file: a line that begins with a letter, a digit and a blank. Forms of one letter stand together.
-pub fn indexed(forms: &[u8], index: &mut Index) {
+pub fn indexed(forms: &[u8], index: &mut Counts) {
     let mut n: u64 = 0;
     let mut i: usize = 0;
     while i < forms.len() {
@@ -112,17 +113,17 @@ pub fn indexed(forms: &[u8], index: &mut Index) {
 }
 
 // How often forms of a letter are drawn in all.
-pub fn total(index: &Index, letter: u8) -> u64 {
+pub fn total(index: &Counts, letter: u8) -> u64 {
     entry(index, 256 + letter as u64)
 }
 
 // Where the k-th form of a letter stands.
-fn form_at(index: &Index, letter: u8, k: u64) -> usize {
+fn form_at(index: &Counts, letter: u8, k: u64) -> usize {
     let i = std::num::wrapping_add_u64(entry(index, letter as u64), k);
     entry(index, std::num::wrapping_add_u64(512, i)) as usize
 }
 
-fn drawn(index: &Index, letter: u8, seed: u64) -> usize {
+fn drawn(index: &Counts, letter: u8, seed: u64) -> usize {
     let n = total(index, letter);
     form_at(index, letter, draw(seed, letter as u64, n))
 }
@@ -161,7 +162,7 @@ fn put_form(
     line: &mut [u8],
     seed: u64,
     forms: &[u8],
-    index: &Index,
+    index: &Counts,
     sqi: bool,
     from: usize,
 ) -> usize {
@@ -194,7 +195,7 @@ pub fn any_form(
     line: &mut [u8],
     seed: u64,
     forms: &[u8],
-    index: &Index,
+    index: &Counts,
     sqi: bool,
     letter: u8,
 ) -> usize {
@@ -203,7 +204,7 @@ pub fn any_form(
 }
 
 // The k-th form of a letter.
-pub fn form(line: &mut [u8], seed: u64, forms: &[u8], index: &Index, letter: u8, k: u64) -> usize {
+pub fn form(line: &mut [u8], seed: u64, forms: &[u8], index: &Counts, letter: u8, k: u64) -> usize {
     let from = form_at(index, letter, k);
     put_form(line, seed, forms, index, false, from)
 }

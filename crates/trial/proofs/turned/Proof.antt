@@ -5,11 +5,11 @@ use Rattle.trial.proofs.turned.Statement.{statement}
 use Rattle.trial.proofs.turned.Tie as tie
 
 abbrev Inv-loop : tie.InvT-loop
-Inv-loop tally₀ input₀ forms₀ index₀ array₀ security₀ frame₀ expected₀ known₀ remark₀ reply₀ marks₀ array2₀ security2₀ reply2₀ marks2₀ t₀ turns₀ tally input forms index array security frame expected known remark reply marks array2 security2 reply2 marks2 t turns =
+Inv-loop counts₀ input₀ forms₀ array₀ security₀ frame₀ expected₀ known₀ remark₀ reply₀ marks₀ array2₀ security2₀ reply2₀ marks2₀ t₀ turns₀ counts input forms array security frame expected known remark reply marks array2 security2 reply2 marks2 t turns =
     Unit {0}
 
 abbrev μ-loop : tie.MeasureT-loop
-μ-loop tally₀ input₀ forms₀ index₀ array₀ security₀ frame₀ expected₀ known₀ remark₀ reply₀ marks₀ array2₀ security2₀ reply2₀ marks2₀ t₀ turns₀ tally input forms index array security frame expected known remark reply marks array2 security2 reply2 marks2 t turns =
+μ-loop counts₀ input₀ forms₀ array₀ security₀ frame₀ expected₀ known₀ remark₀ reply₀ marks₀ array2₀ security2₀ reply2₀ marks2₀ t₀ turns₀ counts input forms array security frame expected known remark reply marks array2 security2 reply2 marks2 t turns =
     turns
 
 begun-requires : tie.Need-begun-requires Inv-loop μ-loop
@@ -25,7 +25,7 @@ turn-requires : tie.Need-turn-requires Inv-loop μ-loop
 turn-requires c κs = search needs
 
 loop-less : tie.Need-loop-less Inv-loop μ-loop
-loop-less c = let h = c .before .before .before .before .before .before .before .before .before .before .before .before .before .before .before .before .before .before .before .loop-test .taken in omega (arith, h)
+loop-less c = let h = c .before .before .before .before .before .before .before .before .before .before .before .before .before .before .before .before .before .before .loop-test .taken in omega (arith, h)
 
 loop-again : tie.Need-loop-again Inv-loop μ-loop
 loop-again c = search needs
