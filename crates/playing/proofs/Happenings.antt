@@ -13,8 +13,8 @@ use Rattle.rules.specs.Machine.{Outcome, frame, completion, powerCut}
 use Rattle.rules.specs.Promises.{Returned, benchOf, carriedOf, returnedOf, stateOf, outcomeOf, FramePromise, CompletionPromise, CutPromise}
 use Rattle.script.specs.declared.Line.{Line}
 use Rattle.memory.specs.Patched.{Patched}
-use Rattle.playing.specs.declared.Bench.{Bench}
-use Rattle.playing.specs.declared.Event.{Event}
+use Rattle.standing.specs.declared.Bench.{Bench}
+use Rattle.standing.specs.declared.Event.{Event}
 use Rattle.playing.specs.Events.{over, stateLent, wanted, marksWanted, outcome, Ended, Happened}
 use Rattle.playing.proofs.Memories.{part-over, none-over, part-written, over-patched}
 

@@ -11,7 +11,7 @@ use borrow.Author.Tests.{eqb-true, eqb-false, ltb-true, ltb-false}
 use Rattle.rules.specs.Words.{pick, Lent, lent, written, unlent}
 use Rattle.rules.proofs.Promises.{lent-ext, lent-written}
 use Rattle.memory.specs.Patched.{Patched}
-use Rattle.playing.specs.Events.{front, over}
+use Rattle.playing.specs.Events.{over}
 use Rattle.playing.specs.Settings.{filled}
 
 -- ---- a part that is filled

@@ -4,7 +4,7 @@ use mathlib.Core.Path.{_≡_}
 use mathlib.Core.Bool.{Bool, true, false, not}
 use mathlib.Core.List.{List}
 use lib.Dec.{eqb, ltb}
-use lib.ListN.{length, getD, take}
+use lib.ListN.{length, getD}
 use Rattle.rules.specs.declared.After.{After}
 use Rattle.rules.specs.declared.Chip.{Chip}
 use Rattle.rules.specs.Words.{pick, Lent, lent, written}
@@ -17,13 +17,10 @@ use Rattle.expecting.specs.declared.Verdict.{Verdict}
 use Rattle.expecting.specs.Records.{slot, said}
 use Rattle.expecting.specs.Expectations.{Judged, unmet}
 use Rattle.expecting.specs.Tallies.{afterEvent}
-use Rattle.playing.specs.declared.Bench.{Bench}
-use Rattle.playing.specs.declared.Event.{Event}
-use Rattle.playing.specs.declared.Playing.{Playing}
-
--- the first n places of a memory, or all of it
-abbrev pub front : ℕ → List ℕ → List ℕ
-front n l = take (min n (length l)) l
+use Rattle.standing.specs.declared.Bench.{Bench}
+use Rattle.standing.specs.declared.Event.{Event}
+use Rattle.standing.specs.declared.Playing.{Playing}
+use Rattle.standing.specs.Benches.{front}
 
 -- a memory whose first places became those of o
 abbrev pub over : Lent → List ℕ → Lent

@@ -1,5 +1,4 @@
 -- What a line of a script does to the bench.
-pub mod Deeds
 pub mod Events
 pub mod Settings
 pub mod Questions

@@ -14,11 +14,10 @@ use Rattle.script.specs.declared.Line.{Line}
 use Rattle.expecting.specs.Expectations.{First, unheld}
 use Rattle.expecting.specs.Records.{slot, sameRecord}
 use Rattle.expecting.specs.Tallies.{afterUnmet}
-use Rattle.playing.specs.declared.Bench.{Bench}
-use Rattle.playing.specs.declared.Playing.{Playing}
-use Rattle.playing.specs.declared.Question.{Question}
-use Rattle.playing.specs.Events.{front}
-use Rattle.playing.specs.Settings.{benchOf}
+use Rattle.standing.specs.declared.Bench.{Bench}
+use Rattle.standing.specs.declared.Playing.{Playing}
+use Rattle.standing.specs.declared.Question.{Question}
+use Rattle.standing.specs.Benches.{front, benchOf}
 
 -- one more expectation of the script is not met
 abbrev pub oneUnmet : Bench → Bench

@@ -6,17 +6,16 @@ use mathlib.Core.List.{List, _++_}
 use lib.Bits.{bitXor}
 use lib.Dec.{eqb}
 use lib.ListN.{length, take, drop, replicate}
-use Rattle.rules.specs.declared.Chip.{Chip}
 use Rattle.rules.specs.Words.{pick, Lent, lent, written}
 use Rattle.rules.specs.Blocks.{arraySize, securitySize}
 use Rattle.rules.specs.Fields.{chipOf}
 use Rattle.rules.specs.Commands.{newChip}
 use Rattle.grammar.specs.Slots as slots
-use Rattle.expecting.specs.declared.Tally.{Tally}
 use Rattle.expecting.specs.Records.{slot, recordOf}
-use Rattle.playing.specs.declared.Bench.{Bench}
-use Rattle.playing.specs.declared.Playing.{Playing}
-use Rattle.playing.specs.declared.Setting.{Setting}
+use Rattle.standing.specs.declared.Bench.{Bench}
+use Rattle.standing.specs.declared.Playing.{Playing}
+use Rattle.standing.specs.declared.Setting.{Setting}
+use Rattle.standing.specs.Benches.{benchOf, withBench}
 
 -- ---- memories
 
@@ -49,10 +48,6 @@ pub record Arranged (s : Setting) (slots₀ array security array′ security′ 
 
 -- ---- the bench
 
-abbrev pub benchOf : Chip → Tally → ℕ → ℕ → ℕ → Bool → Bool → Bench
-benchOf chip tally line array security full strict =
-    record { chip = chip; tally = tally; line = line; array = array; security = security; full = full; strict = strict }
-
 -- a new chip has all memory lent; `record` says the whole record, `buffer` a part of its page buffer
 abbrev pub benchSet : Setting → Bench → List ℕ → Bench
 benchSet Setting.New b s = benchOf newChip (b .tally) (b .line) arraySize securitySize (b .full) (b .strict)
@@ -67,9 +62,6 @@ benchSet Setting.Short b s = benchOf (b .chip) (b .tally) (b .line) (b .array) (
 benchSet Setting.Strict b s = benchOf (b .chip) (b .tally) (b .line) (b .array) (b .security) (b .full) true
 
 -- ---- the whole
-
-abbrev pub withBench : Playing → Bench → Playing
-withBench p b = record { bench = b; reading = p .reading; before = p .before; number = p .number; verdict = p .verdict; held = p .held }
 
 pub record SettingPlayed (p : Playing) (s : Setting) (slots₀ array security : List ℕ) (p′ : Playing) (array′ security′ : List ℕ) : Type 0 where
   pub arranged : Arranged s slots₀ array security array′ security′

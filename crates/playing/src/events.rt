@@ -1,15 +1,15 @@
 // Frames, completions and power cuts. specs/Events.antt.
-use crate::Bench;
-use crate::Event;
-use crate::Playing;
 use expecting::Verdict;
 use rules::After;
 use rules::plain::smaller;
 use script::Line;
+use standing::Bench;
+use standing::Event;
+use standing::Playing;
 ghost use mathlib.Core.Path.{_≡_};
 ghost use Rattle.rules.specs.Numbers.{answerNumber};
 ghost use Rattle.rules.specs.Machine.{completion, powerCut};
-ghost use Rattle.playing.specs.declared.Event.{Event};
+ghost use Rattle.standing.specs.declared.Event.{Event};
 ghost use Rattle.playing.specs.Events.{stateLent, wanted, marksWanted, outcome, Ended, Happened, JudgedLine, counted, EventPlayed};
 
 // How many reply bytes a line wants.

@@ -1,9 +1,9 @@
 // What a script asks: nothing on the chip changes, but what it expects may not be met. specs/Questions.antt.
-use crate::Bench;
-use crate::Playing;
-use crate::Question;
 use rules::plain::smaller;
 use script::Line;
+use standing::Bench;
+use standing::Playing;
+use standing::Question;
 ghost use mathlib.Core.Path.{_≡_};
 ghost use lib.Dec.{eqb, ltb};
 ghost use lib.ListN.{length};

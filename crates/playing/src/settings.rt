@@ -1,9 +1,9 @@
 // What a script sets: a new chip, memories, the record, what is lent, how rows are shown. specs/Settings.antt.
-use crate::Bench;
-use crate::Playing;
-use crate::Setting;
-use crate::with_bench;
 use rules::plain::smaller;
+use standing::Bench;
+use standing::Playing;
+use standing::Setting;
+use standing::with_bench;
 ghost use mathlib.Core.Path.{_≡_};
 ghost use lib.ListN.{length, replicate};
 ghost use Rattle.rules.specs.Words.{lent, written};

@@ -11,7 +11,7 @@ use crate::report::say_number;
 use crate::report::say_word;
 use crate::source;
 use crate::source::Index;
-use playing::Playing;
+use standing::Playing;
 
 // What comes next: another argument, a part of a script, what its end asks, a file of forms, a random line, nothing.
 pub const NEXT: u8 = 0;

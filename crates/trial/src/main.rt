@@ -12,11 +12,11 @@ mod source;
 use bytes::at;
 use feed::Feed;
 use feed::Input;
-use playing::Playing;
 use report::Tally;
 use script::Line;
 use second::Flat;
 use source::Index;
+use standing::Playing;
 
 type Memory = [u8; 2097153];
 
@@ -126,7 +126,7 @@ fn tried(
 // A script's own lines begin on a bench of their own.
 fn fresh(f: Feed, now: Playing) -> Playing {
     if f.fresh {
-        return playing::start(false);
+        return standing::start(false);
     }
     now
 }
@@ -246,7 +246,7 @@ fn turned(
 
 fn begun() -> Trial {
     let feed = feed::first();
-    let now = playing::start(false);
+    let now = standing::start(false);
     let flat = second::fresh();
     Trial { feed, now, flat }
 }

@@ -1,8 +1,8 @@
 // What came up in the random lines: a kind that came up less than a hundred times is named, and so the output differs from the expected one.
 use crate::bytes::at;
-use playing::Playing;
 use script::Line;
 use second::Flat;
+use standing::Playing;
 
 pub type Tally = [u64; 1024];
 

@@ -1,7 +1,7 @@
 -- Each part is at its start. Assumes nothing.
 use borrow.Author.Needs.{needs}
-use Rattle.playing.proofs.start.Statement.{statement}
-use Rattle.playing.proofs.start.Tie as tie
+use Rattle.standing.proofs.start.Statement.{statement}
+use Rattle.standing.proofs.start.Tie as tie
 
 new-requires : tie.Need-new-requires
 new-requires c κs = search needs

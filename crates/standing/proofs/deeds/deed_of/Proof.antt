@@ -1,8 +1,8 @@
 -- Each verb has its deed, and any other number is wrong. Assumes nothing.
 use borrow.Author.Tests.{ne-eqb}
-use Rattle.playing.specs.Deeds.{deedOf}
-use Rattle.playing.proofs.deeds.deed_of.Statement.{statement}
-use Rattle.playing.proofs.deeds.deed_of.Tie as tie
+use Rattle.standing.specs.Deeds.{deedOf}
+use Rattle.standing.proofs.deeds.deed_of.Statement.{statement}
+use Rattle.standing.proofs.deeds.deed_of.Tie as tie
 
 returns : tie.Need-returns
 unfolding deedOf

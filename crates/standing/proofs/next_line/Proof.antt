@@ -1,7 +1,7 @@
 -- The line's number, and nothing came of it. Assumes nothing.
 use borrow.Author.Needs.{needs}
-use Rattle.playing.proofs.next_line.Statement.{statement}
-use Rattle.playing.proofs.next_line.Tie as tie
+use Rattle.standing.proofs.next_line.Statement.{statement}
+use Rattle.standing.proofs.next_line.Tie as tie
 
 wrapping-add-u64-requires : tie.Need-wrapping-add-u64-requires
 wrapping-add-u64-requires c κs = search needs

@@ -4,7 +4,7 @@ use crate::Event;
 use crate::Question;
 use crate::Setting;
 ghost use mathlib.Core.Path.{_≡_};
-ghost use Rattle.playing.specs.Deeds.{deedOf};
+ghost use Rattle.standing.specs.Deeds.{deedOf};
 
 pub fn deed_of(verb: u8) -> Deed
     ensures { λ d. ⌜ d ≡ deedOf verb ⌝ }

@@ -3,10 +3,10 @@ use Prim.Native.Nat.{ℕ}
 use lib.Dec.{eqb}
 use Rattle.rules.specs.Words.{pick}
 use Rattle.grammar.specs.Verbs as verbs
-use Rattle.playing.specs.declared.Deed.{Deed}
-use Rattle.playing.specs.declared.Event.{Event}
-use Rattle.playing.specs.declared.Question.{Question}
-use Rattle.playing.specs.declared.Setting.{Setting}
+use Rattle.standing.specs.declared.Deed.{Deed}
+use Rattle.standing.specs.declared.Event.{Event}
+use Rattle.standing.specs.declared.Question.{Question}
+use Rattle.standing.specs.declared.Setting.{Setting}
 
 unfoldable pub deedOf : ℕ → Deed
 deedOf v =

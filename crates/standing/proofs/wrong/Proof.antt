@@ -1,7 +1,7 @@
 -- The tally alone. Assumes nothing.
 use borrow.Author.Needs.{needs}
-use Rattle.playing.proofs.wrong.Statement.{statement}
-use Rattle.playing.proofs.wrong.Tie as tie
+use Rattle.standing.proofs.wrong.Statement.{statement}
+use Rattle.standing.proofs.wrong.Tie as tie
 
 with-wrong-line-requires : tie.Need-with-wrong-line-requires
 with-wrong-line-requires c κs = search needs
