@@ -10,9 +10,9 @@ use Rattle.standing.specs.declared.Deed.{Deed}
 use Rattle.standing.specs.declared.Playing.{Playing}
 use Rattle.standing.specs.Deeds.{deedOf}
 use Rattle.standing.specs.Benches.{withReading, nextLine, wrongCounted}
-use Rattle.playing.specs.Events.{EventPlayed}
-use Rattle.playing.specs.Settings.{SettingPlayed}
-use Rattle.playing.specs.Questions.{QuestionPlayed}
+use Rattle.arranging.specs.Settings.{SettingPlayed}
+use Rattle.asking.specs.Questions.{QuestionPlayed}
+use Rattle.happening.specs.Events.{EventPlayed}
 
 -- what is lent stays as it is
 pub record Untouched (array security reply marks array′ security′ reply′ marks′ : List ℕ) : Type 0 where

@@ -1,10 +1,5 @@
 // The player: what a line of a script does to the bench. A script's bytes come one by one; a line that has ended is played.
-mod events;
-mod questions;
-mod settings;
-
 use script::Line;
-pub use settings::arrange;
 use standing::Deed;
 use standing::Playing;
 use standing::deed_of;
@@ -32,7 +27,7 @@ fn play(
     let deed = deed_of(l.verb);
     match deed {
         Deed::Nothing => now,
-        Deed::Event(e) => events::played(
+        Deed::Event(e) => happening::played(
             now,
             e,
             l,
@@ -44,8 +39,8 @@ fn play(
             reply,
             marks,
         ),
-        Deed::Setting(s) => settings::played(now, s, slots, array, security),
-        Deed::Question(q) => questions::played(now, q, l, array, security, expected, known),
+        Deed::Setting(s) => arranging::played(now, s, slots, array, security),
+        Deed::Question(q) => asking::played(now, q, l, array, security, expected, known),
         Deed::Wrong => wrong(now),
     }
 }

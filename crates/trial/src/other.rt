@@ -111,7 +111,7 @@ pub fn played(
     match deed {
         Deed::Event(e) => event(f, e, p, l, array, security, sent, reply, marks),
         Deed::Setting(s) => {
-            playing::arrange(s, slots, array, security);
+            arranging::arrange(s, slots, array, security);
             Step {
                 number: 0,
                 state: chip_now(p),
