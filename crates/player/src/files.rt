@@ -2,9 +2,9 @@
 use crate::parts::within;
 use crate::telling;
 use crate::telling::Place;
-use playing::Playing;
-use rows::Row;
 use tallies::Tally;
+use rows::Row;
+use standing::Playing;
 
 // How scripts are played, and what they came to.
 pub struct Session {
@@ -136,7 +136,7 @@ fn turn(
 }
 
 fn begun(strict: bool) -> Desk {
-    let now = playing::start(strict);
+    let now = standing::start(strict);
     let at = telling::nothing();
     Desk {
         now,

@@ -4,10 +4,10 @@ mod heads;
 mod reasons;
 
 use crate::parts::within;
-use playing::Playing;
 use rows::Row;
 use rules::plain::smaller;
 use script::Line;
+use standing::Playing;
 
 // The parts, in their order. A part has one row or more; a row of no bytes is none.
 pub enum Part {

@@ -1,4 +1,3 @@
 -- Laws that the proofs cite.
-pub mod Memories
-pub mod Happenings
 pub mod Lines
+pub mod Unique

@@ -6,8 +6,9 @@ use mathlib.Core.List.{List}
 use Rattle.script.specs.declared.Line.{Line}
 use Rattle.script.specs.declared.Reading.{Reading}
 use Rattle.script.specs.Lines.{lineOf}
-use Rattle.playing.specs.declared.Playing.{Playing}
-use Rattle.playing.specs.Lines.{Untouched, Played, withReading, PlayedIf}
+use Rattle.standing.specs.declared.Playing.{Playing}
+use Rattle.standing.specs.Benches.{withReading}
+use Rattle.playing.specs.Lines.{Untouched, Played, PlayedIf}
 
 pub untouched : (A S R M : List ℕ) → Untouched A S R M A S R M
 untouched A S R M = record { array-is = refl; security-is = refl; reply-is = refl; marks-are = refl }

@@ -1,6 +1,2 @@
 -- What a line of a script does to the bench.
-pub mod Deeds
-pub mod Events
-pub mod Settings
-pub mod Questions
 pub mod Lines

@@ -10,7 +10,7 @@ use crate::report::say_number;
 use crate::report::say_word;
 use crate::source;
 use crate::source::Counts;
-use playing::Playing;
+use standing::Playing;
 
 // What comes next: another argument, a part of a script, what its end asks, a file of forms, a random line, nothing.
 pub const NEXT: u8 = 0;

@@ -12,7 +12,7 @@ mod source;
 use bytes::at;
 use feed::Feed;
 use feed::Input;
-use playing::Playing;
+use standing::Playing;
 use script::Line;
 use second::Flat;
 use source::Counts;
@@ -125,7 +125,7 @@ fn tried(
 // A script's own lines begin on a bench of their own.
 fn fresh(f: Feed, now: Playing) -> Playing {
     if f.fresh {
-        return playing::start(false);
+        return standing::start(false);
     }
     now
 }
@@ -242,7 +242,7 @@ fn turned(
 
 fn begun() -> Trial {
     let feed = feed::first();
-    let now = playing::start(false);
+    let now = standing::start(false);
     let flat = second::fresh();
     Trial { feed, now, flat }
 }

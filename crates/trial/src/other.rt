@@ -4,12 +4,12 @@ use crate::bytes::same_front;
 use crate::bytes::within;
 use crate::mapping::flat_of;
 use crate::mapping::same_records;
-use playing::Deed;
-use playing::Event;
-use playing::Playing;
 use script::Line;
 use second::Flat;
 use second::Step;
+use standing::Deed;
+use standing::Event;
+use standing::Playing;
 
 fn chip_now(p: Playing) -> Flat {
     let b = p.bench;
@@ -90,11 +90,11 @@ pub fn played(
     marks: &mut [u8; 65537],
 ) -> Step {
     let slots = l.slots;
-    let deed = playing::deed_of(l.verb);
+    let deed = standing::deed_of(l.verb);
     match deed {
         Deed::Event(e) => event(f, e, p, l, array, security, sent, reply, marks),
         Deed::Setting(s) => {
-            playing::arrange(s, slots, array, security);
+            arranging::arrange(s, slots, array, security);
             Step {
                 number: 0,
                 state: chip_now(p),

@@ -1,7 +1,7 @@
 // What came up in the random lines: a kind that came up less than a hundred times is named, and so the output differs from the expected one.
 use crate::bytes::at;
 use crate::source::Counts;
-use playing::Playing;
+use standing::Playing;
 use script::Line;
 use second::Flat;
 

@@ -5,10 +5,10 @@ use crate::telling::heads::FRAME;
 use crate::telling::heads::LOCKS;
 use crate::telling::heads::STATUS;
 use crate::telling::heads::WRONG;
-use playing::Playing;
 use rows::Row;
 use rules::plain::smaller;
 use script::Line;
+use standing::Playing;
 
 // How many of n bytes are shown: all, or so many at most.
 fn shown(p: Playing, n: usize, most: usize) -> usize {

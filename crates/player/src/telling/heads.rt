@@ -1,15 +1,15 @@
 // A line's first row, what stands right below it, and the rows of a status.
-use playing::Deed;
-use playing::Event;
-use playing::Playing;
-use playing::Question;
-use playing::Setting;
 use rows::Row;
 use rules::Chip;
 use rules::Rest;
 use rules::Work;
 use rules::plain::smaller;
 use script::Line;
+use standing::Deed;
+use standing::Event;
+use standing::Playing;
+use standing::Question;
+use standing::Setting;
 ghost use Prim.Native.Nat.{_≤_};
 
 // The verbs that rows are told of: crate grammar, specs/Verbs.
@@ -137,7 +137,7 @@ pub fn first(p: Playing, l: Line, sent: &[u8], reply: &[u8], marks: &[u8]) -> Ro
     let slots = l.slots;
     let word = l.word;
     let line = line_number(p);
-    let deed = playing::deed_of(l.verb);
+    let deed = standing::deed_of(l.verb);
     match deed {
         Deed::Nothing => rows::empty(),
         Deed::Event(e) => event_row(p, e, l, sent, reply, marks),

@@ -1,9 +1,9 @@
 // Why an event was refused, and what the line expected of it and did not get.
 use crate::telling::heads;
-use playing::Playing;
 use rows::Row;
 use rules::plain::smaller;
 use script::Line;
+use standing::Playing;
 
 // The number's line in document 01.
 pub fn number(p: Playing, event: bool) -> Row {

@@ -1,6 +1,6 @@
 -- By what the line asks for. Assumes nothing.
 use mathlib.Core.Path.{refl, ap, _∙_}
-use Rattle.playing.specs.Lines.{wrongCounted}
+use Rattle.standing.specs.Benches.{wrongCounted}
 use Rattle.playing.proofs.Lines.{untouched}
 use borrow.Author.Needs.{needs}
 use Rattle.playing.proofs.play.Statement.{statement}

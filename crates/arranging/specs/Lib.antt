@@ -1,0 +1,2 @@
+-- What a script sets.
+pub mod Settings

@@ -1,0 +1,2 @@
+-- What a script asks.
+pub mod Questions

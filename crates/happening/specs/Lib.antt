@@ -1,0 +1,2 @@
+-- Frames, completions and power cuts of a script.
+pub mod Events

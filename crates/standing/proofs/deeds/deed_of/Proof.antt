@@ -1,0 +1,125 @@
+-- Each verb has its deed, and any other number is wrong. Assumes nothing.
+use borrow.Author.Tests.{ne-eqb}
+use Rattle.standing.specs.Deeds.{deedOf}
+use Rattle.standing.proofs.deeds.deed_of.Statement.{statement}
+use Rattle.standing.proofs.deeds.deed_of.Tie as tie
+
+returns : tie.Need-returns
+unfolding deedOf
+returns c = rw (c .match .keys1)
+
+returns-2 : tie.Need-returns-2
+unfolding deedOf
+returns-2 c = rw (c .match .keys2)
+
+returns-3 : tie.Need-returns-3
+unfolding deedOf
+returns-3 c = rw (c .match .keys3)
+
+returns-4 : tie.Need-returns-4
+unfolding deedOf
+returns-4 c = rw (c .match .keys4)
+
+returns-5 : tie.Need-returns-5
+unfolding deedOf
+returns-5 c = rw (c .match .keys5)
+
+returns-6 : tie.Need-returns-6
+unfolding deedOf
+returns-6 c = rw (c .match .keys6)
+
+returns-7 : tie.Need-returns-7
+unfolding deedOf
+returns-7 c = rw (c .match .keys7)
+
+returns-8 : tie.Need-returns-8
+unfolding deedOf
+returns-8 c = rw (c .match .keys8)
+
+returns-9 : tie.Need-returns-9
+unfolding deedOf
+returns-9 c = rw (c .match .keys9)
+
+returns-10 : tie.Need-returns-10
+unfolding deedOf
+returns-10 c = rw (c .match .keys10)
+
+returns-11 : tie.Need-returns-11
+unfolding deedOf
+returns-11 c = rw (c .match .keys11)
+
+returns-12 : tie.Need-returns-12
+unfolding deedOf
+returns-12 c = rw (c .match .keys12)
+
+returns-13 : tie.Need-returns-13
+unfolding deedOf
+returns-13 c = rw (c .match .keys13)
+
+returns-14 : tie.Need-returns-14
+unfolding deedOf
+returns-14 c = rw (c .match .keys14)
+
+returns-15 : tie.Need-returns-15
+unfolding deedOf
+returns-15 c = rw (c .match .keys15)
+
+returns-16 : tie.Need-returns-16
+unfolding deedOf
+returns-16 c = rw (c .match .keys16)
+
+returns-17 : tie.Need-returns-17
+unfolding deedOf
+returns-17 c = rw (c .match .keys17)
+
+returns-18 : tie.Need-returns-18
+unfolding deedOf
+returns-18 c = rw (c .match .keys18)
+
+returns-19 : tie.Need-returns-19
+unfolding deedOf
+returns-19 c = let r = c .match .rest in
+    rw (
+      ne-eqb (c .before .args .verb) 0 (r .0 .0 .0 .0 .0 .0 .0 .0 .0 .0 .0 .0 .0 .0 .0 .0 .0 .1),
+      ne-eqb (c .before .args .verb) 1 (r .0 .0 .0 .0 .0 .0 .0 .0 .0 .0 .0 .0 .0 .0 .0 .0 .1),
+      ne-eqb (c .before .args .verb) 2 (r .0 .0 .0 .0 .0 .0 .0 .0 .0 .0 .0 .0 .0 .0 .0 .1),
+      ne-eqb (c .before .args .verb) 3 (r .0 .0 .0 .0 .0 .0 .0 .0 .0 .0 .0 .0 .0 .0 .1),
+      ne-eqb (c .before .args .verb) 4 (r .0 .0 .0 .0 .0 .0 .0 .0 .0 .0 .0 .0 .0 .1),
+      ne-eqb (c .before .args .verb) 5 (r .0 .0 .0 .0 .0 .0 .0 .0 .0 .0 .0 .0 .1),
+      ne-eqb (c .before .args .verb) 6 (r .0 .0 .0 .0 .0 .0 .0 .0 .0 .0 .0 .1),
+      ne-eqb (c .before .args .verb) 7 (r .0 .0 .0 .0 .0 .0 .0 .0 .0 .0 .1),
+      ne-eqb (c .before .args .verb) 8 (r .0 .0 .0 .0 .0 .0 .0 .0 .0 .1),
+      ne-eqb (c .before .args .verb) 9 (r .0 .0 .0 .0 .0 .0 .0 .0 .1),
+      ne-eqb (c .before .args .verb) 10 (r .0 .0 .0 .0 .0 .0 .0 .1),
+      ne-eqb (c .before .args .verb) 11 (r .0 .0 .0 .0 .0 .0 .1),
+      ne-eqb (c .before .args .verb) 12 (r .0 .0 .0 .0 .0 .1),
+      ne-eqb (c .before .args .verb) 13 (r .0 .0 .0 .0 .1),
+      ne-eqb (c .before .args .verb) 14 (r .0 .0 .0 .1),
+      ne-eqb (c .before .args .verb) 15 (r .0 .0 .1),
+      ne-eqb (c .before .args .verb) 16 (r .0 .1),
+      ne-eqb (c .before .args .verb) 17 (r .1),
+    )
+
+pub deed-of-spec : {M : Type 1} → statement M
+deed-of-spec =
+    tie.close
+    (tie.spec
+    returns
+    returns-2
+    returns-3
+    returns-4
+    returns-5
+    returns-6
+    returns-7
+    returns-8
+    returns-9
+    returns-10
+    returns-11
+    returns-12
+    returns-13
+    returns-14
+    returns-15
+    returns-16
+    returns-17
+    returns-18
+    returns-19)
