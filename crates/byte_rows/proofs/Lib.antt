@@ -1,0 +1,2 @@
+-- Laws of the rows of bytes.
+pub mod Unique

@@ -1,0 +1,4 @@
+-- Rows of bytes.
+pub mod Counts
+pub mod Bytes
+pub mod Unheld

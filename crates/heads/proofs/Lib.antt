@@ -1,0 +1,2 @@
+-- Laws of the first rows.
+pub mod Unique

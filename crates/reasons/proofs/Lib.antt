@@ -1,0 +1,2 @@
+-- Laws of the reasons.
+pub mod Unique

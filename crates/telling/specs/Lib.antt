@@ -1,0 +1,5 @@
+-- What the player tells.
+pub mod Order
+pub mod Parts
+pub mod Totals
+pub mod Arguments
