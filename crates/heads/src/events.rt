@@ -1,7 +1,7 @@
 // The row of an event. specs/Heads.antt.
-use standing::Event;
 use rows::Row;
 use rules::Work;
+use standing::Event;
 ghost use mathlib.Core.Path.{_≡_};
 ghost use Rattle.heads.specs.Heads.{headed, frameRow, eventRow};
 

@@ -5,13 +5,13 @@ mod seconds;
 mod settings;
 mod statuses;
 
-use standing::Deed;
 pub use questions::dumped;
 use rows::Row;
 use rules::Rest;
 use rules::Work;
 use script::Line;
 pub use seconds::second;
+use standing::Deed;
 pub use statuses::bit;
 pub use statuses::configuration;
 pub use statuses::protocol;

@@ -1,8 +1,8 @@
 // The row of a question. specs/Heads.antt.
-use standing::Question;
 use rows::Row;
 use rules::Rest;
 use rules::plain::smaller;
+use standing::Question;
 ghost use mathlib.Core.Path.{_≡_};
 ghost use Rattle.heads.specs.Heads.{dumped, dumpRow, questionRow};
 

@@ -1,8 +1,8 @@
 // The row of a setting. specs/Heads.antt.
 use crate::events::headed;
-use standing::Setting;
 use rows::Row;
 use rules::plain::smaller;
+use standing::Setting;
 ghost use mathlib.Core.Path.{_≡_};
 ghost use Rattle.heads.specs.Heads.{settingRow};
 

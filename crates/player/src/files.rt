@@ -1,10 +1,10 @@
 // Scripts from files and from standard input: each on a new chip, with counts of its own.
 use crate::parts::within;
-use crate::telling;
-use crate::telling::Place;
-use tallies::Tally;
-use rows::Row;
 use standing::Playing;
+use tallies::Tally;
+use telling::Argument;
+use telling::Place;
+use writing::Row;
 
 // How scripts are played, and what they came to.
 pub struct Session {
@@ -222,16 +222,6 @@ fn script_played(fd: i32, strict: bool, prompt: bool) -> Tally {
 
 // ---- the scripts
 
-// The last row: events, refusals, differences, and wrong lines where there are any.
-fn totals_told(r: rows::Row, t: Tally) {
-    let r = rows::form(r, 192, t.events, t.refused, t.differences);
-    if t.wrong == 0 {
-        say_row(r);
-        return;
-    }
-    say_row(rows::form(r, 193, t.wrong, 0, 0));
-}
-
 // Why a file cannot be opened, where that is one of the usual reasons.
 fn unopened_told(name: &[u8]) {
     let error = os::errno();
@@ -246,9 +236,8 @@ fn unopened_told(name: &[u8]) {
     say(b"\n");
 }
 
-// `-` is standard input.
-fn descriptor_of(name: &[u8]) -> i32 {
-    if same(name, b"-") {
+fn descriptor_of(input: bool, name: &[u8]) -> i32 {
+    if input {
         return libc::STDIN_FILENO;
     }
     os::open_read(name)
@@ -256,9 +245,9 @@ fn descriptor_of(name: &[u8]) -> i32 {
 
 // Its name, the heading and its rows; an empty row stands between two scripts.
 fn input_played(s: Session, fd: i32) -> Session {
-    say_row(rows::plain(22, 0, 0, 0));
+    say_row(telling::heading());
     let t = script_played(fd, s.strict, s.prompt);
-    totals_told(rows::empty(), t);
+    say_row(telling::total(t));
     let sum = tallies::sum_of(s.tally, t);
     let mut next = s;
     next.scripts = std::num::wrapping_add_u64(s.scripts, 1);
@@ -266,11 +255,11 @@ fn input_played(s: Session, fd: i32) -> Session {
     next
 }
 
-fn file_played(s: Session, name: &[u8]) -> Session {
+fn file_played(s: Session, input: bool, name: &[u8]) -> Session {
     if s.scripts != 0 {
         say(b"\n");
     }
-    let fd = descriptor_of(name);
+    let fd = descriptor_of(input, name);
     if fd < 0 {
         unopened_told(name);
         return s;
@@ -282,32 +271,22 @@ fn file_played(s: Session, name: &[u8]) -> Session {
     next
 }
 
-fn same(a: &[u8], b: &[u8]) -> bool {
-    if a.len() != b.len() {
-        return false;
-    }
-    let mut i: usize = 0;
-    while i < a.len() {
-        if a[i] != b[i] {
-            return false;
-        }
-        i += 1;
-    }
-    true
-}
-
 // An option, or a script.
 fn word_played(s: Session, word: &[u8]) -> Session {
     let mut next = s;
-    if same(word, b"--strict") {
-        next.strict = true;
-        return next;
+    let argument = telling::argument_of(word);
+    match argument {
+        Argument::Strict => {
+            next.strict = true;
+            next
+        }
+        Argument::Prompt => {
+            next.prompt = true;
+            next
+        }
+        Argument::Input => file_played(s, true, word),
+        Argument::Script => file_played(s, false, word),
     }
-    if same(word, b"--prompt") {
-        next.prompt = true;
-        return next;
-    }
-    file_played(s, word)
 }
 
 fn argument_played(s: Session, i: usize) -> Session {
@@ -337,7 +316,7 @@ fn all_told(s: Session) {
         return;
     }
     say(b"\n");
-    totals_told(rows::plain(205, s.scripts, 0, 0), s.tally);
+    say_row(telling::total_of(s.scripts, s.tally));
 }
 
 pub fn all_played() {

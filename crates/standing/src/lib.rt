@@ -2,10 +2,10 @@
 mod deeds;
 
 pub use deeds::deed_of;
-use tallies::Tally;
 use expecting::Verdict;
 use rules::Chip;
 use script::Reading;
+use tallies::Tally;
 ghost use mathlib.Core.Path.{_≡_};
 ghost use Rattle.standing.specs.Benches.{unjudged, begun, withReading, withBench, nextLine, wrongCounted};
 

@@ -1,8 +1,8 @@
 // The parts of a line one after the other. specs/Order.antt.
 use crate::Part;
 use crate::Place;
-use standing::Playing;
 use rules::plain::smaller;
+use standing::Playing;
 ghost use mathlib.Core.Path.{_≡_};
 ghost use Rattle.telling.specs.Order.{nothing, begun, isOver, partAfter, remarkRows, rowsOf, after};
 

@@ -1,10 +1,10 @@
 // A row of what is told. specs/Parts.antt.
 use crate::Part;
 use crate::Place;
-use standing::Playing;
 use rows::Row;
 use rules::plain::smaller;
 use script::Line;
+use standing::Playing;
 ghost use mathlib.Core.Path.{_≡_};
 ghost use Rattle.standing.specs.declared.Event.{Event};
 ghost use Rattle.happening.specs.Events.{marksWanted};

@@ -1,6 +1,6 @@
 // The rows around a script: its heading, and what it came to. specs/Totals.antt.
-use tallies::Tally;
 use rows::Row;
+use tallies::Tally;
 ghost use mathlib.Core.Path.{_≡_};
 ghost use Rattle.telling.specs.Totals.{heading, totalOn, totalRow, totalOf};
 

@@ -12,10 +12,10 @@ mod source;
 use bytes::at;
 use feed::Feed;
 use feed::Input;
-use standing::Playing;
 use script::Line;
 use second::Flat;
 use source::Counts;
+use standing::Playing;
 
 type Memory = [u8; 2097153];
 

@@ -1,9 +1,9 @@
 // What came up in the random lines: a kind that came up less than a hundred times is named, and so the output differs from the expected one.
 use crate::bytes::at;
 use crate::source::Counts;
-use standing::Playing;
 use script::Line;
 use second::Flat;
+use standing::Playing;
 
 // Places of what is counted: frames by opcode, done ones, events by number, by what runs, by what is suspended; the checklist's lines.
 const SENT: usize = 4096;
