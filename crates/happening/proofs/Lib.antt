@@ -1,4 +1,2 @@
--- Laws that the proofs cite.
-pub mod Parts
-pub mod Happenings
+-- Laws over the contracts.
 pub mod Unique

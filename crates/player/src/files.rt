@@ -1,9 +1,9 @@
 // Scripts from files and from standard input: each on a new chip, with counts of its own.
 use crate::parts::within;
+use ordering::Place;
 use standing::Playing;
 use tallies::Tally;
 use telling::Argument;
-use telling::Place;
 use writing::Row;
 
 // How scripts are played, and what they came to.
@@ -88,7 +88,7 @@ fn turn(
     let mut next = d;
     let now = d.now;
     let at = d.at;
-    if !telling::is_over(at) {
+    if !ordering::is_over(at) {
         let r = telling::row(
             now,
             at,
@@ -102,7 +102,7 @@ fn turn(
             security,
         );
         told(r);
-        next.at = telling::next(now, at);
+        next.at = ordering::next(now, at);
         return next;
     }
     if d.taken < d.came {
@@ -120,7 +120,7 @@ fn turn(
             marks,
         );
         next.now = now;
-        next.at = telling::begun(now);
+        next.at = ordering::begun(now);
         next.taken = std::num::wrapping_add_usize(d.taken, 1);
         return next;
     }
@@ -137,7 +137,7 @@ fn turn(
 
 fn begun(strict: bool) -> Desk {
     let now = standing::start(strict);
-    let at = telling::nothing();
+    let at = ordering::nothing();
     Desk {
         now,
         at,

@@ -1,5 +1,4 @@
 -- What the player tells.
-pub mod Order
 pub mod Parts
 pub mod Totals
 pub mod Arguments

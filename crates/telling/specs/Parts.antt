@@ -16,14 +16,14 @@ use Rattle.standing.specs.declared.Event.{Event}
 use Rattle.standing.specs.declared.Playing.{Playing}
 use Rattle.standing.specs.Deeds.{deedOf}
 use Rattle.standing.specs.Benches.{front}
-use Rattle.happening.specs.Events.{wanted, marksWanted}
+use Rattle.lending.specs.Lending.{wanted, marksWanted}
 use Rattle.reasons.specs.Reasons.{numberRow, whyRow, unmetRow, expectedFrom, cameRow}
 use Rattle.heads.specs.Heads.{headRow, secondRow}
 use Rattle.heads.specs.Statuses.{configurationRow, bitRow, protocolTold}
 use Rattle.byte_rows.specs.Bytes.{byteRow, moreRow}
 use Rattle.byte_rows.specs.Unheld.{unheldRow}
-use Rattle.telling.specs.declared.Part.{Part}
-use Rattle.telling.specs.declared.Place.{Place}
+use Rattle.ordering.specs.declared.Part.{Part}
+use Rattle.ordering.specs.declared.Place.{Place}
 
 -- row i of a remark, from its 79 i-th byte on
 unfoldable pub remarkPart : List ℕ → ℕ → Row

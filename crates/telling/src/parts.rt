@@ -1,24 +1,13 @@
 // A row of what is told. specs/Parts.antt.
-use crate::Part;
-use crate::Place;
+use lending::marks_given;
+use ordering::Part;
+use ordering::Place;
 use rows::Row;
 use rules::plain::smaller;
 use script::Line;
 use standing::Playing;
 ghost use mathlib.Core.Path.{_≡_};
-ghost use Rattle.standing.specs.declared.Event.{Event};
-ghost use Rattle.happening.specs.Events.{marksWanted};
 ghost use Rattle.telling.specs.Parts.{remarkPart, partRow, rowOf};
-
-// Marks are as many as the reply where the line does not say how many.
-fn marks_given(slots: [u64; 24]) -> usize
-    ensures { λ r. ⌜ r ≡ marksWanted Event.Frame slots ⌝ }
-{
-    if slots[2] == 0 {
-        return slots[1] as usize;
-    }
-    slots[3] as usize
-}
 
 fn remark_row(remark: &[u8], i: usize) -> Row
     ensures { λ q. ⌜ q ≡ remarkPart (now (remark .entry)) i ⌝ }

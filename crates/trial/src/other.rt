@@ -17,14 +17,6 @@ fn chip_now(p: Playing) -> Flat {
     flat_of(c)
 }
 
-// How many marks a frame wants: as many as reply bytes, where it does not say.
-fn marks_wanted(slots: [u64; 24]) -> usize {
-    if slots[2] == 0 {
-        return slots[1] as usize;
-    }
-    slots[3] as usize
-}
-
 // The event on as much of each memory as the first model was lent. Reply and marks hold 5A and 07 before it, as the first model's do.
 fn happened(
     f: Flat,
@@ -65,7 +57,7 @@ fn event(
     let s = within(b.security, security);
     let n = within(l.sent, sent);
     let r = within(slots[1] as usize, reply);
-    let m = within(marks_wanted(slots), marks);
+    let m = within(lending::marks_given(slots), marks);
     happened(
         f,
         e,
@@ -170,7 +162,7 @@ fn odd_memory(whole: bool, array: &[u8], security: &[u8], array2: &[u8], securit
 fn odd_reply(l: Line, reply: &[u8], marks: &[u8], reply2: &[u8], marks2: &[u8]) -> u64 {
     let slots = l.slots;
     let r = slots[1] as usize;
-    let m = marks_wanted(slots);
+    let m = lending::marks_given(slots);
     bit(same_front(r, reply, reply2), 4) | bit(same_front(m, marks, marks2), 8)
 }
 

@@ -1,0 +1,2 @@
+-- An event on what is lent.
+pub mod Lending

@@ -1,0 +1,2 @@
+-- The order of what is told.
+pub mod Order
