@@ -3,7 +3,6 @@ use Rattle.rules.proofs.Promises.{one}
 use Rattle.rules.proofs.Outcomes.{OneResult}
 use Rattle.byte_rows.proofs.row.Reads as row
 use Rattle.byte_rows.proofs.more.Reads as more
-use Rattle.byte_rows.proofs.counts.count.Reads as count
 use Rattle.byte_rows.proofs.unhelds.unheld.Reads as unheld
 
 pub row-one : OneResult row.Post
@@ -11,9 +10,6 @@ row-one κ a x y r r′ p q = one p q
 
 pub more-one : OneResult more.Post
 more-one κ a x y r r′ p q = one p q
-
-pub count-one : OneResult count.Post
-count-one κ a x y r r′ p q = one p q
 
 pub unheld-one : OneResult unheld.Post
 unheld-one κ a x y r r′ p q = one p q

@@ -17,9 +17,8 @@ use Rattle.page.specs.Page.{form}
 use Rattle.describing.specs.Commands.{onRow}
 use Rattle.rows.specs.Events.{below, replyRow, dumpRow}
 use Rattle.rows.specs.Questions.{lockState, runEnd, runRow}
-use Rattle.heads.specs.Heads.{dumped}
 use Rattle.heads.specs.Statuses.{statusBit}
-use Rattle.byte_rows.specs.Counts.{replyShown, dumpShown}
+use Rattle.showing.specs.Counts.{dumped, replyShown, dumpShown}
 
 -- ---- a reply
 

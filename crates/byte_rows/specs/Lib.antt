@@ -1,4 +1,3 @@
 -- Rows of bytes.
-pub mod Counts
 pub mod Bytes
 pub mod Unheld

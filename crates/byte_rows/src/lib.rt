@@ -1,11 +1,9 @@
 // Rows of bytes: a long reply, the bits of a status, the locks by address, a dump; what is left out of them; a memory that is not as expected. specs/.
-mod counts;
 mod dumps;
 mod locks;
 mod replies;
 mod unhelds;
 
-pub use counts::count;
 use rows::Row;
 use rules::Rest;
 use rules::plain::smaller;

@@ -1,5 +1,4 @@
 // A reply that does not stand on the frame's row. specs/Bytes.antt.
-use crate::counts::reply_shown;
 use rows::Row;
 use rules::plain::smaller;
 ghost use mathlib.Core.Path.{_≡_};
@@ -24,7 +23,7 @@ pub fn row(
     ensures { λ q. ⌜ q ≡ replyPart full wanted number i (now (sent .entry)) (now (reply .entry)) (now (marks .entry)) ⌝ }
 {
     let from = smaller(i, 4097) * 16;
-    let told = reply_shown(full, wanted);
+    let told = showing::reply_shown(full, wanted);
     let below = below_frame(number, sent, reply.len());
     if below & (from < told) {
         return rows::reply(from, reply, marks);
@@ -35,7 +34,7 @@ pub fn row(
 pub fn more(full: bool, wanted: usize, number: u8, sent: &[u8]) -> Row
     ensures { λ q. ⌜ q ≡ replyMore full wanted number (now (sent .entry)) ⌝ }
 {
-    let told = reply_shown(full, wanted);
+    let told = showing::reply_shown(full, wanted);
     let below = below_frame(number, sent, wanted);
     if below & (told < wanted) {
         return rows::below(196, describing::less(wanted, told), 0, 0);

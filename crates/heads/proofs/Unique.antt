@@ -2,7 +2,6 @@
 use Rattle.rules.proofs.Promises.{one}
 use Rattle.rules.proofs.Outcomes.{OneResult}
 use Rattle.heads.proofs.first.Reads as first
-use Rattle.heads.proofs.questions.dumped.Reads as dumped
 use Rattle.heads.proofs.seconds.second.Reads as second
 use Rattle.heads.proofs.statuses.status_bit.Reads as status-bit
 use Rattle.heads.proofs.statuses.configuration.Reads as configuration
@@ -11,9 +10,6 @@ use Rattle.heads.proofs.statuses.protocol.Reads as protocol
 
 pub first-one : OneResult first.Post
 first-one κ a x y r r′ p q = one p q
-
-pub dumped-one : OneResult dumped.Post
-dumped-one κ a x y r r′ p q = one p q
 
 pub second-one : OneResult second.Post
 second-one κ a x y r r′ p q = one p q

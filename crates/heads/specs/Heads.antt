@@ -6,7 +6,6 @@ use lib.Dec.{eqb}
 use Rattle.rules.specs.declared.Rest.{Rest}
 use Rattle.rules.specs.declared.Work.{Work}
 use Rattle.rules.specs.Words.{pick}
-use Rattle.rules.specs.Blocks.{arraySize, securitySize}
 use Rattle.rules.specs.Registers.{status}
 use Rattle.grammar.specs.Slots as slots
 use Rattle.grammar.specs.Verbs as verbs
@@ -14,7 +13,7 @@ use Rattle.script.specs.declared.Line.{Line}
 use Rattle.fields.specs.Records.{slot}
 use Rattle.writing.specs.declared.Row.{Row}
 use Rattle.writing.specs.Rows.{blank}
-use Rattle.byte_text.specs.Bytes.{within}
+use Rattle.showing.specs.Counts.{dumped}
 use Rattle.page.specs.Page.{form}
 use Rattle.describing.specs.Works.{told, work, places}
 use Rattle.describing.specs.Commands.{answerOn}
@@ -55,11 +54,6 @@ settingRow Setting.Short line s = numbered line 216 0 0 0
 settingRow Setting.Strict line s = numbered line 214 0 0 0
 
 -- ---- a question
-
--- how many of its bytes a dump has: none lie past the memory's end
-unfoldable pub dumped : List ℕ → ℕ
-dumped s =
-    pick (eqb (slot s slots.ofId) 0) (within arraySize (slot s slots.from) (slot s slots.size)) (within securitySize (slot s slots.from) (slot s slots.size))
 
 -- "so many bytes as stored, from a place in hex, of the array or the Security ID" (171)
 unfoldable pub dumpRow : ℕ → List ℕ → Row

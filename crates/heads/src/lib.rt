@@ -5,7 +5,6 @@ mod seconds;
 mod settings;
 mod statuses;
 
-pub use questions::dumped;
 use rows::Row;
 use rules::Rest;
 use rules::Work;

@@ -2,21 +2,10 @@
 use rows::Row;
 use rules::Rest;
 use rules::plain::smaller;
+use showing::dumped;
 use standing::Question;
 ghost use mathlib.Core.Path.{_≡_};
-ghost use Rattle.heads.specs.Heads.{dumped, dumpRow, questionRow};
-
-// How many bytes a dump is of: none past the memory's end.
-pub fn dumped(slots: [u64; 24]) -> usize
-    ensures { λ n. ⌜ n ≡ dumped slots ⌝ }
-{
-    let from = slots[7] as usize;
-    let n = slots[8] as usize;
-    if slots[10] == 0 {
-        return rows::count_within(2097152, from, n);
-    }
-    rows::count_within(2048, from, n)
-}
+ghost use Rattle.heads.specs.Heads.{dumpRow, questionRow};
 
 // A dump says how many bytes there are.
 fn dump(line: u64, slots: [u64; 24]) -> Row

@@ -7,7 +7,7 @@ use Rattle.rules.specs.Words.{pick}
 use Rattle.script.specs.declared.Line.{Line}
 use Rattle.script.specs.Lines.{lineOf}
 use Rattle.standing.specs.declared.Playing.{Playing}
-use Rattle.byte_rows.specs.Counts.{countOf}
+use Rattle.showing.specs.Counts.{countOf}
 use Rattle.ordering.specs.declared.Part.{Part}
 use Rattle.ordering.specs.declared.Place.{Place}
 

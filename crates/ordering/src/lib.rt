@@ -115,7 +115,7 @@ fn rows_of(part: Part, remark: usize, verb: u8, full: bool, slots: [u64; 24]) ->
         Part::Remark => remark_rows(smaller(remark, 65537)),
         Part::Head => 1,
         Part::Second => 1,
-        Part::Bytes => byte_rows::count(verb, full, slots),
+        Part::Bytes => showing::count(verb, full, slots),
         Part::More => 1,
         Part::Configuration => 1,
         Part::Bits => 3,

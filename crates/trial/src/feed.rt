@@ -1,15 +1,15 @@
 // Where the lines come from: the scripts that the arguments name, one after the other, then random lines. A script is read in parts; a
 // random line is made when the one before it has been played, since what comes up goes by the chip's state.
-use crate::bytes::same;
-use crate::bytes::within;
-use crate::dice::once_in;
-use crate::dice::seed_of;
 use crate::report;
 use crate::report::say;
 use crate::report::say_number;
 use crate::report::say_word;
-use crate::source;
-use crate::source::Counts;
+use comparing::bytes::same;
+use comparing::bytes::within;
+use drawing::dice::once_in;
+use drawing::dice::seed_of;
+use drawing::source;
+use drawing::source::Counts;
 use standing::Playing;
 
 // What comes next: another argument, a part of a script, what its end asks, a file of forms, a random line, nothing.

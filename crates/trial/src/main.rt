@@ -1,20 +1,15 @@
 // Both models of the bench chip, side by side: the scripts that the arguments name, against what they expect and each other; then random
 // lines of the same language, against each other. A difference in a random run is printed as a script that can be played again.
 // Differences planted in the second model show that each comparison is made.
-mod bytes;
-mod dice;
 mod feed;
-mod mapping;
-mod other;
 mod report;
-mod source;
 
-use bytes::at;
+use drawing::at;
+use drawing::source::Counts;
 use feed::Feed;
 use feed::Input;
 use script::Line;
 use second::Flat;
-use source::Counts;
 use standing::Playing;
 
 type Memory = [u8; 2097153];
@@ -99,9 +94,9 @@ fn tried(
     let l = script::line_of(reading);
     let flat = t.flat;
     let f = t.feed;
-    let s = other::played(flat, now, l, array2, security2, frame, reply2, marks2);
-    let s = other::planted(plant_of(f, l.verb), s, array2, security2, reply2, marks2);
-    let odd = other::odd(
+    let s = comparing::played(flat, now, l, array2, security2, frame, reply2, marks2);
+    let s = comparing::planted(plant_of(f, l.verb), s, array2, security2, reply2, marks2);
+    let odd = comparing::odd(
         now,
         l,
         s,

@@ -1,6 +1,6 @@
 // What came up in the random lines: a kind that came up less than a hundred times is named, and so the output differs from the expected one.
-use crate::bytes::at;
-use crate::source::Counts;
+use drawing::at;
+use drawing::source::Counts;
 use script::Line;
 use second::Flat;
 use standing::Playing;

@@ -1,0 +1,2 @@
+-- Laws over the contracts.
+pub mod Unique

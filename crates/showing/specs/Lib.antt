@@ -1,0 +1,2 @@
+-- How many bytes are shown.
+pub mod Counts
