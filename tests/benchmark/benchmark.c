@@ -189,6 +189,13 @@ static void read_limit(void)
     memset(marks, 1, wanted);
     __asm__ volatile("" : : "r"(reply), "r"(marks) : "memory");
 }
+/* a burst read: the length in force is the record's */
+static void burst_ours(void)
+{
+    const uint8_t sent[] = { 0xEC, (uint8_t)(from >> 16), (uint8_t)(from >> 8), (uint8_t)from, 0, 0, 0 };
+    uint8_t n = send(sent, 7, wanted);
+    sink += (uint64_t)n + reply[0];
+}
 static const uint8_t s05[] = { 0x05 }, s06[] = { 0x06 }, s98[] = { 0x98 }, sB0[] = { 0xB0 }, sC7[] = { 0xC7 };
 static void status_ours(void) { send(s05, 1, 1); sink += reply[0]; }
 static void status_plain(void) { plain_frame(s05, 1, reply, 1); sink += reply[0]; }
@@ -347,7 +354,7 @@ static void mixed(void)
 int main(void)
 {
     setvbuf(stdout, NULL, _IOLBF, 0);
-    double read_limit_ratio = 0, read_plain_ratio = 0;
+    double read_limit_ratio = 0, read_plain_ratio = 0, burst_ratio = 0, middle_ratio = 0, long_ratio = 0;
     static const size_t sizes[] = { 1, 16, 256, 4096, 65536 };
     char name[64];
     for (size_t i = 0; i < sizeof frame; i++)
@@ -381,6 +388,20 @@ int main(void)
                 read_limit_ratio = q.to_limit;
             }
         }
+
+    /* bursts: of 64 against a plain read of as many bytes, from a group's start and from its middle; of 8, going round, against the limit */
+    for (int k = 0; k < 3; k++) {
+        const uint8_t set[] = { 0xC0, k < 2 ? 0x03 : 0x00 };
+        fresh();
+        chip.bytes[FULKIBONO_PLACE_FLAGS] |= FULKIBONO_FLAG_IOC;
+        must(send(set, 2, 0) == 0, "C0 refused");
+        from = k == 1 ? 0x20020 : 0x20000;
+        wanted = k < 2 ? 64 : 65536;
+        static const char *const names[] = { "burst of 64 (limit: a plain read)", "  from the group's middle (limit: the same)", "burst of 8, 65536 bytes" };
+        struct row b = { names[k], burst_ours, NULL, k < 2 ? read_ours : read_limit, k < 2 ? 400000 : 4000, 0, 0 };
+        measure(&b);
+        *(k == 0 ? &burst_ratio : k == 1 ? &middle_ratio : &long_ratio) = b.to_limit;
+    }
 
     fresh();
     struct row p = { "page program (limit: four status frames)", page_ours, page_plain, page_limit, 300000, 0, 0 };
@@ -433,6 +454,9 @@ int main(void)
         bar("sector erase (20, completion) against memset plus a status frame", e1.to_limit, 1, 2);
         bar("chip erase (06, C7, completion) against memset", e3.to_limit, 1, 1.3);
         bar("page program (06, 02, poll, completion) against four status frames", p.to_limit, 1, 4);
+        bar("64-byte burst of 64 against a plain read of 64 bytes", burst_ratio, 1, 1.3);
+        bar("  from the middle of a group", middle_ratio, 1, 1.3);
+        bar("65,536-byte reply of an 8-byte burst against the limit", long_ratio, 1, 8);
         bar("mixed events: last tenth against the first", median(growth), 1, 1.1);
     }
     printf("%d missed\n", missed);

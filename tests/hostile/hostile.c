@@ -82,10 +82,10 @@ static size_t some_length(void)
 }
 
 static const uint8_t opcodes[] = { 0x00, 0x66, 0x99, 0x38, 0xFF, 0x05, 0x35, 0x72, 0x9F, 0xAF, 0x03, 0x0B, 0x6B, 0x88, 0x06, 0x06, 0x06, 0x04, 0x20, 0xD8,
-                                   0xC7, 0x02, 0x32, 0xA5, 0x85, 0x01, 0x42, 0xE8, 0x8D, 0x98, 0xB0, 0x30 };
+                                   0xC7, 0x02, 0x32, 0xA5, 0x85, 0x01, 0x42, 0xE8, 0x8D, 0x98, 0xB0, 0x30, 0xC0, 0xC0, 0x0C, 0xEC };
 
 /* the length of each in SPI, opcode included */
-static const uint8_t lengths[] = { 1, 1, 1, 1, 1, 1, 1, 1, 1, 2, 4, 5, 5, 4, 1, 1, 1, 1, 4, 4, 1, 9, 9, 9, 1, 3, 7, 7, 1, 1, 1, 1 };
+static const uint8_t lengths[] = { 1, 1, 1, 1, 1, 1, 1, 1, 1, 2, 4, 5, 5, 4, 1, 1, 1, 1, 4, 4, 1, 9, 9, 9, 1, 3, 7, 7, 1, 1, 1, 1, 2, 2, 7, 7 };
 
 /* the record: what a run of frames left, that with one byte changed, or random bytes */
 static uint8_t kept[FULKIBONO_RECORD_SIZE];
@@ -145,11 +145,11 @@ static void taken_again(void)
         must(answer[i] == (uint8_t)(fulkibono_protection(&c) >> 8 * (5 - i)), "the protection register of a record");
 }
 
-static long counts[13];
+static long counts[14];
 
 static void after(uint8_t number, int frame, const uint8_t *array_before)
 {
-    must(number <= 12, "a number above 12");
+    must(number <= 13, "a number above 13");
     counts[number]++;
     if (number == 1 || number == 12)
         must(same(&record) && same(&security) && memcmp(array_before, array.lent, array.n) == 0, "refusal 1 or 12 changed something");
@@ -204,7 +204,7 @@ int main(int argc, char **argv)
             lend(&text, n);
             memset(text.lent, 0xAB, n);
             size_t whole = fulkibono_meaning((uint8_t)number, text.lent, n);
-            must((number <= 12) == (whole > 0) && whole <= FULKIBONO_MEANING_MOST, "a text's length");
+            must((number <= 13) == (whole > 0) && whole <= FULKIBONO_MEANING_MOST, "a text's length");
             for (size_t i = 0; i < n; i++)
                 must(i < whole ? text.lent[i] >= 0x20 && text.lent[i] < 0x7F : text.lent[i] == 0xAB, "a text's bytes");
         }
@@ -265,7 +265,7 @@ int main(int argc, char **argv)
         }
     }
     printf("hostile: %ld rounds, no finding; numbers given:", rounds);
-    for (int i = 0; i <= 12; i++)
+    for (int i = 0; i <= 13; i++)
         printf(" %d:%ld", i, counts[i]);
     printf("\n");
     free(before);

@@ -84,6 +84,7 @@ static void new_chip(void)
     runs(FULKIBONO_KIND_NOTHING, 0);
     must(fulkibono_protection(&chip) == 0x5555FFFFFFFF && fulkibono_permanent(&chip) == 0, "the registers of a new chip");
     must(chip.bytes[FULKIBONO_PLACE_FLAGS] == 0, "the flags of a new chip");
+    must(chip.bytes[FULKIBONO_PLACE_BURST] == 0 && fulkibono_burst(&chip) == 8, "the burst of a new chip");
     for (i = 0; i < FULKIBONO_RECORD_SIZE; i++)
         if (i < FULKIBONO_PLACE_PROTECTION || i >= FULKIBONO_PLACE_RESERVED)
             must(chip.bytes[i] == (i < FULKIBONO_PLACE_PROTECTION ? 0xFF : 0), "the buffer, and the reserved bytes");
@@ -294,6 +295,31 @@ static void made(uint8_t kind, uint64_t number)
         chip.bytes[FULKIBONO_PLACE_RUNNING_NUMBER + i] = (uint8_t)(number >> 8 * i);
 }
 
+/* C0 sets the burst, and a burst read wraps within its group; a record stored before bursts has 0 in their place */
+static void bursts(void)
+{
+    static const uint8_t length[] = { 8, 16, 32, 64 };
+    uint8_t set[] = { 0xC0, 0 }, read[] = { 0xEC, 0x01, 0x23, 0x7E, 0, 0, 0 }, reply[70], marks[70];
+    unsigned i, k;
+    opened();
+    for (i = 0; i < 256; i++)
+        array[0x012300 + i] = (uint8_t)i;
+    chip.bytes[FULKIBONO_PLACE_FLAGS] |= FULKIBONO_FLAG_IOC;
+    for (k = 0; k < 256; k++) {
+        unsigned old = fulkibono_burst(&chip);
+        set[1] = (uint8_t)k;
+        must(fulkibono_send(&chip, array, security, set, 2, NULL, NULL, 0) == (k < 4 ? FULKIBONO_DONE : FULKIBONO_NO_SUCH_BURST), "C0");
+        must(fulkibono_burst(&chip) == (k < 4 ? length[k] : old), "the burst that C0 sets");
+        must(fulkibono_send(&chip, array, security, read, 7, reply, marks, sizeof reply) == 0, "EC");
+        for (i = 0; i < sizeof reply; i++) {
+            unsigned n = fulkibono_burst(&chip);
+            must(reply[i] == 0x7E / n * n + (0x7E + i) % n && marks[i] == 1, "the places of a burst");
+        }
+    }
+    chip.bytes[FULKIBONO_PLACE_BURST] = 0;
+    must(fulkibono_send(&chip, array, security, read, 7, reply, marks, 9) == 0 && reply[2] == 0x78 && reply[8] == 0x7E, "0 in the burst's place");
+}
+
 static void no_code(void)
 {
     static const struct { uint8_t kind; uint64_t most; } last[] = {
@@ -318,6 +344,9 @@ static void no_code(void)
     made(0, 0);
     chip.bytes[FULKIBONO_PLACE_FLAGS] = 128;
     refused("bit 7 of the flags");
+    made(0, 0);
+    chip.bytes[FULKIBONO_PLACE_BURST] = 4;
+    refused("a burst's byte above 3");
     for (i = FULKIBONO_PLACE_RESERVED; i < FULKIBONO_RECORD_SIZE; i++) {
         made(0, 0);
         chip.bytes[i] = 1;
@@ -335,6 +364,7 @@ int main(void)
     no_range();
     idle_cut();
     refusals();
+    bursts();
     no_code();
     printf("record: version %d, %d facts, all as the header says\n", FULKIBONO_VERSION, tried);
     return 0;

@@ -1,4 +1,6 @@
 // The record without its buffer after a frame.
+use numbering::burst_of;
+use rules::Burst;
 use rules::Kind;
 use rules::Long;
 use rules::Rest;
@@ -7,7 +9,7 @@ use rules::Work;
 use rules::Works;
 ghost use mathlib.Core.Path.{_≡_};
 ghost use mathlib.Core.Bool.{true, false};
-ghost use Rattle.rules.specs.Fields.{withProtection, withRunning, withSuspended, withSqi, withWel, withWpld, withEnable};
+ghost use Rattle.rules.specs.Fields.{withProtection, withRunning, withSuspended, withSqi, withWel, withWpld, withEnable, withBurst};
 ghost use Rattle.rules.specs.Commands.{workOf, atOnce, act};
 
 // The enable is used up.
@@ -147,6 +149,21 @@ fn enabled(r: Rest) -> Rest
     next
 }
 
+fn with_burst(r: Rest, b: Burst) -> Rest
+    ensures { λ q. ⌜ q ≡ withBurst b (withEnable false r) ⌝ }
+{
+    let locks = r.locks;
+    let works = r.works;
+    let mut flags = r.flags;
+    flags.enable = false;
+    Rest {
+        locks,
+        works,
+        flags,
+        burst: b,
+    }
+}
+
 fn at_once(s: Short, sent: &[u8], r: Rest) -> Rest
     ensures { λ q. ⌜ q ≡ atOnce s (now (sent .entry)) (withEnable false r) ⌝ }
 {
@@ -171,6 +188,7 @@ fn at_once(s: Short, sent: &[u8], r: Rest) -> Rest
         }
         Short::Suspend => suspend(r),
         Short::Resume => resume(r),
+        Short::SetBurst => with_burst(r, burst_of(opcodes::sent_byte(sent, 1))),
     }
 }
 

@@ -7,7 +7,7 @@ use mathlib.Core.List.{List, _∷_, []}
 use native.Mathlib.Nat.{pow-suc, lt-of-le-of-lt}
 use native.Mathlib.Omega.{arith}
 use lib.Bits.{bitAnd, and-le-r, or-lt}
-use lib.Dec.{eqb, ltb, lit<}
+use lib.Dec.{eqb, ltb, leb, lit<}
 use lib.ListN.{length, drop}
 use Rattle.rules.specs.declared.Chip.{Chip}
 use Rattle.rules.specs.declared.Flags.{Flags}
@@ -20,6 +20,7 @@ use Rattle.rules.specs.declared.Work.the-variants.{Nothing, EraseSector, EraseB
 use Rattle.rules.specs.Words.{bit, pick, oneOf}
 use Rattle.rules.specs.Blocks.{arraySize, writeLocks, readLocks, allLocks}
 use Rattle.rules.specs.Frames.{formOf, sentByte, opcode, address, six}
+use Rattle.rules.specs.Bursts.{lastBurst}
 use Rattle.rules.specs.Programs.{blank, pageBuffer, securityBuffer}
 use Rattle.rules.specs.Fields.{withRunning, withEnable, withFlags, flagsBound}
 use Rattle.rules.specs.Commands.{newChip, workOf, bufferOf, atOnce, act, bufferAtOnce, bufferAfter, settled, settledFirst, rested, bufferRested, afterCut}
@@ -49,7 +50,8 @@ number-small l small at (suc n) =
 pub read-typed : (l : List ℕ) → OfBytes l → isCode l ≡ true → Typed (chipIn l)
 unfolding isCode chipIn restIn
 read-typed l small e =
-    let f = and-split _ (ltb (fieldIn l "flags") flagsBound) (and-split _ (eqb (fieldIn l "reserved") 0) (and-split (eqb (length l) recordSize) _ e .1) .0) in
+    let b = and-split _ (leb (fieldIn l "burst") lastBurst) (and-split _ (eqb (fieldIn l "reserved") 0) (and-split (eqb (length l) recordSize) _ e .1) .0) in
+    let f = and-split _ (ltb (fieldIn l "flags") flagsBound) (b .0) in
     let w = and-split (workRight (fieldIn l "running kind") (fieldIn l "running number")) _ (f .0) in
     record {
       buffer = page-size l (known-length l e);
@@ -98,6 +100,7 @@ short-page Short.LockDown b h = h
 short-page Short.ClearLocks b h = h
 short-page Short.Suspend b h = h
 short-page Short.Resume b h = h
+short-page Short.SetBurst b h = h
 
 after-page : (k : Kind) (sent b : List ℕ) → length b ≡ 256 → length (bufferAfter k sent b) ≡ 256
 after-page (Kind.Show s) sent b h = h
@@ -156,6 +159,7 @@ module _ (r : Rest) (t : TypedRest r) where
       }
   short-typed Short.Suspend sent = record { protection = t .protection; permanent = t .permanent; running = lit< tt; suspended = t .running }
   short-typed Short.Resume sent = record { protection = t .protection; permanent = t .permanent; running = t .suspended; suspended = lit< tt }
+  short-typed Short.SetBurst sent = record { protection = t .protection; permanent = t .permanent; running = t .running; suspended = t .suspended }
 
   act-typed : (k : Kind) (sent : List ℕ) → OfBytes sent → TypedRest (act k sent r)
   act-typed (Kind.Show s) sent small = t

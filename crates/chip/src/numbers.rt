@@ -1,4 +1,4 @@
-// The number of an answer: document 01's list.
+// The number of an answer: document 01's list, then 02's.
 use rules::Answer;
 use rules::Refusal;
 ghost use mathlib.Core.Path.{_≡_};
@@ -20,6 +20,7 @@ fn refusal_number(why: Refusal) -> u8
         Refusal::Closed => 10,
         Refusal::WriteLocked => 11,
         Refusal::NothingRuns => 12,
+        Refusal::NoSuchBurst => 13,
     }
 }
 

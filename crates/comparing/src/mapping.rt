@@ -14,6 +14,8 @@ pub fn flat_of(c: Chip) -> Flat {
     let sus_number = numbering::number_of(aside);
     let locks = rest.locks;
     let flags = rest.flags;
+    let set = rest.burst;
+    let burst = (numbering::burst_byte(set) % 16) as u8;
     let buffer = c.buffer;
     Flat {
         buffer,
@@ -30,6 +32,7 @@ pub fn flat_of(c: Chip) -> Flat {
         wpld: flags.wpld,
         sec: flags.sec,
         enable: flags.enable,
+        burst,
     }
 }
 
@@ -60,5 +63,6 @@ pub fn same_records(c: Chip, f: Flat) -> bool {
     let one = d.buffer;
     let two = f.buffer;
     let locks = (d.protection == f.protection) & (d.permanent == f.permanent);
-    locks & same_works(d, f) & same_flags(d, f) & same_pages(&one, &two)
+    let bursts = d.burst == f.burst;
+    locks & bursts & same_works(d, f) & same_flags(d, f) & same_pages(&one, &two)
 }

@@ -14,7 +14,7 @@ use Rattle.writing.specs.Rows.{put}
 use Rattle.byte_text.specs.Bytes.{part}
 use Rattle.page.specs.Page.{form}
 
--- the opcodes of 01's table, in its order
+-- the opcodes of the table of frames, in its order
 unfoldable pub opcodesOf : List frames.Row → List ℕ
 opcodesOf [] = []
 opcodesOf (r ∷ rs) = r .opcode ∷ opcodesOf rs
@@ -28,19 +28,20 @@ placeOf [] o = 0
 placeOf (x ∷ xs) o = pick (eqb o x) 0 (suc (placeOf xs o))
 
 -- for each opcode of the table what is told of its operands: 0 nothing, 1 an array address, 2 that and how many bytes, 3 a register, 4 a Security ID
--- address, 5 that and how many bytes, 6 the configuration
+-- address, 5 that and how many bytes, 6 the configuration, 7 the burst's byte
 unfoldable pub operands : List ℕ
 operands =
-    0 ∷ 0 ∷ 0 ∷ 0 ∷ 0 ∷ 0 ∷ 0 ∷ 0 ∷ 0 ∷ 0 ∷ 1 ∷ 1 ∷ 1 ∷ 4 ∷ 0 ∷ 0 ∷ 1 ∷ 1 ∷ 0 ∷ 2 ∷ 2 ∷ 5 ∷ 0 ∷ 6 ∷ 3 ∷ 3 ∷ 0 ∷ 0 ∷ 0 ∷ 0 ∷ []
+    0 ∷ 0 ∷ 0 ∷ 0 ∷ 0 ∷ 0 ∷ 0 ∷ 0 ∷ 0 ∷ 0 ∷ 1 ∷ 1 ∷ 1 ∷ 4 ∷ 0 ∷ 0 ∷ 1 ∷ 1 ∷ 0 ∷ 2 ∷ 2 ∷ 5 ∷ 0 ∷ 6 ∷ 3 ∷ 3 ∷ 0 ∷ 0 ∷ 0 ∷ 0 ∷ 7 ∷ 1 ∷ 1 ∷ []
 
 unfoldable pub operandOn : ℕ → List ℕ → Row → Row
 operandOn k sent r =
-    pick (eqb k 1) (form 133 (address sent) 0 0 r)
+    pick (eqb k 1) (form 139 (address sent) 0 0 r)
     (pick (eqb k 2) (form 134 (address sent) (length sent - 4) 0 r)
     (pick (eqb k 3) (form 135 (six sent) 0 0 r)
     (pick (eqb k 4) (form 136 (securityAddress sent) 0 0 r)
     (pick (eqb k 5) (form 137 (securityAddress sent) (length sent - 3) 0 r)
-    (pick (eqb k 6) (form 138 (sentByte sent 2) 0 0 r) r)))))
+    (pick (eqb k 6) (form 138 (sentByte sent 2) 0 0 r)
+    (pick (eqb k 7) (form 138 (sentByte sent 1) 0 0 r) r))))))
 
 -- the name; and the operands of a frame whose length is right
 unfoldable pub nameOn : List ℕ → Row → Row

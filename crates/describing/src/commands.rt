@@ -24,13 +24,13 @@ fn place_of(table: &[u8], op: u8) -> usize
     i
 }
 
-// Its place among document 01's opcodes.
+// Its place among the opcodes of the table.
 fn opcode_place(op: u8) -> usize
     ensures value { λ n. ⌜ n ≡ placeOf opcodes op ⌝ }
-    ensures small { λ n. ⌜ n ≤ 30 ⌝ }
+    ensures small { λ n. ⌜ n ≤ 33 ⌝ }
 {
     place_of(
-        b"\x00\x66\x99\x38\xff\x05\x35\x72\x9f\xaf\x03\x0b\x6b\x88\x06\x04\x20\xd8\xc7\x02\x32\xa5\x85\x01\x42\xe8\x8d\x98\xb0\x30",
+        b"\x00\x66\x99\x38\xff\x05\x35\x72\x9f\xaf\x03\x0b\x6b\x88\x06\x04\x20\xd8\xc7\x02\x32\xa5\x85\x01\x42\xe8\x8d\x98\xb0\x30\xc0\x0c\xec",
         op,
     )
 }
@@ -39,7 +39,7 @@ fn operand_of(place: usize) -> u64
     ensures { λ n. ⌜ n ≡ getD operands place 0 ⌝ }
 {
     opcodes::sent_byte(
-        b"\x00\x00\x00\x00\x00\x00\x00\x00\x00\x00\x01\x01\x01\x04\x00\x00\x01\x01\x00\x02\x02\x05\x00\x06\x03\x03\x00\x00\x00\x00",
+        b"\x00\x00\x00\x00\x00\x00\x00\x00\x00\x00\x01\x01\x01\x04\x00\x00\x01\x01\x00\x02\x02\x05\x00\x06\x03\x03\x00\x00\x00\x00\x07\x01\x01",
         place,
     )
 }
@@ -65,18 +65,19 @@ fn operand(r: Row, kind: u64, sent: &[u8]) -> Row
     let place = opcodes::address_of(sent) as u64;
     let security = opcodes::security_address_of(sent) as u64;
     match kind {
-        1 => form(r, 133, place, 0, 0),
+        1 => form(r, 139, place, 0, 0),
         2 => form(r, 134, place, less(sent.len(), 4), 0),
         3 => form(r, 135, opcodes::six_of(sent), 0, 0),
         4 => form(r, 136, security, 0, 0),
         5 => form(r, 137, security, less(sent.len(), 3), 0),
         6 => form(r, 138, opcodes::sent_byte(sent, 2), 0, 0),
+        7 => form(r, 138, opcodes::sent_byte(sent, 1), 0, 0),
         _ => r,
     }
 }
 
 fn name(r: Row, op: u8, place: usize) -> Row
-    requires { ⌜ place ≤ 30 ⌝ }
+    requires { ⌜ place ≤ 33 ⌝ }
     ensures { λ q. ⌜ q ≡ form (100 + place) op 0 0 r ⌝ }
 {
     form(r, 100 + place, op as u64, 0, 0)

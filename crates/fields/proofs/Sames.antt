@@ -1,14 +1,17 @@
 -- Two records of which same_rest says that they are the same are the same but for their buffers. Assumes nothing.
-use mathlib.Core.Path.{_≡_, refl, sym, _∙_}
+use mathlib.Core.Path.{_≡_, refl, sym, ap, _∙_}
 use mathlib.Core.Bool.{Bool, true, false, _&&_}
 use lib.Dec.{eqb}
 use borrow.Author.Tests.{eqb-true}
+use Rattle.rules.specs.declared.Burst.{Burst}
 use Rattle.rules.specs.declared.Flags.{Flags}
 use Rattle.rules.specs.declared.Rest.{Rest}
 use Rattle.rules.specs.declared.Work.{Work}
 use Rattle.rules.specs.Words.{num}
+use Rattle.rules.specs.Bursts.{burstByte, burstOf}
 use Rattle.rules.specs.Fields.{locksOf, worksOf, flagsOf, restOf}
 use Rattle.rules.proofs.Bools.{and-split}
+use Rattle.rules.proofs.Fields.{burst-back}
 use Rattle.numbering.specs.Numbering.{kindOf, numberOf, workOf}
 use Rattle.numbering.proofs.Works.{work-back}
 use Rattle.fields.specs.Records.{sameWork, sameFlags, sameRest}
@@ -36,10 +39,14 @@ same-flags a b e =
     let s6 = and-split (eqb (num (a .sqi)) (num (b .sqi))) (eqb (num (a .wel)) (num (b .wel))) (s5 .0) in
     λ i. flagsOf (same-flag (a .sqi) (b .sqi) (s6 .0) i) (same-flag (a .wel) (b .wel) (s6 .1) i) (same-flag (a .ioc) (b .ioc) (s5 .1) i) (same-flag (a .wpen) (b .wpen) (s4 .1) i) (same-flag (a .wpld) (b .wpld) (s3 .1) i) (same-flag (a .sec) (b .sec) (s2 .1) i) (same-flag (a .enable) (b .enable) (s1 .1) i)
 
+same-burst : (a b : Burst) → eqb (burstByte a) (burstByte b) ≡ true → a ≡ b
+same-burst a b e = sym (burst-back a .1) ∙ ap burstOf (eqb-true (burstByte a) (burstByte b) e) ∙ burst-back b .1
+
 pub same-rest : (a b : Rest) → sameRest a b ≡ true → a ≡ b
 unfolding sameRest
 same-rest a b e =
-    let s1 = and-split (eqb (a .locks .protection) (b .locks .protection) && eqb (a .locks .permanent) (b .locks .permanent) && sameWork (a .works .running) (b .works .running) && sameWork (a .works .suspended) (b .works .suspended)) (sameFlags (a .flags) (b .flags)) e in
+    let s0 = and-split (eqb (a .locks .protection) (b .locks .protection) && eqb (a .locks .permanent) (b .locks .permanent) && sameWork (a .works .running) (b .works .running) && sameWork (a .works .suspended) (b .works .suspended) && sameFlags (a .flags) (b .flags)) (eqb (burstByte (a .burst)) (burstByte (b .burst))) e in
+    let s1 = and-split (eqb (a .locks .protection) (b .locks .protection) && eqb (a .locks .permanent) (b .locks .permanent) && sameWork (a .works .running) (b .works .running) && sameWork (a .works .suspended) (b .works .suspended)) (sameFlags (a .flags) (b .flags)) (s0 .0) in
     let s2 = and-split (eqb (a .locks .protection) (b .locks .protection) && eqb (a .locks .permanent) (b .locks .permanent) && sameWork (a .works .running) (b .works .running)) (sameWork (a .works .suspended) (b .works .suspended)) (s1 .0) in
     let s3 = and-split (eqb (a .locks .protection) (b .locks .protection) && eqb (a .locks .permanent) (b .locks .permanent)) (sameWork (a .works .running) (b .works .running)) (s2 .0) in
     let s4 = and-split (eqb (a .locks .protection) (b .locks .protection)) (eqb (a .locks .permanent) (b .locks .permanent)) (s3 .0) in
@@ -47,3 +54,4 @@ same-rest a b e =
     (locksOf (eqb-true (a .locks .protection) (b .locks .protection) (s4 .0) i) (eqb-true (a .locks .permanent) (b .locks .permanent) (s4 .1) i))
     (worksOf (same-work (a .works .running) (b .works .running) (s3 .1) i) (same-work (a .works .suspended) (b .works .suspended) (s2 .1) i))
     (same-flags (a .flags) (b .flags) (s1 .1) i)
+    (same-burst (a .burst) (b .burst) (s0 .1) i)

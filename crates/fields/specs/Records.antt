@@ -1,4 +1,4 @@
--- The record that a line's slots say, from slot 11 on: `record` sets it, `is` asks for it.
+-- The record that a line's slots say, slot 9 and from slot 11 on: `record` sets it, `is` asks for it.
 use Prim.Native.Nat.{ℕ}
 use mathlib.Core.Bool.{Bool, not, _&&_}
 use mathlib.Core.List.{List}
@@ -9,6 +9,7 @@ use Rattle.rules.specs.declared.Flags.{Flags}
 use Rattle.rules.specs.declared.Rest.{Rest}
 use Rattle.rules.specs.declared.Work.{Work}
 use Rattle.rules.specs.Words.{num}
+use Rattle.rules.specs.Bursts.{burstByte, burstOf}
 use Rattle.rules.specs.Fields.{locksOf, worksOf, flagsOf, restOf, chipOf}
 use Rattle.rules.specs.Programs.{blank}
 use Rattle.numbering.specs.Numbering.{kindOf, numberOf, workOf}
@@ -26,7 +27,8 @@ recordOf s =
     (restOf
     (locksOf (slot s 11) (slot s 12))
     (worksOf (workOf (slot s 13) (slot s 14)) (workOf (slot s 15) (slot s 16)))
-    (flagsOf (said s 17) (said s 18) (said s 19) (said s 20) (said s 21) (said s 22) (said s 23)))
+    (flagsOf (said s 17) (said s 18) (said s 19) (said s 20) (said s 21) (said s 22) (said s 23))
+    (burstOf (slot s 9)))
 
 -- ---- two records are the same but for the buffer
 
@@ -50,6 +52,7 @@ sameRest a b =
     && sameWork (a .works .running) (b .works .running)
     && sameWork (a .works .suspended) (b .works .suspended)
     && sameFlags (a .flags) (b .flags)
+    && eqb (burstByte (a .burst)) (burstByte (b .burst))
 
 unfoldable pub sameRecord : Chip → List ℕ → Bool
 sameRecord c s = sameRest (c .rest) (recordOf s .rest)

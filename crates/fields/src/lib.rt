@@ -1,5 +1,7 @@
 // The record that a line's slots say. specs/Records.antt.
 use numbering::bit_of;
+use numbering::burst_byte;
+use numbering::burst_of;
 use numbering::kind_of;
 use numbering::number_of;
 use numbering::work_of;
@@ -39,6 +41,7 @@ pub fn record_of(slots: [u64; 24]) -> Chip
         locks,
         works,
         flags,
+        burst: burst_of(slots[9]),
     };
     Chip {
         buffer: [255; 256],
@@ -88,7 +91,10 @@ pub fn same_rest(a: Rest, b: Rest) -> bool
     let running = same_work(run, other_run);
     let suspended = same_work(aside, other_aside);
     let flags = same_flags(a.flags, b.flags);
-    locks & running & suspended & flags
+    let set = a.burst;
+    let other_set = b.burst;
+    let bursts = burst_byte(set) == burst_byte(other_set);
+    locks & running & suspended & flags & bursts
 }
 
 // Every field but the buffer is as the slots say.

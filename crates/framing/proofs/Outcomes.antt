@@ -100,6 +100,7 @@ module _ (r : Rest) (page array security : List ℕ) where
         some Refusal.Closed = omega arith
         some Refusal.WriteLocked = omega arith
         some Refusal.NothingRuns = omega arith
+        some Refusal.NoSuchBurst = omega arith
 
         above : 0 < refusalNumber why → (first (commandTests r sent) ≡ 0) ⊎ (2 < first (commandTests r sent)) → 3 ≤ refusalNumber why
         above pos alt = ⊎-elim (λ z. absurd (let q = e in omega arith)) (λ l. let q = e in omega arith) alt

@@ -188,3 +188,7 @@ afterAnswerAnyStar = 45
 -- after these, * and how often
 abbrev pub afterAnswerAnyTimes : ℕ
 afterAnswerAnyTimes = 46
+
+-- after burst in the fields
+abbrev pub afterBurst : ℕ
+afterBurst = 47

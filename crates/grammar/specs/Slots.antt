@@ -41,6 +41,10 @@ size = 8
 abbrev pub filling : ℕ
 filling = 9
 
+-- the byte that sets the burst of the fields: the same slot, since no line has both
+abbrev pub burst : ℕ
+burst = filling
+
 -- 1 after id: of the Security ID
 abbrev pub ofId : ℕ
 ofId = 10

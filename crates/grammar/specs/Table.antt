@@ -11,8 +11,8 @@ use Rattle.rules.specs.Texts.{ascii}
 use Rattle.spelling.specs.declared.Word.{Word}
 use Rattle.grammar.specs.declared.Entry.{Entry}
 use Rattle.spelling.specs.Words.{key, keyWith}
-use Rattle.grammar.specs.Places.{lineStart, afterByte, afterByteStar, afterBytes, afterReply, afterReplyCount, afterSlash, afterMarkCount, afterEqual, afterExpected, afterTilde, afterExpectedStar, afterExpectedTimes, afterRefuse, lineDone, afterEvent, afterCut, afterQuestion, afterAsked, afterAnswer, afterAnswerTilde, afterAnswerStar, afterAnswerTimes, afterDump, afterDumpId, afterDumpPlace, afterFill, afterFillId, afterFillPlace, afterFillCount, afterLend, afterLendArray, inFields, afterProtect, afterPerm, afterRun, afterAside, afterRunKind, afterAsideKind, afterNoReply, afterNoReplySlash, afterAny, afterAnyStar, afterAnyTimes, afterAnswerAny, afterAnswerAnyStar, afterAnswerAnyTimes}
-use Rattle.grammar.specs.Slots.{verb, wanted, marksGiven, marks, expecting, judged, refused, from, size, filling, ofId, protection, permanent, runKind, runNumber, asideKind, asideNumber, sqi, wel, ioc, wpen, wpld, sec, enable}
+use Rattle.grammar.specs.Places.{lineStart, afterByte, afterByteStar, afterBytes, afterReply, afterReplyCount, afterSlash, afterMarkCount, afterEqual, afterExpected, afterTilde, afterExpectedStar, afterExpectedTimes, afterRefuse, lineDone, afterEvent, afterCut, afterQuestion, afterAsked, afterAnswer, afterAnswerTilde, afterAnswerStar, afterAnswerTimes, afterDump, afterDumpId, afterDumpPlace, afterFill, afterFillId, afterFillPlace, afterFillCount, afterLend, afterLendArray, inFields, afterProtect, afterPerm, afterRun, afterAside, afterRunKind, afterAsideKind, afterNoReply, afterNoReplySlash, afterAny, afterAnyStar, afterAnyTimes, afterAnswerAny, afterAnswerAnyStar, afterAnswerAnyTimes, afterBurst}
+use Rattle.grammar.specs.Slots.{verb, wanted, marksGiven, marks, expecting, judged, refused, from, size, filling, burst, ofId, protection, permanent, runKind, runNumber, asideKind, asideNumber, sqi, wel, ioc, wpen, wpld, sec, enable}
 use Rattle.grammar.specs.Verbs as verbs
 
 -- ---- the words
@@ -22,7 +22,7 @@ wordList =
     ">" ∷ "=" ∷ "!" ∷ "/" ∷ "*" ∷ "~" ∷ "??" ∷ "kept" ∷ "done" ∷ "cut" ∷ "status" ∷ "work" ∷ "locks" ∷ "dump"
     ∷ "id" ∷ "new" ∷ "fill" ∷ "buffer" ∷ "pattern" ∷ "lend" ∷ "record" ∷ "is" ∷ "full" ∷ "short" ∷ "strict" ∷
     "protect" ∷ "perm" ∷ "run" ∷ "aside" ∷ "sqi" ∷ "wel" ∷ "ioc" ∷ "wpen" ∷ "wpld" ∷ "sec" ∷ "enable" ∷
-    "sector" ∷ "block" ∷ "array" ∷ "page" ∷ "lock" ∷ "config" ∷ "bits" ∷ []
+    "sector" ∷ "block" ∷ "array" ∷ "page" ∷ "lock" ∷ "config" ∷ "bits" ∷ "burst" ∷ "8" ∷ "16" ∷ "32" ∷ "64" ∷ []
 
 unfoldable pub keys : List ℕ
 keys = map (λ (s : String). key (ascii s)) wordList
@@ -46,7 +46,7 @@ number = 1
 abbrev pub times : ℕ
 times = 2
 
--- a decimal number at most 12
+-- a decimal number at most 13
 abbrev pub refusal : ℕ
 refusal = 3
 
@@ -72,7 +72,7 @@ hasClass c w n =
     pick (eqb c byte) (w .hexadecimal && eqb (w .length) 2)
     (pick (eqb c number) (w .decimal)
     (pick (eqb c times) (w .decimal && ltb 0 (w .number))
-    (pick (eqb c refusal) (w .decimal && leb (w .number) 12)
+    (pick (eqb c refusal) (w .decimal && leb (w .number) 13)
     (pick (eqb c address) (w .hexadecimal && leb (w .length) 6)
     (pick (eqb c hex) (w .hexadecimal && leb (w .length) 16)
     (eqb c n))))))
@@ -253,8 +253,13 @@ table =
     ∷ row inFields (word "wpld") inFields no (says wpld 1)
     ∷ row inFields (word "sec") inFields no (says sec 1)
     ∷ row inFields (word "enable") inFields no (says enable 1)
+    ∷ row inFields (word "burst") afterBurst no nothing
     ∷ row afterProtect hex inFields no (keepsHex protection)
     ∷ row afterPerm hex inFields no (keepsHex permanent)
+    ∷ row afterBurst (word "8") inFields no (says burst 0)
+    ∷ row afterBurst (word "16") inFields no (says burst 1)
+    ∷ row afterBurst (word "32") inFields no (says burst 2)
+    ∷ row afterBurst (word "64") inFields no (says burst 3)
     -- what runs
     ∷ row afterRun (word "sector") afterRunKind no (says runKind 1)
     ∷ row afterRun (word "block") afterRunKind no (says runKind 2)

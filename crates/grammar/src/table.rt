@@ -54,7 +54,7 @@ fn called(w: Word) -> u8
         position(
             b"> = ! / * ~ ?? kept done cut status work locks dump id new fill buffer pattern \
             lend record is full short strict protect perm run aside sqi wel ioc wpen wpld \
-            sec enable sector block array page lock config bits ",
+            sec enable sector block array page lock config bits burst 8 16 32 64 ",
             w.key,
         )
     } else {
@@ -71,7 +71,7 @@ fn has_class(class: u8, w: Word, name: u8) -> bool
         0 => w.hexadecimal & (w.length == 2),
         1 => w.decimal,
         2 => w.decimal & (0 < w.number),
-        3 => w.decimal & (w.number <= 12),
+        3 => w.decimal & (w.number <= 13),
         4 => w.hexadecimal & (w.length <= 6),
         5 => w.hexadecimal & (w.length <= 16),
         _ => class == name,
@@ -138,8 +138,8 @@ pub fn follows(place: u8, w: Word) -> Entry
         CED000CDE000F0C300FFC400FED000D0C500E2F600\
         \\0C300\\F\\400\\ED000\\D]000]2^600^0C300^F\\400^ED000\
         0O>0070PJ00?0QK00@0R>00D0SN00AJNK0:4J4L072K4L072L1M081M0>092N1O071O1>081\
-        0TP00B0UP00CPYQ000PZR000P[S000P\\T000P]P0A4P^P0B4P_P0C4P`P0D4PaP0E4PbP0F4PcP0G4Q5P0;2\
-        R5P0<2\
+        0TP00B0UP00CPYQ000PZR000P[S000P\\T000P]P0A4P^P0B4P_P0C4P`P0D4PaP0E4PbP0F4PcP0G4Pk_000Q5P0;2\
+        R5P0<2_lP093_mP094_nP095_oP096\
         SdU0=4SeU0=5SfP0=6SgU0=7SNU0=8ShP0=9SiU0=:SjU0=;U5P0>2\
         TdV0?4TeV0?5TfP0?6TgV0?7TNV0?8ThP0?9TiV0?:TjV0?;V5P0@2\
         0V>00<0W>00=0X>00>",

@@ -89,7 +89,7 @@ suspendedRow aside = places (told aside) (work (told aside) (below 157 0 0 0))
 
 -- "what is allowed there": a form for each place of the grammar
 unfoldable pub allowedRow : ℕ → Row
-allowedRow place = form (222 + min place 46) 0 0 0 (below 177 0 0 0)
+allowedRow place = form (222 + min place 47) 0 0 0 (below 177 0 0 0)
 
 unfoldable pub secondRow : ℕ → ℕ → ℕ → ℕ → Work → ℕ → List ℕ → List ℕ → List ℕ → Row
 secondRow verb line wanted number aside place sent reply marks =

@@ -1,10 +1,12 @@
--- The rows of a status. docs/PLAYER.md: "the status and the configuration with their bits by name, the protocol, the reset enable". A row that is not told is
--- blank.
+-- The rows of a status. docs/PLAYER.md: "the status and the configuration with their bits by name, the protocol, the reset enable, the burst". A row that is not
+-- told is blank.
 use Prim.Native.Nat.{ℕ, _+_, min}
 use mathlib.Core.Bool.{Bool, _&&_}
 use lib.Dec.{eqb}
+use Rattle.rules.specs.declared.Burst.{Burst}
 use Rattle.rules.specs.declared.Rest.{Rest}
 use Rattle.rules.specs.Words.{bit, pick}
+use Rattle.rules.specs.Bursts.{burstLength}
 use Rattle.rules.specs.Registers.{status, configuration}
 use Rattle.grammar.specs.Verbs as verbs
 use Rattle.writing.specs.declared.Row.{Row}
@@ -30,8 +32,12 @@ bitRow verb rest i = pick (eqb verb verbs.status && bit (bitOf i) (configuration
 unfoldable pub protocolName : Bool → Row
 protocolName sqi = pick sqi (below 152 0 0 0) (below 151 0 0 0)
 
-unfoldable pub protocolRow : Bool → Bool → Row
-protocolRow sqi enable = pick enable (form 153 0 0 0 (protocolName sqi)) (form 154 0 0 0 (protocolName sqi))
+unfoldable pub enableRow : Bool → Bool → Row
+enableRow sqi enable = pick enable (form 153 0 0 0 (protocolName sqi)) (form 154 0 0 0 (protocolName sqi))
 
-unfoldable pub protocolTold : ℕ → Bool → Bool → Row
-protocolTold verb sqi enable = pick (eqb verb verbs.status) (protocolRow sqi enable) blank
+-- and how many bytes a burst has
+unfoldable pub protocolRow : Bool → Bool → Burst → Row
+protocolRow sqi enable b = form 39 (burstLength b) 0 0 (enableRow sqi enable)
+
+unfoldable pub protocolTold : ℕ → Bool → Bool → Burst → Row
+protocolTold verb sqi enable b = pick (eqb verb verbs.status) (protocolRow sqi enable b) blank

@@ -1,10 +1,11 @@
 // The rows of a status. specs/Statuses.antt.
 use rows::Row;
+use rules::Burst;
 use rules::Rest;
 use rules::plain::smaller;
 ghost use mathlib.Core.Path.{_≡_};
 ghost use Prim.Native.Nat.{_≤_};
-ghost use Rattle.heads.specs.Statuses.{statusBit, configurationRow, bitOf, bitRow, protocolName, protocolRow, protocolTold};
+ghost use Rattle.heads.specs.Statuses.{statusBit, configurationRow, bitOf, bitRow, protocolName, enableRow, protocolRow, protocolTold};
 
 // A bit of the status by its name, where it is set.
 pub fn status_bit(rest: Rest, i: usize) -> Row
@@ -58,8 +59,8 @@ fn protocol_name(sqi: bool) -> Row
     rows::below(151, 0, 0, 0)
 }
 
-fn protocol_row(sqi: bool, enable: bool) -> Row
-    ensures { λ q. ⌜ q ≡ protocolRow sqi enable ⌝ }
+fn enable_row(sqi: bool, enable: bool) -> Row
+    ensures { λ q. ⌜ q ≡ enableRow sqi enable ⌝ }
 {
     let r = protocol_name(sqi);
     if enable {
@@ -68,11 +69,19 @@ fn protocol_row(sqi: bool, enable: bool) -> Row
     rows::form(r, 154, 0, 0, 0)
 }
 
-pub fn protocol(verb: u8, sqi: bool, enable: bool) -> Row
-    ensures { λ q. ⌜ q ≡ protocolTold verb sqi enable ⌝ }
+fn protocol_row(sqi: bool, enable: bool, b: Burst) -> Row
+    ensures { λ q. ⌜ q ≡ protocolRow sqi enable b ⌝ }
+{
+    let r = enable_row(sqi, enable);
+    let n = numbering::burst_length(b);
+    rows::form(r, 39, n as u64, 0, 0)
+}
+
+pub fn protocol(verb: u8, sqi: bool, enable: bool, b: Burst) -> Row
+    ensures { λ q. ⌜ q ≡ protocolTold verb sqi enable b ⌝ }
 {
     if verb == 5 {
-        return protocol_row(sqi, enable);
+        return protocol_row(sqi, enable, b);
     }
     rows::empty()
 }

@@ -12,7 +12,7 @@ use Rattle.rules.specs.Words.{oneOf}
 use Rattle.rules.specs.Blocks.{writeLocked}
 use Rattle.rules.specs.Frames.{listed, lengthRight, address, securityAddress}
 use Rattle.rules.specs.Programs.{reaches, reachesFirst}
-use Rattle.rules.specs.Numbers.{notListed, wrongLength, whileBusy, noEnable, noIoc, suspension, closed, lockedTarget, first, commandTests}
+use Rattle.rules.specs.Numbers.{notListed, wrongLength, whileBusy, noEnable, noIoc, noSuchBurst, suspension, closed, lockedTarget, first, commandTests}
 use Rattle.rules.proofs.Bools.{or-none}
 use Rattle.named.proofs.Lists.{not-among}
 use Rattle.judging.specs.Judging.{Judgeable, changeTests}
@@ -101,11 +101,16 @@ module _ {r : Rest} {o : ℕ} {f : Form} {sent : List ℕ} (j : Judgeable r o f 
           is-7 t = rw (sym (j .first-byte), f₃, f₄, f₅, f₆, t)
 
           module _ (f₇ : noIoc r o ≡ false) where
-            pub is-8 : suspension r o sent ≡ true → 8 ≡ first (commandTests r sent)
+            pub is-13 : noSuchBurst o sent ≡ true → 13 ≡ first (commandTests r sent)
             unfolding commandTests
-            is-8 t = rw (sym (j .first-byte), f₃, f₄, f₅, f₆, f₇, t)
+            is-13 t = rw (sym (j .first-byte), f₃, f₄, f₅, f₆, f₇, t)
 
-            module _ (f₈ : suspension r o sent ≡ false) where
-              pub is-later : {n : ℕ} → n ≡ first (changeTests r o sent) → n ≡ first (commandTests r sent)
+            module _ (f₁₃ : noSuchBurst o sent ≡ false) where
+              pub is-8 : suspension r o sent ≡ true → 8 ≡ first (commandTests r sent)
               unfolding commandTests
-              is-later e = rw (sym (j .first-byte), f₃, f₄, f₅, f₆, f₇, f₈) e
+              is-8 t = rw (sym (j .first-byte), f₃, f₄, f₅, f₆, f₇, f₁₃, t)
+
+              module _ (f₈ : suspension r o sent ≡ false) where
+                pub is-later : {n : ℕ} → n ≡ first (changeTests r o sent) → n ≡ first (commandTests r sent)
+                unfolding commandTests
+                is-later e = rw (sym (j .first-byte), f₃, f₄, f₅, f₆, f₇, f₁₃, f₈) e

@@ -1,4 +1,4 @@
-// The refusals 3 to 11 of a frame, each by its opcode.
+// The refusals 3 to 11 and 13 of a frame, each by its opcode.
 use rules::Answer;
 use rules::Form;
 use rules::Refusal;
@@ -9,10 +9,10 @@ ghost use Prim.Native.Nat.{_≤_};
 ghost use lib.ListN.{length};
 ghost use Rattle.rules.specs.Frames.{leastLength, listed, lengthRight};
 ghost use Rattle.rules.specs.Programs.{reachesFirst};
-ghost use Rattle.rules.specs.Numbers.{answerNumber, whileBusy, noEnable, noIoc, closed, lockedTarget, first, commandTests};
+ghost use Rattle.rules.specs.Numbers.{answerNumber, whileBusy, noEnable, noIoc, noSuchBurst, closed, lockedTarget, first, commandTests};
 ghost use Rattle.judging.specs.Judging.{Judgeable, changeTests};
 
-// ---- 3 to 7; 8 is in crate `beside`
+// ---- 3 to 7, and 13; 8 is in crate `beside`
 
 // The length of a form in the protocol in force.
 fn least_length(r: Rest, f: Form) -> usize
@@ -52,6 +52,13 @@ fn no_ioc(r: Rest, op: u8) -> bool
     ensures { λ b. ⌜ b ≡ noIoc r op ⌝ }
 {
     named::needs_ioc(op) & !r.flags.ioc
+}
+
+// A C0 byte above 03.
+fn no_such_burst(op: u8, sent: &[u8]) -> bool
+    ensures { λ b. ⌜ b ≡ noSuchBurst op (now (sent .entry)) ⌝ }
+{
+    named::is(op, 0xc0) & (3 < opcodes::sent_byte(sent, 1))
 }
 
 // ---- 9 to 11
@@ -133,6 +140,9 @@ pub fn judge(r: Rest, op: u8, form: Form, sent: &[u8]) -> Answer
     }
     if no_ioc(r, op) {
         return Answer::Refused(Refusal::NoIoc);
+    }
+    if no_such_burst(op, sent) {
+        return Answer::Refused(Refusal::NoSuchBurst);
     }
     if beside::conflicts(r, op, sent) {
         return Answer::Refused(Refusal::Suspension);

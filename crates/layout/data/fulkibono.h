@@ -30,8 +30,8 @@
 extern "C" {
 #endif
 
-/* Rises with what this header declares. 1 had records of 297 bytes. */
-#define FULKIBONO_VERSION 2
+/* Rises with what this header declares. 1 had records of 297 bytes; 2 had no burst reads, and its records are the same chips here. */
+#define FULKIBONO_VERSION 3
 
 /* ---- sizes, in bytes */
 
@@ -41,7 +41,7 @@ extern "C" {
 #define FULKIBONO_FRAME_MOST 65536   /* the longest frame, and the longest reply */
 #define FULKIBONO_MEANING_MOST 64    /* room for every text of fulkibono_meaning */
 
-/* ---- the numbers that each call gives back; if several apply, the lowest is given */
+/* ---- the numbers that each call gives back; if several apply, the lowest is given (13, tested after 7, is never one of several with 8 to 11) */
 
 enum fulkibono_number {
     FULKIBONO_DONE = 0,          /* done */
@@ -51,18 +51,19 @@ enum fulkibono_number {
     FULKIBONO_WRONG_LENGTH = 4,  /* length not as listed */
     FULKIBONO_BUSY = 5,          /* BUSY, and opcode not 05, 66, 99, B0 */
     FULKIBONO_NO_ENABLE = 6,     /* 99 with no enable */
-    FULKIBONO_NO_IOC = 7,        /* 6B or 32 with IOC 0 */
+    FULKIBONO_NO_IOC = 7,        /* 6B, 32 or EC with IOC 0 */
     FULKIBONO_SUSPENSION = 8,    /* the suspension rule */
     FULKIBONO_NO_WEL = 9,        /* WEL needed and 0 */
     FULKIBONO_CLOSED = 10,       /* 42 or 98 with WPLD 1; A5 or 85 with SEC 1; A5 that sends a byte to places 0 to 7 */
     FULKIBONO_WRITE_LOCKED = 11, /* 20, D8, 02, 32 in a write-locked block; C7 with a write lock set */
-    FULKIBONO_NOTHING_RUNS = 12  /* completion with nothing running */
+    FULKIBONO_NOTHING_RUNS = 12, /* completion with nothing running */
+    FULKIBONO_NO_SUCH_BURST = 13 /* a C0 byte above 03 */
 };
 
 /* What each refusal leaves:
- *     1, 12      nothing at all changes
- *     2          the reply is filled with FF and the marks with 0; nothing else changes
- *     3 to 11    the same, and the reset enable is used up: the record's FULKIBONO_FLAG_RESET_ENABLE is 0
+ *     1, 12        nothing at all changes
+ *     2            the reply is filled with FF and the marks with 0; nothing else changes
+ *     3 to 11, 13  the same, and the reset enable is used up: the record's FULKIBONO_FLAG_RESET_ENABLE is 0
  * A byte that does not change may still be stored again, with the value it has. So all lent memory but `sent` must be writable, and no
  * other thread may look at it during a call, also where the call is refused.
  */
@@ -77,7 +78,8 @@ enum fulkibono_number {
 #define FULKIBONO_PLACE_RUNNING_KIND 288     /* the kind of what runs, 1 byte */
 #define FULKIBONO_PLACE_SUSPENDED_KIND 289   /* the kind of what is suspended, 1 byte */
 #define FULKIBONO_PLACE_FLAGS 290            /* the flags, 1 byte: the bits below, bit 7 is 0 */
-#define FULKIBONO_PLACE_RESERVED 291         /* 0, to the end */
+#define FULKIBONO_PLACE_BURST 291            /* the byte that sets the burst, 0 to 3: 8, 16, 32 or 64 bytes */
+#define FULKIBONO_PLACE_RESERVED 292         /* 0, to the end */
 
 #define FULKIBONO_FLAG_SQI 1                 /* the protocol is SQI */
 #define FULKIBONO_FLAG_WEL 2                 /* write enable */
@@ -102,7 +104,7 @@ enum fulkibono_number {
  * every later one: what is new then comes into the reserved bytes, where 0 means what every chip is today.
  *
  * Bytes that are no record's code get refusal 1: another length, a kind above 8, a number other than 0 with kinds 0, 3 and 6 or above 3
- * with kind 7, flags with bit 7, a reserved byte other than 0. So do codes of records that are not well-formed.
+ * with kind 7, flags with bit 7, a burst's byte above 3, a reserved byte other than 0. So do codes of records that are not well-formed.
  *
  * Protection blocks are numbered in the order of document 01's table, from 0:
  *     number      first place               size     write lock               read lock
@@ -124,7 +126,7 @@ uint8_t fulkibono_new(uint8_t *record, size_t record_len);
 
 /* A frame: the bytes sent while CE# is low. The reply is written to `reply`, and to `marks` a 1 for each byte that is known and a 0
  * for each that is not; both have the same length. A frame without a reply fills the reply with FF and the marks with 0.
- * Gives 0 to 11. No frame changes the array or the Security ID. */
+ * Gives 0 to 11, or 13. No frame changes the array or the Security ID. */
 uint8_t fulkibono_frame(uint8_t *record, size_t record_len, uint8_t *array, size_t array_len, uint8_t *security, size_t security_len,
                         const uint8_t *sent, size_t sent_len, uint8_t *reply, size_t reply_len, uint8_t *marks, size_t marks_len);
 
@@ -140,7 +142,7 @@ uint8_t fulkibono_power_cut(uint8_t *record, size_t record_len, uint8_t *array, 
                             uint64_t k);
 
 /* What a number means, in ASCII, with no zero at the end: as many bytes as fit are written, and the text's whole length is given back.
- * A number above 12 has no text: 0, and nothing is written. */
+ * A number above 13 has no text: 0, and nothing is written. */
 size_t fulkibono_meaning(uint8_t number, uint8_t *text, size_t text_len);
 
 /* ---- the same with the sizes filled in
@@ -244,6 +246,12 @@ FULKIBONO_INLINE uint64_t fulkibono_permanent(const fulkibono_record *chip)
 FULKIBONO_INLINE int fulkibono_flag(const fulkibono_record *chip, uint8_t flag)
 {
     return (chip->bytes[FULKIBONO_PLACE_FLAGS] & flag) != 0;
+}
+
+/* How many bytes a burst read goes round in: 8, 16, 32 or 64. */
+FULKIBONO_INLINE unsigned fulkibono_burst(const fulkibono_record *chip)
+{
+    return 8u << (chip->bytes[FULKIBONO_PLACE_BURST] & 3);
 }
 
 /* The places of part i, of n that have one size. */

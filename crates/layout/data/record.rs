@@ -10,7 +10,8 @@ pub const PLACE_SUSPENDED_NUMBER: usize = 280;
 pub const PLACE_RUNNING_KIND: usize = 288;
 pub const PLACE_SUSPENDED_KIND: usize = 289;
 pub const PLACE_FLAGS: usize = 290;
-pub const PLACE_RESERVED: usize = 291;
+pub const PLACE_BURST: usize = 291;
+pub const PLACE_RESERVED: usize = 292;
 
 pub const FLAG_SQI: u8 = 1;
 pub const FLAG_WEL: u8 = 2;

@@ -24,6 +24,7 @@ numbers =
     ∷ placeOf "running kind"
     ∷ placeOf "suspended kind"
     ∷ placeOf "flags"
+    ∷ placeOf "burst"
     ∷ placeOf "reserved"
     ∷ kindOf Nothing
     ∷ kindOf (EraseSector 0)

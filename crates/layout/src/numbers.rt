@@ -4,13 +4,13 @@ ghost use mathlib.Core.Path.{_≡_};
 ghost use lib.ListN.{getD};
 ghost use Rattle.layout.specs.Numbers.{numbers};
 
-const PLACES: usize = 9;
+const PLACES: usize = 10;
 
 const KINDS: usize = 9;
 
 const FLAGS: usize = 7;
 
-pub const COUNT: usize = 26;
+pub const COUNT: usize = 27;
 
 const NUMBERS: [usize; COUNT] = [
     320,
@@ -23,6 +23,7 @@ const NUMBERS: [usize; COUNT] = [
     289,
     290,
     291,
+    292,
     0,
     1,
     2,
@@ -67,41 +68,42 @@ fn place_named(r: Row, i: usize) -> Row {
         6 => writing::text(r, b"PLACE_RUNNING_KIND"),
         7 => writing::text(r, b"PLACE_SUSPENDED_KIND"),
         8 => writing::text(r, b"PLACE_FLAGS"),
+        9 => writing::text(r, b"PLACE_BURST"),
         _ => writing::text(r, b"PLACE_RESERVED"),
     }
 }
 
 fn kind_named(r: Row, i: usize) -> Row {
     match i {
-        10 => writing::text(r, b"KIND_NOTHING"),
-        11 => writing::text(r, b"KIND_SECTOR_ERASE"),
-        12 => writing::text(r, b"KIND_BLOCK_ERASE"),
-        13 => writing::text(r, b"KIND_ARRAY_ERASE"),
-        14 => writing::text(r, b"KIND_PAGE_PROGRAM"),
-        15 => writing::text(r, b"KIND_SECURITY_PROGRAM"),
-        16 => writing::text(r, b"KIND_SECURITY_LOCK"),
-        17 => writing::text(r, b"KIND_CONFIGURATION"),
+        11 => writing::text(r, b"KIND_NOTHING"),
+        12 => writing::text(r, b"KIND_SECTOR_ERASE"),
+        13 => writing::text(r, b"KIND_BLOCK_ERASE"),
+        14 => writing::text(r, b"KIND_ARRAY_ERASE"),
+        15 => writing::text(r, b"KIND_PAGE_PROGRAM"),
+        16 => writing::text(r, b"KIND_SECURITY_PROGRAM"),
+        17 => writing::text(r, b"KIND_SECURITY_LOCK"),
+        18 => writing::text(r, b"KIND_CONFIGURATION"),
         _ => writing::text(r, b"KIND_PERMANENT_BITS"),
     }
 }
 
 fn flag_named(r: Row, i: usize) -> Row {
     match i {
-        19 => writing::text(r, b"FLAG_SQI"),
-        20 => writing::text(r, b"FLAG_WEL"),
-        21 => writing::text(r, b"FLAG_IOC"),
-        22 => writing::text(r, b"FLAG_WPEN"),
-        23 => writing::text(r, b"FLAG_WPLD"),
-        24 => writing::text(r, b"FLAG_SEC"),
+        20 => writing::text(r, b"FLAG_SQI"),
+        21 => writing::text(r, b"FLAG_WEL"),
+        22 => writing::text(r, b"FLAG_IOC"),
+        23 => writing::text(r, b"FLAG_WPEN"),
+        24 => writing::text(r, b"FLAG_WPLD"),
+        25 => writing::text(r, b"FLAG_SEC"),
         _ => writing::text(r, b"FLAG_RESET_ENABLE"),
     }
 }
 
 pub fn named(r: Row, i: usize) -> Row {
-    if i < 10 {
+    if i < 11 {
         return place_named(r, i);
     }
-    if i < 19 {
+    if i < 20 {
         return kind_named(r, i);
     }
     flag_named(r, i)
@@ -109,7 +111,7 @@ pub fn named(r: Row, i: usize) -> Row {
 
 // In Rust a place is a usize, a kind or a flag one byte.
 pub fn typed(r: Row, i: usize) -> Row {
-    if i < 10 {
+    if i < 11 {
         return writing::text(r, b": usize = ");
     }
     writing::text(r, b": u8 = ")

@@ -1,4 +1,4 @@
--- The meaning of each number, in ASCII: a short text from 01, "Numbers the bench gives back".
+-- The meaning of each number, in ASCII: a short text from 01, "Numbers the bench gives back", and from 02.
 use Prim.Native.Nat.{ℕ}
 use mathlib.Core.Path.{_≡_}
 use mathlib.Core.List.{List, [], _++_}
@@ -17,13 +17,14 @@ meaning n =
     (pick (eqb n 4) (ascii "length not as listed")
     (pick (eqb n 5) (ascii "BUSY, and opcode not 05, 66, 99, B0")
     (pick (eqb n 6) (ascii "99 with no enable")
-    (pick (eqb n 7) (ascii "6B or 32 with IOC 0")
+    (pick (eqb n 7) (ascii "6B, 32 or EC with IOC 0")
     (pick (eqb n 8) (ascii "suspension rule")
     (pick (eqb n 9) (ascii "WEL needed and 0")
     (pick (eqb n 10) (ascii "42 or 98 with WPLD 1; A5 or 85 with SEC 1; A5 to places 0 to 7")
     (pick (eqb n 11) (ascii "20, D8, 02, 32 in a write-locked block; C7 with a write lock set")
     (pick (eqb n 12) (ascii "completion with nothing running")
-    []))))))))))))
+    (pick (eqb n 13) (ascii "a C0 byte above 03")
+    [])))))))))))))
 
 -- as many bytes of the text as fit, over the first of those lent; the others stay
 unfoldable pub over : List ℕ → List ℕ → List ℕ

@@ -41,11 +41,11 @@ fn text_below_8(number: u8, text: &mut [u8]) -> usize
         4 => put_text(text, b"length not as listed"),
         5 => put_text(text, b"BUSY, and opcode not 05, 66, 99, B0"),
         6 => put_text(text, b"99 with no enable"),
-        _ => put_text(text, b"6B or 32 with IOC 0"),
+        _ => put_text(text, b"6B, 32 or EC with IOC 0"),
     }
 }
 
-// The text of a number; a number above 12 has none.
+// The text of a number; a number above 13 has none.
 pub fn meaning(number: u8, text: &mut [u8]) -> usize
     ensures { λ r. ⌜ MeaningBytes number (now (text .entry)) r (now (text .exit)) ⌝ }
 {
@@ -67,6 +67,7 @@ pub fn meaning(number: u8, text: &mut [u8]) -> usize
             b"20, D8, 02, 32 in a write-locked block; C7 with a write lock set",
         ),
         12 => put_text(text, b"completion with nothing running"),
+        13 => put_text(text, b"a C0 byte above 03"),
         _ => 0,
     }
 }

@@ -9,9 +9,10 @@ use lib.ListN.{getD}
 use lib.Seq.{ext-getD}
 use Rattle.rules.proofs.Promises.{one, lent-one}
 use Rattle.rules.proofs.Outcomes.{OneResult, OneList}
-use Rattle.memory.specs.Patched.{Patched}
+use Rattle.memory.specs.Patched.{Patched, Repeated}
 use Rattle.memory.proofs.set_all.Reads as set-all
 use Rattle.memory.proofs.copy.Reads as copy
+use Rattle.memory.proofs.repeat.Reads as repeat
 use Rattle.memory.proofs.clear_bits.Reads as clear-bits
 use Rattle.memory.proofs.blank_page.Reads as blank-page
 use Rattle.memory.proofs.fill_page.Reads as fill-page
@@ -35,6 +36,9 @@ set-all-one κ a x y r r′ p q = patched-one p q
 
 pub copy-one : OneList copy.Post (λ a. a .0 .now)
 copy-one κ a x y r r′ p q = patched-one p q
+
+pub repeat-one : OneList repeat.Post (λ a. a .0 .now)
+repeat-one κ a x y r r′ p q = ext-getD 0 _ _ (p .size ∙ sym (q .size)) (λ i below. let s = p .size in p .at i (omega arith) ∙ sym (q .at i (omega arith)))
 
 pub clear-bits-one : OneList clear-bits.Post (λ a. a .0 .now)
 clear-bits-one κ a x y r r′ p q = patched-one p q

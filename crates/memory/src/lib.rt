@@ -11,7 +11,7 @@ ghost use Rattle.rules.specs.Blocks.{arraySize, securitySize};
 ghost use Rattle.rules.specs.Works.{arrayRange, securityRange, finish};
 ghost use Rattle.rules.specs.Programs.{blank, fill};
 ghost use Rattle.rules.specs.WellFormed.{firstFF, numbersRight};
-ghost use Rattle.memory.specs.Patched.{Patched};
+ghost use Rattle.memory.specs.Patched.{Patched, Repeated};
 
 // n bytes from `from` on become v.
 pub fn set_all(s: &mut [u8], from: usize, n: usize, v: u8)
@@ -34,6 +34,31 @@ pub fn copy(s: &mut [u8], from: usize, n: usize, src: &[u8], at: usize)
     while i < n {
         s[from + i] = src[at + i];
         i += 1;
+    }
+}
+
+// n bytes from `to` on become the first n.
+fn copy_up(s: &mut [u8], to: usize, n: usize)
+    requires { ⌜ (n ≤ to) × (to + n ≤ length (now s)) ⌝ }
+    ensures { λ _. ⌜ Patched (now (s .exit)) (now (s .entry)) to n (λ i. getD (now (s .entry)) i 0) ⌝ }
+{
+    let mut i: usize = 0;
+    while i < n {
+        s[to + i] = s[i];
+        i += 1;
+    }
+}
+
+// The first n bytes again and again, to the end. Each round copies all that is there, so that a few rounds of wide copies do.
+pub fn repeat(s: &mut [u8], n: usize)
+    requires { ⌜ (0 < n) × ((n ≤ length (now s)) × (length (now s) ≤ 65536)) ⌝ }
+    ensures { λ _. ⌜ Repeated (now (s .exit)) (now (s .entry)) n ⌝ }
+{
+    let mut done = n;
+    while done < s.len() {
+        let m = smaller(done, s.len() - done);
+        copy_up(s, done, m);
+        done += m;
     }
 }
 

@@ -22,10 +22,10 @@ pub fn passes_busy(op: u8) -> bool
 
 // These need IOC.
 pub fn needs_ioc(op: u8) -> bool
-    ensures { λ r. ⌜ r ≡ oneOf op (0x6B ∷ 0x32 ∷ []) ⌝ }
+    ensures { λ r. ⌜ r ≡ oneOf op (0x6B ∷ 0x32 ∷ 0xEC ∷ []) ⌝ }
 {
     match op {
-        0x6b | 0x32 => true,
+        0x6b | 0x32 | 0xec => true,
         _ => false,
     }
 }

@@ -9,6 +9,10 @@ use Rattle.numbering.proofs.bit_of.Reads as bit-of
 use Rattle.numbering.proofs.flags_number.Reads as flags-number
 use Rattle.numbering.proofs.flags_of.Reads as flags-of
 use Rattle.numbering.proofs.flags_right.Reads as flags-right
+use Rattle.numbering.proofs.burst_byte.Reads as burst-byte
+use Rattle.numbering.proofs.burst_length.Reads as burst-length
+use Rattle.numbering.proofs.burst_of.Reads as burst-of
+use Rattle.numbering.proofs.burst_right.Reads as burst-right
 
 pub kind-of-one : OneResult kind-of.Post
 kind-of-one κ a x y r r′ p q = one p q
@@ -33,3 +37,15 @@ flags-of-one κ a x y r r′ p q = one p q
 
 pub flags-right-one : OneResult flags-right.Post
 flags-right-one κ a x y r r′ p q = one p q
+
+pub burst-byte-one : OneResult burst-byte.Post
+burst-byte-one κ a x y r r′ p q = one p q
+
+pub burst-length-one : OneResult burst-length.Post
+burst-length-one κ a x y r r′ p q = one p q
+
+pub burst-of-one : OneResult burst-of.Post
+burst-of-one κ a x y r r′ p q = one p q
+
+pub burst-right-one : OneResult burst-right.Post
+burst-right-one κ a x y r r′ p q = one p q

@@ -1,10 +1,12 @@
-// Works and flags as numbers: what the record's code and a script's fields say. specs/Numbering.antt.
+// Works, flags and the burst as numbers: what the record's code and a script's fields say. specs/Numbering.antt.
+use rules::Burst;
 use rules::Flags;
 use rules::Work;
 ghost use mathlib.Core.Path.{_≡_};
 ghost use Prim.Native.Nat.{_≤_};
-ghost use lib.Dec.{ltb};
+ghost use lib.Dec.{ltb, leb};
 ghost use Rattle.rules.specs.Words.{num};
+ghost use Rattle.rules.specs.Bursts.{burstByte, burstLength, lastBurst, burstOf};
 ghost use Rattle.rules.specs.Fields.{flagsNumber, flagsIn, flagsBound};
 ghost use Rattle.numbering.specs.Numbering.{kindOf, numberOf, workRight, workOf};
 
@@ -111,4 +113,49 @@ pub fn flags_right(x: u8) -> bool
     ensures { λ r. ⌜ r ≡ ltb x flagsBound ⌝ }
 {
     (x as u64) < 128
+}
+
+// ---- the burst
+
+// The byte that sets it.
+pub fn burst_byte(b: Burst) -> u64
+    ensures { λ r. ⌜ r ≡ burstByte b ⌝ }
+{
+    match b {
+        Burst::Eight => 0,
+        Burst::Sixteen => 1,
+        Burst::ThirtyTwo => 2,
+        Burst::SixtyFour => 3,
+    }
+}
+
+// How many bytes it has.
+pub fn burst_length(b: Burst) -> usize
+    ensures { λ r. ⌜ r ≡ burstLength b ⌝ }
+{
+    match b {
+        Burst::Eight => 8,
+        Burst::Sixteen => 16,
+        Burst::ThirtyTwo => 32,
+        Burst::SixtyFour => 64,
+    }
+}
+
+// The burst that a byte sets.
+pub fn burst_of(x: u64) -> Burst
+    ensures { λ r. ⌜ r ≡ burstOf x ⌝ }
+{
+    match x {
+        0 => Burst::Eight,
+        1 => Burst::Sixteen,
+        2 => Burst::ThirtyTwo,
+        _ => Burst::SixtyFour,
+    }
+}
+
+// A byte that sets one.
+pub fn burst_right(x: u64) -> bool
+    ensures { λ r. ⌜ r ≡ leb x lastBurst ⌝ }
+{
+    x <= 3
 }

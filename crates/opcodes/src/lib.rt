@@ -34,7 +34,7 @@ fn at_least(kind: Kind, spi: usize, sqi: usize) -> Form
     }
 }
 
-// Document 01's table of frames, by the opcode; an opcode that it does not list is in no protocol.
+// The table of frames, document 01's and 02's, by the opcode; an opcode that it does not list is in no protocol.
 pub fn form_of(op: u8) -> Form
     ensures { λ r. ⌜ r ≡ formOf op ⌝ }
 {
@@ -47,6 +47,7 @@ pub fn form_of(op: u8) -> Form
         0x05 => exact(Kind::Show(Source::Status), 1, 2),
         0x06 => exact(Kind::Do(Short::SetWel), 1, 1),
         0x0b => exact(Kind::Show(Source::Array), 5, 7),
+        0x0c => exact(Kind::Show(Source::ArrayBurst), 0, 7),
         0x20 => exact(Kind::Begin(Long::Sector), 4, 4),
         0x30 => exact(Kind::Do(Short::Resume), 1, 1),
         0x32 => at_least(Kind::Begin(Long::Page), 5, 0),
@@ -65,12 +66,14 @@ pub fn form_of(op: u8) -> Form
         0xa5 => at_least(Kind::Begin(Long::SecurityPage), 4, 4),
         0xaf => exact(Kind::Show(Source::Identity), 0, 2),
         0xb0 => exact(Kind::Do(Short::Suspend), 1, 1),
+        0xc0 => exact(Kind::Do(Short::SetBurst), 2, 2),
         0xc7 => exact(Kind::Begin(Long::Array), 1, 1),
         0xd8 => exact(Kind::Begin(Long::Block), 4, 4),
         0xe8 => exact(Kind::Begin(Long::Permanent), 7, 7),
+        0xec => exact(Kind::Show(Source::ArrayBurst), 7, 0),
         0xff => exact(Kind::Do(Short::ToSpi), 1, 1),
         0x07..=0x0a
-        | 0x0c..=0x1f
+        | 0x0d..=0x1f
         | 0x21..=0x2f
         | 0x31
         | 0x33..=0x34
@@ -86,10 +89,12 @@ pub fn form_of(op: u8) -> Form
         | 0x9a..=0x9e
         | 0xa0..=0xa4
         | 0xa6..=0xae
-        | 0xb1..=0xc6
+        | 0xb1..=0xbf
+        | 0xc1..=0xc6
         | 0xc8..=0xd7
         | 0xd9..=0xe7
-        | 0xe9..=0xfe => exact(Kind::Do(Short::Nothing), 0, 0),
+        | 0xe9..=0xeb
+        | 0xed..=0xfe => exact(Kind::Do(Short::Nothing), 0, 0),
     }
 }
 

@@ -32,6 +32,7 @@ done-number (Answer.Refused Refusal.NoWel) = refl
 done-number (Answer.Refused Refusal.Closed) = refl
 done-number (Answer.Refused Refusal.WriteLocked) = refl
 done-number (Answer.Refused Refusal.NothingRuns) = refl
+done-number (Answer.Refused Refusal.NoSuchBurst) = refl
 
 pub settles : {ends : Bool} {s : promises.Bench} {g : Returned} → ends ≡ true → CompletionPromise s g
     → SettledPromise ends s (benchOf (g .after .chip) (g .array) (g .security))

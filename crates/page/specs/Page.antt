@@ -1,4 +1,4 @@
--- The page of forms: rows as data, a form a line. Each number has its line in 01, in the words that a C program gets for it.
+-- The page of forms: rows as data, a form a line. Each number has its line in 01 or 02, in the words that a C program gets for it.
 use Prim.Native.Nat.{ℕ}
 use mathlib.Core.List.{List, [], _++_}
 use Rattle.rules.specs.Texts.{ascii}
@@ -45,9 +45,9 @@ page =
     ++ (meaning 10 ++ ascii "\n")  -- 34
     ++ (meaning 11 ++ ascii "\n")  -- 35
     ++ (meaning 12 ++ ascii "\n")  -- 36
-    ++ ascii "\n"  -- 37
+    ++ (meaning 13 ++ ascii "\n")  -- 37
     ++ ascii "\n"  -- 38
-    ++ ascii "\n"  -- 39
+    ++ ascii ", burst of %n\n"  -- 39
     ++ ascii "nothing\n"  -- 40
     ++ ascii "erase of sector %n\n"  -- 41
     ++ ascii "erase of block (bit %n)\n"  -- 42
@@ -87,7 +87,7 @@ page =
     ++ ascii "block %a to %a, bit %n, is locked; 98 or 42 opens it\n"  -- 76
     ++ ascii "block %a to %a, bit %n, is locked, and WPLD is 1 until power-up\n"  -- 77
     ++ ascii "block %a to %a, bit %n, is locked for good\n"  -- 78
-    ++ ascii "\n"  -- 79
+    ++ ascii "%b sent; 00, 01, 02 and 03 set 8, 16, 32 and 64\n"  -- 79
     ++ ascii "the array has %n bytes, not 2097152\n"  -- 80
     ++ ascii "the Security ID has %n bytes, not 2048\n"  -- 81
     ++ ascii "the frame has more than 65536 bytes\n"  -- 82
@@ -138,16 +138,16 @@ page =
     ++ ascii "clear write locks\n"  -- 127
     ++ ascii "suspend\n"  -- 128
     ++ ascii "resume\n"  -- 129
-    ++ ascii "opcode %b\n"  -- 130
-    ++ ascii "\n"  -- 131
-    ++ ascii "\n"  -- 132
-    ++ ascii " %a\n"  -- 133
+    ++ ascii "set burst\n"  -- 130
+    ++ ascii "read burst\n"  -- 131
+    ++ ascii "read burst\n"  -- 132
+    ++ ascii "opcode %b\n"  -- 133
     ++ ascii " %a, %n byte%s\n"  -- 134
     ++ ascii " %r\n"  -- 135
     ++ ascii " %p\n"  -- 136
     ++ ascii " %p, %n byte%s\n"  -- 137
     ++ ascii " %b\n"  -- 138
-    ++ ascii "\n"  -- 139
+    ++ ascii " %a\n"  -- 139
     ++ ascii "status %b\n"  -- 140
     ++ ascii "BUSY: an operation runs\n"  -- 141
     ++ ascii "WEL: writes are enabled\n"  -- 142
@@ -243,7 +243,7 @@ page =
     ++ ascii "a byte\n"  -- 232
     ++ ascii "how often, from 1\n"  -- 233
     ++ ascii "a byte, ??, ~ a byte, ! a number, # remark\n"  -- 234
-    ++ ascii "a number from 0 (done) to 12\n"  -- 235
+    ++ ascii "a number from 0 (done) to 13\n"  -- 235
     ++ ascii "nothing more, or # remark\n"  -- 236
     ++ ascii "! a number, # remark\n"  -- 237
     ++ ascii "a count of bytes, in decimal\n"  -- 238
@@ -262,7 +262,7 @@ page =
     ++ ascii "a byte\n"  -- 251
     ++ ascii "how many bytes of the array are lent, in decimal\n"  -- 252
     ++ ascii "how many bytes of the Security ID are lent, in decimal\n"  -- 253
-    ++ ascii "protect, perm, run, aside, sqi, wel, ioc, wpen, wpld, sec, enable\n"  -- 254
+    ++ ascii "protect, perm, run, aside, burst, sqi, wel, ioc, wpen, wpld, ..\n"  -- 254
     ++ ascii "a register, one to sixteen hex digits\n"  -- 255
     ++ ascii "a register, one to sixteen hex digits\n"  -- 256
     ++ ascii "sector, block, array, page, id, lock, config, bits\n"  -- 257
@@ -277,6 +277,7 @@ page =
     ++ ascii "a byte, ~ a byte, ??, * how often: ?? alone expects nothing\n"  -- 266
     ++ ascii "how often, from 1\n"  -- 267
     ++ ascii "a byte, ~ a byte, ??: ?? alone expects nothing\n"  -- 268
+    ++ ascii "8, 16, 32 or 64\n"  -- 269
 
 -- form n with three numbers, behind a row
 unfoldable pub form : ℕ → ℕ → ℕ → ℕ → Row → Row

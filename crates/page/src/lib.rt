@@ -40,15 +40,15 @@ opcode not listed, or not in this protocol\n\
 length not as listed\n\
 BUSY, and opcode not 05, 66, 99, B0\n\
 99 with no enable\n\
-6B or 32 with IOC 0\n\
+6B, 32 or EC with IOC 0\n\
 suspension rule\n\
 WEL needed and 0\n\
 42 or 98 with WPLD 1; A5 or 85 with SEC 1; A5 to places 0 to 7\n\
 20, D8, 02, 32 in a write-locked block; C7 with a write lock set\n\
 completion with nothing running\n\
+a C0 byte above 03\n\
 \n\
-\n\
-\n\
+, burst of %n\n\
 nothing\n\
 erase of sector %n\n\
 erase of block (bit %n)\n\
@@ -88,7 +88,7 @@ a byte goes to places 000 to 007\n\
 block %a to %a, bit %n, is locked; 98 or 42 opens it\n\
 block %a to %a, bit %n, is locked, and WPLD is 1 until power-up\n\
 block %a to %a, bit %n, is locked for good\n\
-\n\
+%b sent; 00, 01, 02 and 03 set 8, 16, 32 and 64\n\
 the array has %n bytes, not 2097152\n\
 the Security ID has %n bytes, not 2048\n\
 the frame has more than 65536 bytes\n\
@@ -139,16 +139,16 @@ lock protection down\n\
 clear write locks\n\
 suspend\n\
 resume\n\
+set burst\n\
+read burst\n\
+read burst\n\
 opcode %b\n\
-\n\
-\n\
-\x20%a\n\
 \x20%a, %n byte%s\n\
 \x20%r\n\
 \x20%p\n\
 \x20%p, %n byte%s\n\
 \x20%b\n\
-\n\
+\x20%a\n\
 status %b\n\
 BUSY: an operation runs\n\
 WEL: writes are enabled\n\
@@ -244,7 +244,7 @@ a byte, ??, ~ a byte, * how often, ! a number, # remark\n\
 a byte\n\
 how often, from 1\n\
 a byte, ??, ~ a byte, ! a number, # remark\n\
-a number from 0 (done) to 12\n\
+a number from 0 (done) to 13\n\
 nothing more, or # remark\n\
 ! a number, # remark\n\
 a count of bytes, in decimal\n\
@@ -263,7 +263,7 @@ a count of bytes, in decimal\n\
 a byte\n\
 how many bytes of the array are lent, in decimal\n\
 how many bytes of the Security ID are lent, in decimal\n\
-protect, perm, run, aside, sqi, wel, ioc, wpen, wpld, sec, enable\n\
+protect, perm, run, aside, burst, sqi, wel, ioc, wpen, wpld, ..\n\
 a register, one to sixteen hex digits\n\
 a register, one to sixteen hex digits\n\
 sector, block, array, page, id, lock, config, bits\n\
@@ -277,7 +277,8 @@ how often, from 1\n\
 a byte, ~ a byte, ??: ?? alone expects nothing\n\
 a byte, ~ a byte, ??, * how often: ?? alone expects nothing\n\
 how often, from 1\n\
-a byte, ~ a byte, ??: ?? alone expects nothing\n",
+a byte, ~ a byte, ??: ?? alone expects nothing\n\
+8, 16, 32 or 64\n",
         r,
         n,
         a,

@@ -49,6 +49,7 @@ fn page_at_once(s: Short, page: &mut [u8])
         Short::ClearLocks => {}
         Short::Suspend => {}
         Short::Resume => {}
+        Short::SetBurst => {}
     }
 }
 

@@ -1,4 +1,5 @@
 // Power-up and reset.
+use rules::Burst;
 use rules::Flags;
 use rules::Locks;
 use rules::Rest;
@@ -31,6 +32,7 @@ pub fn powered_up(sec: bool, wpen: bool, permanent: u64) -> Rest
             sec,
             enable: false,
         },
+        burst: Burst::Eight,
     }
 }
 
@@ -48,11 +50,17 @@ pub fn reset(r: Rest) -> Rest
         running: Work::Nothing,
         suspended: Work::Nothing,
     };
-    let mut next = r;
-    next.works = none;
-    next.flags.sqi = false;
-    next.flags.wel = false;
-    next.flags.ioc = false;
-    next.flags.enable = false;
-    next
+    let locks = r.locks;
+    let burst = Burst::Eight;
+    let mut flags = r.flags;
+    flags.sqi = false;
+    flags.wel = false;
+    flags.ioc = false;
+    flags.enable = false;
+    Rest {
+        locks,
+        works: none,
+        flags,
+        burst,
+    }
 }

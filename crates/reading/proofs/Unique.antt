@@ -9,6 +9,7 @@ use denote.Ref.{RefT}
 use Rattle.rules.specs.declared.Range.{Range}
 use Rattle.reading.specs.Upto.{Upto}
 use Rattle.reading.proofs.read_array.Reads as read-array
+use Rattle.reading.proofs.read_burst.Reads as read-burst
 use Rattle.reading.proofs.read_security.Reads as read-security
 use Rattle.reading.proofs.read_protection.Reads as read-protection
 use Rattle.reading.proofs.read_identity.Reads as read-identity
@@ -25,6 +26,10 @@ Slice = RefT (List ℕ)
 pub read-array-one : (κ : List ℕ × (List ℕ × (List ℕ × Unit {0}))) (a x y : ℕ × (Range × (Slice × (ℕ × (Slice × (Slice × Unit {0})))))) → read-array.Post κ a tt x → read-array.Post κ a tt y
     → (x .1 .1 .1 .1 .0 .now ≡ y .1 .1 .1 .1 .0 .now) × (x .1 .1 .1 .1 .1 .0 .now ≡ y .1 .1 .1 .1 .1 .0 .now)
 read-array-one κ a x y p q = (upto-one _ _ _ _ (p .0) (q .0), upto-one _ _ _ _ (p .1) (q .1))
+
+pub read-burst-one : (κ : List ℕ × (List ℕ × (List ℕ × Unit {0}))) (a x y : ℕ × (Range × (Slice × (ℕ × (ℕ × (Slice × (Slice × Unit {0}))))))) → read-burst.Post κ a tt x → read-burst.Post κ a tt y
+    → (x .1 .1 .1 .1 .1 .0 .now ≡ y .1 .1 .1 .1 .1 .0 .now) × (x .1 .1 .1 .1 .1 .1 .0 .now ≡ y .1 .1 .1 .1 .1 .1 .0 .now)
+read-burst-one κ a x y p q = (upto-one _ _ _ _ (p .0) (q .0), upto-one _ _ _ _ (p .1) (q .1))
 
 pub read-security-one : (κ : List ℕ × (List ℕ × Unit {0})) (a x y : Slice × (ℕ × (Slice × Unit {0}))) → read-security.Post κ a tt x → read-security.Post κ a tt y → x .1 .1 .0 .now ≡ y .1 .1 .0 .now
 read-security-one κ a x y p q = upto-one _ _ _ _ p q

@@ -7,6 +7,7 @@ use Rattle.rules.specs.declared.Cell.{Cell}
 use Rattle.rules.specs.declared.Range.{Range}
 use Rattle.rules.specs.Words.{lent}
 use Rattle.rules.specs.Blocks.{arraySize}
+use Rattle.rules.specs.Bursts.{burstPlace}
 use Rattle.rules.specs.Reading.{placeCell}
 
 -- n bytes, of which the first k are what f says
@@ -23,3 +24,7 @@ pub record Pages (r : Range) : Type 0 where
 -- cell i of a read from a place on
 abbrev pub cellFrom : ℕ → Range → List ℕ → ℕ → ℕ → Cell
 cellFrom p r array at i = placeCell p r (lent array) ((at + i) % arraySize)
+
+-- cell i of a burst of n bytes from a place on
+abbrev pub burstCell : ℕ → Range → List ℕ → ℕ → ℕ → ℕ → Cell
+burstCell p r array n at i = placeCell p r (lent array) (burstPlace n at i)

@@ -3,14 +3,15 @@ use rules::Range;
 use rules::plain::smaller;
 ghost use mathlib.Core.Path.{_≡_};
 ghost use mathlib.Core.List.{[], _∷_};
-ghost use Prim.Native.Nat.{_+_, _-_, _*_, _/_, _%_, _^_, _≤_, _<_};
+ghost use Prim.Native.Nat.{_+_, _-_, _*_, _/_, _%_, _^_, _≤_, _<_, min};
 ghost use lib.Dec.{ltb};
 ghost use lib.ListN.{length, getD};
 ghost use Rattle.rules.specs.Words.{lent, pick};
 ghost use Rattle.rules.specs.Blocks.{arraySize, securitySize};
 ghost use Rattle.rules.specs.Reading.{placeCell};
+ghost use Rattle.rules.specs.Bursts.{Divides};
 ghost use Rattle.memory.specs.Patched.{Patched};
-ghost use Rattle.reading.specs.Upto.{Upto, Pages, cellFrom};
+ghost use Rattle.reading.specs.Upto.{Upto, Pages, cellFrom, burstCell};
 
 // n bytes of one page from place a on, into the reply and the marks from i on: locks and suspended ranges do not change within a page.
 fn read_piece(
@@ -53,6 +54,51 @@ pub fn read_array(p: u64, r: Range, array: &[u8], at: usize, reply: &mut [u8], m
         let n = smaller(256 - a % 256, reply.len() - i);
         read_piece(p, r, array, a, n, reply, marks, i);
         i += n;
+    }
+}
+
+// The first turn of a burst of n bytes from place `at` on: up to the end of its group, then from the group's start.
+fn first_turn(
+    p: u64,
+    r: Range,
+    array: &[u8],
+    at: usize,
+    n: usize,
+    reply: &mut [u8],
+    marks: &mut [u8],
+)
+    requires { ⌜ (Pages r) × ((length (now array) ≡ arraySize) × ((at < arraySize) × ((Divides n) × (length (now marks) ≡ length (now reply))))) ⌝ }
+    ensures bytes { λ _. ⌜ Upto (now (reply .exit)) (length (now (reply .entry))) (min n (length (now (reply .entry)))) (λ i. burstCell p r (now (array .entry)) n at i .byte) ⌝ }
+    ensures known { λ _. ⌜ Upto (now (marks .exit)) (length (now (marks .entry))) (min n (length (now (marks .entry)))) (λ i. burstCell p r (now (array .entry)) n at i .mark) ⌝ }
+{
+    let all = reply.len();
+    let off = at % n;
+    let high = smaller(n - off, all);
+    read_piece(p, r, array, at, high, reply, marks, 0);
+    if high < all {
+        let low = smaller(off, all - high);
+        read_piece(p, r, array, at - off, low, reply, marks, high);
+    }
+}
+
+// A burst of n bytes from place `at` on, turn after turn.
+pub fn read_burst(
+    p: u64,
+    r: Range,
+    array: &[u8],
+    at: usize,
+    n: usize,
+    reply: &mut [u8],
+    marks: &mut [u8],
+)
+    requires { ⌜ (Pages r) × ((length (now array) ≡ arraySize) × ((at < arraySize) × ((Divides n) × ((length (now marks) ≡ length (now reply)) × (length (now reply) ≤ 65536))))) ⌝ }
+    ensures bytes { λ _. ⌜ Upto (now (reply .exit)) (length (now (reply .entry))) (length (now (reply .entry))) (λ i. burstCell p r (now (array .entry)) n at i .byte) ⌝ }
+    ensures known { λ _. ⌜ Upto (now (marks .exit)) (length (now (marks .entry))) (length (now (marks .entry))) (λ i. burstCell p r (now (array .entry)) n at i .mark) ⌝ }
+{
+    first_turn(p, r, array, at, n, reply, marks);
+    if n < reply.len() {
+        memory::repeat(reply, n);
+        memory::repeat(marks, n);
     }
 }
 

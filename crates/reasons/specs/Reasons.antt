@@ -22,9 +22,9 @@ use Rattle.rows.specs.Events.{below, expectedRow}
 unfoldable pub refused : ℕ → ℕ → Bool
 refused verb number = (eqb verb verbs.frame || eqb verb verbs.done || eqb verb verbs.cut) && not (eqb number 0)
 
--- the number's line in 01: forms 25 to 36 have them
+-- the number's line in 01 or 02: forms 25 to 37 have them
 unfoldable pub numberRow : ℕ → ℕ → Row
-numberRow verb number = pick (refused verb number) (below (24 + min number 12) 0 0 0) blank
+numberRow verb number = pick (refused verb number) (below (24 + min number 13) 0 0 0) blank
 
 -- and what of it holds here: of 1 which length, or which sentence of a well-formed record; of the others by the record before the event and the frame
 unfoldable pub whyRow : ℕ → ℕ → ℕ → ℕ → ℕ → ℕ → Chip → List ℕ → Row

@@ -19,7 +19,7 @@ pub fn number(verb: u8, number: u8) -> Row
     ensures { λ q. ⌜ q ≡ numberRow verb number ⌝ }
 {
     if is_refused(verb, number) {
-        return rows::below(24 + smaller(number as usize, 12), 0, 0, 0);
+        return rows::below(24 + smaller(number as usize, 13), 0, 0, 0);
     }
     rows::empty()
 }

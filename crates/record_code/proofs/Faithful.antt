@@ -6,15 +6,16 @@ use mathlib.Core.Path.{_≡_, refl, sym, ap, _∙_}
 use mathlib.Core.Bool.{true, _&&_}
 use mathlib.Core.List.{List, _++_}
 use native.Mathlib.Omega.{arith}
-use lib.Dec.{eqb, ltb, lit<}
+use lib.Dec.{eqb, ltb, leb, lit<}
 use lib.ListN.{length, getD, take, drop, take-append-drop, length-append, length-drop}
 use lib.Seq.{take-all, take-at, drop-append-add, drop-drop}
-use borrow.Author.Tests.{eq-eqb, lt-ltb, eqb-true, ltb-true}
+use borrow.Author.Tests.{eq-eqb, lt-ltb, le-leb, eqb-true, ltb-true, leb-true}
 use Rattle.rules.specs.declared.Chip.{Chip}
 use Rattle.rules.specs.declared.Rest.{Rest}
+use Rattle.rules.specs.Bursts.{burstByte, lastBurst, burstOf}
 use Rattle.rules.specs.Fields.{locksOf, worksOf, restOf, chipOf, flagsNumber, flagsIn, flagsBound}
 use Rattle.rules.proofs.Bools.{and-split, and-both}
-use Rattle.rules.proofs.Fields.{flags-back, flags-kept}
+use Rattle.rules.proofs.Fields.{flags-back, flags-kept, burst-back, burst-kept}
 use Rattle.numbering.specs.Numbering.{kindOf, numberOf, workRight, workOf}
 use Rattle.numbering.proofs.Works.{work-back, work-small, work-kept}
 use Rattle.record_code.specs.Layout.{placeOf, sizeOf, recordSize, bytes, numberAt, fieldIn, restCode, code, restIn, isCode, NothingReserved, chipIn, decode, TypedRest, Typed}
@@ -38,6 +39,7 @@ record Holds (l : List ℕ) (r : Rest) : Type 0 where
   running-kind : fieldIn l "running kind" ≡ kindOf (r .works .running)
   suspended-kind : fieldIn l "suspended kind" ≡ kindOf (r .works .suspended)
   flags : fieldIn l "flags" ≡ flagsNumber (r .flags)
+  burst : fieldIn l "burst" ≡ burstByte (r .burst)
   reserved : fieldIn l "reserved" ≡ 0
 
 -- ---- from what the fields hold
@@ -52,6 +54,7 @@ module _ (l : List ℕ) (r : Rest) (h : Holds l r) where
       (((λ j. workOf (h .running-kind j) (h .running-number j)) ∙ work-back (r .works .running) .1) i)
       (((λ j. workOf (h .suspended-kind j) (h .suspended-number j)) ∙ work-back (r .works .suspended) .1) i))
       ((ap flagsIn (h .flags) ∙ flags-back (r .flags) .1) i)
+      ((ap burstOf (h .burst) ∙ burst-back (r .burst) .1) i)
 
   holds-code : length l ≡ 320 → isCode l ≡ true
   unfolding isCode
@@ -65,6 +68,7 @@ module _ (l : List ℕ) (r : Rest) (h : Holds l r) where
         h .suspended-number,
         work-back (r .works .suspended) .0,
         lt-ltb (fieldIn l "flags") flagsBound (rw (h .flags) (flags-back (r .flags) .0)),
+        le-leb (fieldIn l "burst") lastBurst (rw (h .burst) (burst-back (r .burst) .0)),
         eq-eqb (fieldIn l "reserved") 0 (h .reserved),
       )
 
@@ -84,6 +88,7 @@ module _ (l : List ℕ) (r : Rest) (h : Holds l r) where
         ++ field-kept "running kind" (omega arith) (h .running-kind) i
         ++ field-kept "suspended kind" (omega arith) (h .suspended-kind) i
         ++ field-kept "flags" (omega arith) (h .flags) i
+        ++ field-kept "burst" (omega arith) (h .burst) i
         ++ field-kept "reserved" (omega arith) (h .reserved) i)
         ∙ rw (
           parts l 256 8 8,
@@ -92,7 +97,8 @@ module _ (l : List ℕ) (r : Rest) (h : Holds l r) where
           parts l 256 32 1,
           parts l 256 33 1,
           parts l 256 34 1,
-          parts l 256 35 29,
+          parts l 256 35 1,
+          parts l 256 36 28,
         ) (take-all 64 (drop 256 l) (omega arith))
 
 -- ---- a record's code
@@ -112,6 +118,7 @@ module _ (b : List ℕ) (r : Rest) (size : length b ≡ 256) (t : TypedRest r) w
       let k₁ = work-small (r .works .running) in
       let k₂ = work-small (r .works .suspended) in
       let k₃ = flags-back (r .flags) .0 in
+      let k₄ = burst-back (r .burst) .0 in
       record {
         protection = holds-number "protection" (r .locks .protection) refl (t .protection);
         permanent = holds-number "permanent" (r .locks .permanent) refl (t .permanent);
@@ -120,6 +127,7 @@ module _ (b : List ℕ) (r : Rest) (size : length b ≡ 256) (t : TypedRest r) w
         running-kind = holds-number "running kind" (kindOf (r .works .running)) refl (omega arith);
         suspended-kind = holds-number "suspended kind" (kindOf (r .works .suspended)) refl (omega arith);
         flags = holds-number "flags" (flagsNumber (r .flags)) refl (omega arith);
+        burst = holds-number "burst" (burstByte (r .burst)) refl (omega arith);
         reserved = holds-number "reserved" 0 refl (lit< tt);
       }
 
@@ -158,7 +166,8 @@ known-holds : (l : List ℕ) → isCode l ≡ true → Holds l (restIn l)
 unfolding isCode restIn
 known-holds l e =
     let z = and-split _ (eqb (fieldIn l "reserved") 0) (and-split (eqb (length l) recordSize) _ e .1) in
-    let f = and-split _ (ltb (fieldIn l "flags") flagsBound) (z .0) in
+    let b = and-split _ (leb (fieldIn l "burst") lastBurst) (z .0) in
+    let f = and-split _ (ltb (fieldIn l "flags") flagsBound) (b .0) in
     let w = and-split (workRight (fieldIn l "running kind") (fieldIn l "running number")) _ (f .0) in
     let w₁ = work-kept (fieldIn l "running number") (fieldIn l "running kind") (w .0) in
     let w₂ = work-kept (fieldIn l "suspended number") (fieldIn l "suspended kind") (w .1) in
@@ -170,6 +179,7 @@ known-holds l e =
       running-kind = sym (w₁ .0);
       suspended-kind = sym (w₂ .0);
       flags = sym (flags-kept (fieldIn l "flags") (ltb-true (fieldIn l "flags") flagsBound (f .1)));
+      burst = sym (burst-kept (fieldIn l "burst") (leb-true (fieldIn l "burst") lastBurst (b .1)));
       reserved = eqb-true (fieldIn l "reserved") 0 (z .1);
     }
 

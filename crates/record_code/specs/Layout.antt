@@ -4,10 +4,11 @@ use Prim.Native.String.{String, compare}
 use mathlib.Core.Path.{_≡_}
 use mathlib.Core.Bool.{Bool, _&&_}
 use mathlib.Core.List.{List, [], _∷_, _++_}
-use lib.Dec.{eqb, isEq, ltb}
+use lib.Dec.{eqb, isEq, ltb, leb}
 use lib.ListN.{length, getD, take, drop}
 use Rattle.rules.specs.declared.Chip.{Chip}
 use Rattle.rules.specs.declared.Rest.{Rest}
+use Rattle.rules.specs.Bursts.{burstByte, lastBurst, burstOf}
 use Rattle.rules.specs.Fields.{locksOf, worksOf, restOf, chipOf, flagsNumber, flagsIn, flagsBound}
 use Rattle.rules.specs.Words.{pick}
 use Rattle.numbering.specs.Numbering.{kindOf, numberOf, workRight, workOf}
@@ -25,7 +26,8 @@ layout =
     ∷ ("running kind", 1)
     ∷ ("suspended kind", 1)
     ∷ ("flags", 1)
-    ∷ ("reserved", 29)
+    ∷ ("burst", 1)
+    ∷ ("reserved", 28)
     ∷ []
 
 -- the bytes of a field, those before it, and those of all fields
@@ -88,6 +90,7 @@ restCode r =
     ++ fieldOf "running kind" (kindOf (r .works .running))
     ++ fieldOf "suspended kind" (kindOf (r .works .suspended))
     ++ fieldOf "flags" (flagsNumber (r .flags))
+    ++ fieldOf "burst" (burstByte (r .burst))
     ++ fieldOf "reserved" 0
 
 -- 0 in the reserved bytes
@@ -99,13 +102,14 @@ code c = c .buffer ++ restCode (c .rest)
 
 -- ---- the record of a code
 
--- two works that are right, no bit beyond the flags, and 0 in the reserved bytes
+-- two works that are right, no bit beyond the flags, a byte that sets a burst, and 0 in the reserved bytes
 unfoldable pub isCode : List ℕ → Bool
 isCode l =
     eqb (length l) recordSize
     && (workRight (fieldIn l "running kind") (fieldIn l "running number")
     && workRight (fieldIn l "suspended kind") (fieldIn l "suspended number")
     && ltb (fieldIn l "flags") flagsBound
+    && leb (fieldIn l "burst") lastBurst
     && eqb (fieldIn l "reserved") 0)
 
 unfoldable pub restIn : List ℕ → Rest
@@ -114,6 +118,7 @@ restIn l =
     (locksOf (fieldIn l "protection") (fieldIn l "permanent"))
     (worksOf (workOf (fieldIn l "running kind") (fieldIn l "running number")) (workOf (fieldIn l "suspended kind") (fieldIn l "suspended number")))
     (flagsIn (fieldIn l "flags"))
+    (burstOf (fieldIn l "burst"))
 
 unfoldable pub chipIn : List ℕ → Chip
 chipIn l = chipOf (take (sizeOf "page") l) (restIn l)

@@ -1,10 +1,12 @@
 // The chip record as bytes: what crosses the boundary to other languages and is stored. The layout is in specs/Layout.antt.
 // The page stays where it is: these functions read and write what stands behind it.
+use numbering::burst_byte;
 use numbering::flags_number;
 use numbering::flags_of;
 use numbering::flags_right;
 use numbering::kind_of;
 use numbering::number_of;
+use rules::Burst;
 use rules::Locks;
 use rules::Rest;
 use rules::Work;
@@ -12,8 +14,9 @@ use rules::Works;
 ghost use mathlib.Core.Path.{_≡_};
 ghost use mathlib.Core.List.{_++_};
 ghost use Prim.Native.Nat.{_+_, _*_, _≤_};
-ghost use lib.Dec.{eqb};
+ghost use lib.Dec.{eqb, leb};
 ghost use lib.ListN.{length, take, drop};
+ghost use Rattle.rules.specs.Bursts.{lastBurst, burstOf};
 ghost use Rattle.rules.specs.Commands.{newChip};
 ghost use Rattle.numbering.specs.Numbering.{workRight, workOf};
 ghost use Rattle.record_code.specs.Layout.{bytes, numberAt, word, restCode, restIn, isCode, NothingReserved};
@@ -56,6 +59,8 @@ pub fn put_rest(coded: &mut [u8], r: Rest)
     let running_kind = kind_of(running);
     let suspended_kind = kind_of(suspended);
     let flags = flags_number(r.flags);
+    let set = r.burst;
+    let burst = burst_byte(set);
     put_number(coded, 256, 8, r.locks.protection);
     put_number(coded, 264, 8, r.locks.permanent);
     put_number(coded, 272, 8, running_number);
@@ -63,6 +68,7 @@ pub fn put_rest(coded: &mut [u8], r: Rest)
     put_number(coded, 288, 1, running_kind);
     put_number(coded, 289, 1, suspended_kind);
     put_number(coded, 290, 1, flags);
+    put_number(coded, 291, 1, burst);
 }
 
 // ---- from bytes to a record
@@ -110,13 +116,26 @@ fn work_of(kind: u8, n: u64) -> Work
     numbering::work_of(kind as u64, n)
 }
 
+// A byte of the code as a burst's.
+fn burst_right(x: u8) -> bool
+    ensures { λ r. ⌜ r ≡ leb x lastBurst ⌝ }
+{
+    numbering::burst_right(x as u64)
+}
+
+fn burst_of(x: u8) -> Burst
+    ensures { λ r. ⌜ r ≡ burstOf x ⌝ }
+{
+    numbering::burst_of(x as u64)
+}
+
 // The reserved bytes are all 0. No early exit, so that the loop becomes a few wide instructions.
 fn nothing_reserved(coded: &[u8]) -> bool
     requires { ⌜ length (now coded) ≡ 320 ⌝ }
-    ensures { λ r. ⌜ r ≡ eqb (numberAt (now (coded .entry)) 291 29) 0 ⌝ }
+    ensures { λ r. ⌜ r ≡ eqb (numberAt (now (coded .entry)) 292 28) 0 ⌝ }
 {
     let mut other: u8 = 0;
-    let mut i: usize = 291;
+    let mut i: usize = 292;
     while i < 320 {
         other = other | coded[i];
         i += 1;
@@ -133,7 +152,11 @@ pub fn is_code(coded: &[u8]) -> bool
     }
     let running = work_right(coded[288], get_word(coded, 272));
     let suspended = work_right(coded[289], get_word(coded, 280));
-    running & suspended & flags_right(coded[290]) & nothing_reserved(coded)
+    running
+        & suspended
+        & flags_right(coded[290])
+        & burst_right(coded[291])
+        & nothing_reserved(coded)
 }
 
 // What the record of the bytes holds behind its page.
@@ -146,6 +169,7 @@ pub fn rest_in(coded: &[u8]) -> Rest
     let running = work_of(coded[288], get_word(coded, 272));
     let suspended = work_of(coded[289], get_word(coded, 280));
     let flags = flags_of(coded[290]);
+    let burst = burst_of(coded[291]);
     Rest {
         locks: Locks {
             protection,
@@ -153,5 +177,6 @@ pub fn rest_in(coded: &[u8]) -> Rest
         },
         works: Works { running, suspended },
         flags,
+        burst,
     }
 }

@@ -8,6 +8,7 @@ use lib.Dec.{ltb}
 use lib.ListN.{length, getD, set, length-set}
 use lib.Seq.{getD-set-same}
 use borrow.Author.Tests.{ltb-true}
+use Rattle.rules.specs.declared.Burst.{Burst}
 use Rattle.rules.specs.declared.Range.{Range}
 use Rattle.rules.specs.declared.Rest.{Rest}
 use Rattle.rules.specs.declared.Source.{Source}
@@ -18,12 +19,14 @@ use Rattle.rules.specs.Blocks.{securitySize}
 use Rattle.rules.specs.Works.{arrayRange}
 use Rattle.rules.specs.Registers.{status, configuration}
 use Rattle.rules.specs.Frames.{address, securityAddress}
+use Rattle.rules.specs.Bursts.{burstLength, Divides}
 use Rattle.rules.specs.Reading.{shown}
 use Rattle.rules.specs.WellFormed.{numbersRight}
 use Rattle.rules.proofs.Blocks.{block-placed}
+use Rattle.rules.proofs.Bursts.{lengths-divide}
 use Rattle.rules.proofs.Promises.{lent-written}
 use Rattle.memory.specs.Patched.{Patched}
-use Rattle.reading.specs.Upto.{Upto, Pages, cellFrom}
+use Rattle.reading.specs.Upto.{Upto, Pages, cellFrom, burstCell}
 use Rattle.replying.specs.Replying.{Replied}
 
 pub upto-written : (l : List ℕ) (n : ℕ) (f : ℕ → ℕ) → Upto l n n f → lent l ≡ written n f
@@ -59,6 +62,9 @@ pages-of (AddPermanent v) e = record { start-aligned = refl; size-aligned = refl
 
 pub suspended-pages : (r : Rest) (a : Range) → numbersRight (r .works .suspended) ≡ true → a ≡ arrayRange (r .works .suspended) → Pages a
 suspended-pages r a h e = rw e (pages-of (r .works .suspended) h)
+
+pub length-divides : (b : Burst) (n : ℕ) → n ≡ burstLength b → Divides n
+length-divides b n e = rw e (lengths-divide b)
 
 -- ---- each source
 
@@ -107,4 +113,21 @@ module _ (s : Source) (x : Rest) (array security sent y m y′ m′ : List ℕ) 
         known = upto-written m′ (length m) _
             (subst (λ (r : Range). Upto m′ (length m) (length m) (λ i. cellFrom (x .locks .protection) r array (address sent) i .mark)) er
             (subst (λ (at : ℕ). Upto m′ (length m) (length m) (λ i. cellFrom (x .locks .protection) r array at i .mark)) ea k));
+      }
+
+  pub shows-burst : (r : Range) (at n : ℕ) → s ≡ Source.ArrayBurst → r ≡ arrayRange (x .works .suspended) → at ≡ address sent → n ≡ burstLength (x .burst)
+      → Upto y′ (length y) (length y) (λ i. burstCell (x .locks .protection) r array n at i .byte) → Upto m′ (length m) (length m) (λ i. burstCell (x .locks .protection) r array n at i .mark)
+      → Replied y m y′ m′ (λ i. shown s x (lent array) (lent security) sent i)
+  unfolding Shown shown
+  shows-burst r at n e er ea en h k =
+      by-source Source.ArrayBurst e
+      record {
+        bytes = upto-written y′ (length y) _
+            (subst (λ (r : Range). Upto y′ (length y) (length y) (λ i. burstCell (x .locks .protection) r array (burstLength (x .burst)) (address sent) i .byte)) er
+            (subst (λ (at : ℕ). Upto y′ (length y) (length y) (λ i. burstCell (x .locks .protection) r array (burstLength (x .burst)) at i .byte)) ea
+            (subst (λ (n : ℕ). Upto y′ (length y) (length y) (λ i. burstCell (x .locks .protection) r array n at i .byte)) en h)));
+        known = upto-written m′ (length m) _
+            (subst (λ (r : Range). Upto m′ (length m) (length m) (λ i. burstCell (x .locks .protection) r array (burstLength (x .burst)) (address sent) i .mark)) er
+            (subst (λ (at : ℕ). Upto m′ (length m) (length m) (λ i. burstCell (x .locks .protection) r array (burstLength (x .burst)) at i .mark)) ea
+            (subst (λ (n : ℕ). Upto m′ (length m) (length m) (λ i. burstCell (x .locks .protection) r array n at i .mark)) en k)));
       }

@@ -61,6 +61,15 @@ fn show(
             let at = opcodes::address_of(sent);
             reading::read_array(r.locks.protection, range, array, at, reply, marks);
         }
+        Source::ArrayBurst => {
+            let works = r.works;
+            let aside = works.suspended;
+            let range = blocks::array_range(aside);
+            let at = opcodes::address_of(sent);
+            let set = r.burst;
+            let n = numbering::burst_length(set);
+            reading::read_burst(r.locks.protection, range, array, at, n, reply, marks);
+        }
         Source::Security => {
             let at = opcodes::security_address_of(sent);
             reading::read_security(security, at, reply);

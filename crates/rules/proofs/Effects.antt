@@ -9,6 +9,7 @@ use lib.ListN.{length, getD, set, length-set}
 use lib.Seq.{getD-set-same, getD-set-other}
 use lib.Bits.{bitAnd, bitOr}
 use borrow.Author.Tests.{lt-ltb, le-ltb}
+use Rattle.rules.specs.declared.Burst.{Burst}
 use Rattle.rules.specs.declared.Kind.{Kind}
 use Rattle.rules.specs.declared.Range.{Range}
 use Rattle.rules.specs.declared.Rest.{Rest}
@@ -20,8 +21,8 @@ use Rattle.rules.specs.Works.{isErase, isProgram, finished, finish}
 use Rattle.rules.specs.Frames.{frames, find, formOf, opcode, six}
 use Rattle.rules.specs.Reading.{known, unknown, placeCell}
 use Rattle.rules.specs.Programs.{blank, fill}
-use Rattle.rules.specs.Fields.{locksOf, worksOf, restOf, chipOf, noFlags, withProtection, withPermanent, withRunning, withSuspended, withSqi, withWel, withIoc, withWpen, withSec, withEnable}
-use Rattle.rules.specs.Commands.{powerUpIoc, act, bufferAfter, settled, rested, newChip}
+use Rattle.rules.specs.Fields.{locksOf, worksOf, restOf, chipOf, noFlags, withProtection, withPermanent, withRunning, withSuspended, withSqi, withWel, withIoc, withWpen, withSec, withEnable, withBurst}
+use Rattle.rules.specs.Commands.{powerUpIoc, powerUpBurst, act, bufferAfter, settled, rested, newChip}
 use Rattle.rules.specs.Numbers.{State, Frame}
 use Rattle.rules.specs.Machine.{Outcome, frame, completion, powerCut}
 use Rattle.rules.proofs.Bools.{upto, upto-at}
@@ -135,10 +136,10 @@ pub completion-buffer : (s : State) → completion s .number ≡ 0
     → completion s .chip .buffer ≡ pick (isProgram (s .chip .rest .works .suspended)) (s .chip .buffer) blank
 completion-buffer s e = ap (λ (o : Outcome). o .chip .buffer) (completion-done-whole s e)
 
--- ---- the record after a reset: the protocol, WEL, IOC, the enable, what runs and what is suspended are as at power-up, and nothing else moves
+-- ---- the record after a reset: the protocol, WEL, IOC, the burst, the enable, what runs and what is suspended are as at power-up, and nothing else moves
 
 pub reset-leaves : (s : State) (f : Frame) → frame s f .number ≡ 0 → opcode (f .sent) ≡ 0x99
-    → frame s f .chip ≡ chipOf blank (withSqi false (withWel false (withIoc powerUpIoc (withEnable false (withRunning Work.Nothing (withSuspended Work.Nothing (s .chip .rest)))))))
+    → frame s f .chip ≡ chipOf blank (withSqi false (withWel false (withIoc powerUpIoc (withBurst powerUpBurst (withEnable false (withRunning Work.Nothing (withSuspended Work.Nothing (s .chip .rest))))))))
 unfolding formOf find frames
 reset-leaves s f e o =
     ap (λ (q : Outcome). q .chip) (frame-done-whole s f e)
@@ -146,7 +147,7 @@ reset-leaves s f e o =
 
 -- ---- the record of a new chip; after a power cut it is that again, but for SEC, WPEN and the permanent register, which stay as the work left them
 
-pub new-is : newChip ≡ chipOf blank (restOf (locksOf 0x5555_FFFF_FFFF 0) (worksOf Work.Nothing Work.Nothing) noFlags)
+pub new-is : newChip ≡ chipOf blank (restOf (locksOf 0x5555_FFFF_FFFF 0) (worksOf Work.Nothing Work.Nothing) noFlags Burst.Eight)
 new-is = refl
 
 pub cut-leaves : (s : State) (k : ℕ) → powerCut s k .number ≡ 0

@@ -1,33 +1,35 @@
 -- What a setter does, for all of them at once: whatever the record was, after all have been used, in either order, each field holds what its
--- own setter gave it. So each sets its field, and none of them any other. And the flags go to their number and back. Assumes nothing.
+-- own setter gave it. So each sets its field, and none of them any other. And the flags and the burst go to their number and back. Assumes nothing.
 use Prim.Native.Nat.{ℕ, _+_, _*_, _/_, _%_, _^_, _≤_, _<_}
 use mathlib.Core.Path.{_≡_, refl, sym, ap, _∙_}
 use mathlib.Core.Bool.{Bool, true, false}
 use native.Mathlib.Omega.{arith}
 use lib.Dec.{eqb}
 use borrow.Author.Tests.{eqb-true, eq-eqb}
+use Rattle.rules.specs.declared.Burst.{Burst}
 use Rattle.rules.specs.declared.Flags.{Flags}
 use Rattle.rules.specs.declared.Rest.{Rest}
 use Rattle.rules.specs.declared.Work.{Work}
 use Rattle.rules.specs.Words.{bit, num}
-use Rattle.rules.specs.Fields.{locksOf, worksOf, flagsOf, restOf, withProtection, withPermanent, withRunning, withSuspended, withFlags, withSqi, withWel, withIoc, withWpen, withWpld, withSec, withEnable, flagsNumber, flagsIn, flagsBound}
+use Rattle.rules.specs.Bursts.{burstByte, lastBurst, burstOf}
+use Rattle.rules.specs.Fields.{locksOf, worksOf, flagsOf, restOf, withProtection, withPermanent, withRunning, withSuspended, withFlags, withSqi, withWel, withIoc, withWpen, withWpld, withSec, withEnable, withBurst, flagsNumber, flagsIn, flagsBound}
 use Rattle.rules.proofs.Bools.{upto-at}
 
-module _ (x : Rest) (p q : ℕ) (r s : Work) (sqi wel ioc wpen wpld sec enable : Bool) where
+module _ (x : Rest) (p q : ℕ) (r s : Work) (sqi wel ioc wpen wpld sec enable : Bool) (burst : Burst) where
   abbrev flags : Flags
   flags = record { sqi = sqi; wel = wel; ioc = ioc; wpen = wpen; wpld = wpld; sec = sec; enable = enable }
 
   -- what holds all of these
   abbrev all : Rest
-  all = record { locks = record { protection = p; permanent = q }; works = record { running = r; suspended = s }; flags = flags }
+  all = record { locks = record { protection = p; permanent = q }; works = record { running = r; suspended = s }; flags = flags; burst = burst }
 
-  pub first-to-last : withEnable enable (withSec sec (withWpld wpld (withWpen wpen (withIoc ioc (withWel wel (withSqi sqi (withSuspended s (withRunning r (withPermanent q (withProtection p x)))))))))) ≡ all
+  pub first-to-last : withBurst burst (withEnable enable (withSec sec (withWpld wpld (withWpen wpen (withIoc ioc (withWel wel (withSqi sqi (withSuspended s (withRunning r (withPermanent q (withProtection p x))))))))))) ≡ all
   first-to-last = refl
 
-  pub last-to-first : withProtection p (withPermanent q (withRunning r (withSuspended s (withSqi sqi (withWel wel (withIoc ioc (withWpen wpen (withWpld wpld (withSec sec (withEnable enable x)))))))))) ≡ all
+  pub last-to-first : withProtection p (withPermanent q (withRunning r (withSuspended s (withSqi sqi (withWel wel (withIoc ioc (withWpen wpen (withWpld wpld (withSec sec (withEnable enable (withBurst burst x))))))))))) ≡ all
   last-to-first = refl
 
-  pub at-once : withFlags flags (withSuspended s (withRunning r (withPermanent q (withProtection p x)))) ≡ all
+  pub at-once : withBurst burst (withFlags flags (withSuspended s (withRunning r (withPermanent q (withProtection p x))))) ≡ all
   at-once = refl
 
 -- ---- the flags as bits
@@ -67,7 +69,7 @@ flags-kept x h = eqb-true (flagsNumber (flagsIn x)) x (upto-at flagsBound (λ y.
 
 -- with the enable used up bit 6 is 0, and the others are what they were: computed for every number of flags
 abbrev used : Flags → ℕ
-used f = flagsNumber (withEnable false (restOf (locksOf 0 0) (worksOf Work.Nothing Work.Nothing) f) .flags)
+used f = flagsNumber (withEnable false (restOf (locksOf 0 0) (worksOf Work.Nothing Work.Nothing) f Burst.Eight) .flags)
 
 abbrev cleared : ℕ → ℕ
 cleared x = x % 64 + x / 128 * 128
@@ -78,3 +80,14 @@ used-in x h = eqb-true _ _ (upto-at flagsBound (λ y. eqb (used (flagsIn y) % 25
 
 pub enable-used : (r : Rest) → flagsNumber (withEnable false r .flags) % 256 ≡ flagsNumber (r .flags) % 256 % 64 + flagsNumber (r .flags) % 256 / 128 * 128
 enable-used r = let b = flags-back (r .flags) in ap (λ (f : Flags). used f % 256) (sym (b .1)) ∙ used-in (flagsNumber (r .flags)) (b .0)
+
+-- ---- the burst as the byte that sets it
+
+pub burst-back : (b : Burst) → (burstByte b ≤ lastBurst) × (burstOf (burstByte b) ≡ b)
+burst-back Burst.Eight = (omega arith, refl)
+burst-back Burst.Sixteen = (omega arith, refl)
+burst-back Burst.ThirtyTwo = (omega arith, refl)
+burst-back Burst.SixtyFour = (omega arith, refl)
+
+pub burst-kept : (x : ℕ) → x ≤ lastBurst → burstByte (burstOf x) ≡ x
+burst-kept x h = eqb-true (burstByte (burstOf x)) x (upto-at 4 (λ y. eqb (burstByte (burstOf y)) y) refl x (omega arith))

@@ -21,6 +21,7 @@ use Rattle.rules.specs.Words.{bit, pick, oneOf, Each, end, _next_, holds
 use Rattle.rules.specs.Blocks.{arraySize, blockOf, blockAt, readLocked, writeLocked, writeLocks}
 use Rattle.rules.specs.Works.{arrayRange, finished, finish}
 use Rattle.rules.specs.Frames.{formOf, opcode, address}
+use Rattle.rules.specs.Bursts.{burstLength}
 use Rattle.rules.specs.Reading.{known, unknown, silent, placeCell, shown, reply}
 use Rattle.rules.specs.Fields.{chipOf, withEnable}
 use Rattle.rules.specs.Commands.{act, bufferAfter, settled, rested, bufferRested}
@@ -32,6 +33,7 @@ use Rattle.rules.specs.Demands.{eventsOf, outcomesOf, keyPlace, Uncut, K
 use Rattle.rules.proofs.Bools.{and-split, never}
 use Rattle.rules.proofs.Bits.{bit-or}
 use Rattle.rules.proofs.Blocks.{unlocked-place}
+use Rattle.rules.proofs.Bursts.{burst-in-array, lengths-divide}
 use Rattle.rules.proofs.Effects.{finish-outside}
 use Rattle.rules.proofs.Numbers.{Accepted, accepted, completion-given}
 use Rattle.rules.proofs.Rows.{opcodesOf, by-kind, at-each, at-one}
@@ -69,6 +71,7 @@ module _ (r : Rest) (sent : List ℕ) (d : r .flags .wpld ≡ true) where
   kind-stands (Kind.Do Short.ClearLocks) = (λ a. absurd (refused (r .flags .wpld) d (a .opened))) next end
   kind-stands (Kind.Do Short.Suspend) = (λ a. (d, refl)) next end
   kind-stands (Kind.Do Short.Resume) = (λ a. (d, refl)) next end
+  kind-stands (Kind.Do Short.SetBurst) = (λ a. (d, refl)) next end
 
   stands : Accepted r (opcode sent) sent → Stands r (act (formOf (opcode sent) .kind) sent (withEnable false r))
   stands a =
@@ -156,6 +159,8 @@ module _ (p₀ : ℕ) where
     shown-same Source.Protection sent i = refl
     shown-same Source.Identity sent i = refl
     shown-same Source.Array sent i = cell-same (arrayRange (s .chip .rest .works .suspended)) ((address sent + i) % arraySize) (omega arith)
+    shown-same Source.ArrayBurst sent i =
+        cell-same (arrayRange (s .chip .rest .works .suspended)) _ (burst-in-array (burstLength (s .chip .rest .burst)) (address sent) i (lengths-divide (s .chip .rest .burst)) (omega arith))
     shown-same Source.Security sent i = refl
 
     reply-same : (k : Kind) (sent : List ℕ) (i : ℕ) → reply k (s .chip .rest) (s .array) (s .security) sent i ≡ reply k (s .chip .rest) (with-bytes s g .array) (s .security) sent i

@@ -3,6 +3,7 @@ pub mod Bools
 pub mod Arms
 pub mod Bits
 pub mod Blocks
+pub mod Bursts
 pub mod Fields
 pub mod Registers
 pub mod Numbers

@@ -1,8 +1,8 @@
--- A number is given exactly when its condition holds and no condition before it in the list does; in the base it is also the lowest whose
--- condition holds. Assumes nothing.
+-- A number is given exactly when its condition holds and no condition before it in the list does; it is also the lowest whose condition holds,
+-- though 13 is tested before 8 to 11: no frame meets 13 and one of these. Assumes nothing.
 use Prim.Native.Nat.{ℕ, _≤_, _<_}
-use mathlib.Core.Path.{_≡_, refl, sym, ap, _∙_}
-use mathlib.Core.Bool.{Bool, true, false, not, _&&_, true≢false, false≢true}
+use mathlib.Core.Path.{_≡_, refl, sym, ap, _∙_, subst}
+use mathlib.Core.Bool.{Bool, true, false, not, _&&_, _||_, true≢false, false≢true}
 use mathlib.Core.List.{List, [], _∷_}
 use mathlib.Core.Logic.{_↔_, _⊎_, inl, inr}
 use native.Mathlib.Omega.{arith}
@@ -14,9 +14,10 @@ use Rattle.rules.specs.Words.{pick, oneOf, every}
 use Rattle.rules.specs.Blocks.{arraySize, securitySize}
 use Rattle.rules.specs.WellFormed.{wellFormed}
 use Rattle.rules.specs.Frames.{formOf, listed, lengthRight, opcode}
-use Rattle.rules.specs.Numbers.{State, Frame, stateRight, frameRight, whileBusy, noEnable, noIoc, suspension, noWel, closed, lockedTarget, Test, first, commandTests, frameTests, completionTests, cutTests}
+use Rattle.rules.specs.Numbers.{State, Frame, stateRight, frameRight, whileBusy, noEnable, noIoc, noSuchBurst, suspension, noWel, closed, lockedTarget, Test, test, first, commandTests, frameTests, completionTests, cutTests}
 use Rattle.rules.specs.Machine.{frame, completion, powerCut}
-use Rattle.rules.specs.Given.{RightState, RightFrame, RightSizes, before, conditionOf, None, FrameGiven, CompletionGiven, CutGiven}
+use Rattle.rules.specs.Registers.{wse, wsp}
+use Rattle.rules.specs.Given.{frameOrder, RightState, RightFrame, RightSizes, before, conditionOf, None, FrameGiven, CompletionGiven, CutGiven}
 use Rattle.rules.proofs.Bools.{and-split, and-both, not-intro, or-right}
 
 -- ---- the first of any list of tests that has no number twice
@@ -169,11 +170,13 @@ frame-given s f =
       is-5 = at 5 (λ z. omega arith);
       is-6 = at 6 (λ z. omega arith);
       is-7 = at 7 (λ z. omega arith);
+      is-13 = at 13 (λ z. omega arith);
       is-8 = at 8 (λ z. omega arith);
       is-9 = at 9 (λ z. omega arith);
       is-10 = at 10 (λ z. omega arith);
       is-11 = at 11 (λ z. omega arith);
-      no-other = first-among (1 ∷ 2 ∷ 3 ∷ 4 ∷ 5 ∷ 6 ∷ 7 ∷ 8 ∷ 9 ∷ 10 ∷ 11 ∷ []) (frameTests s f) refl;
+      no-other = first-among frameOrder (frameTests s f) refl;
+      in-order = refl;
     }
 
 -- ---- of a completion and of a power cut
@@ -203,47 +206,84 @@ cut-given s k =
       no-other = first-among (1 ∷ []) (cutTests s) refl;
     }
 
--- ---- "If several apply to an event, the lowest is given": in the base the numbers rise along the list
+-- ---- "If several apply to an event, the lowest is given"
 
-abbrev rising : ℕ → List Test → Bool
-rising m [] = true
-rising m (t ∷ ts) = ltb m (t .number) && rising (t .number) ts
-
-above : (m : ℕ) (ts : List Test) → rising m ts ≡ true → (n : ℕ) → conditionOf n ts ≡ true → m < n
+-- what holds later is above m where every later number is
+above : (m : ℕ) (ts : List Test) → every (λ t. ltb m (t .number)) ts ≡ true → (n : ℕ) → conditionOf n ts ≡ true → m ≤ n
 above m [] e n c = absurd (false≢true c)
-above m (t ∷ ts) e n c = go (eqb n (t .number)) refl c (above (t .number) ts (h .1) n)
+above m (t ∷ ts) e n c = go (eqb n (t .number)) refl c (above m ts (h .1) n)
   where
-    h : (ltb m (t .number) ≡ true) × (rising (t .number) ts ≡ true)
-    h = and-split (ltb m (t .number)) (rising (t .number) ts) e
+    h : (ltb m (t .number) ≡ true) × (every (λ t. ltb m (t .number)) ts ≡ true)
+    h = and-split (ltb m (t .number)) (every (λ t. ltb m (t .number)) ts) e
 
-    low : m < t .number
-    low = ltb-true m (t .number) (h .0)
+    go : (b : Bool) → eqb n (t .number) ≡ b → pick b (t .applies) (conditionOf n ts) ≡ true → (conditionOf n ts ≡ true → m ≤ n) → m ≤ n
+    go true k c ih = let l = ltb-true m (t .number) (h .0) in let q = eqb-true n (t .number) k in omega arith
+    go false k c ih = ih c
 
-    go : (b : Bool) → eqb n (t .number) ≡ b → pick b (t .applies) (conditionOf n ts) ≡ true → (conditionOf n ts ≡ true → t .number < n) → m < n
-    go true k c ih = let l = low in let q = eqb-true n (t .number) k in omega arith
-    go false k c ih = let l = low in let q = ih c in omega arith
-
-first-lowest : (m : ℕ) (ts : List Test) → rising m ts ≡ true → (n : ℕ) → conditionOf n ts ≡ true → first ts ≤ n
-first-lowest m [] e n c = absurd (false≢true c)
-first-lowest m (t ∷ ts) e n c = go (eqb n (t .number)) refl (t .applies) refl c (first-lowest (t .number) ts (h .1) n)
+-- nothing holds later
+none-later : (ts : List Test) → None ts → (n : ℕ) → conditionOf n ts ≡ true → ⊥
+none-later [] e n c = false≢true c
+none-later (t ∷ ts) e n c = go (eqb n (t .number)) c (none-later ts (e .1) n)
   where
-    h : (ltb m (t .number) ≡ true) × (rising (t .number) ts ≡ true)
-    h = and-split (ltb m (t .number)) (rising (t .number) ts) e
+    go : (b : Bool) → pick b (t .applies) (conditionOf n ts) ≡ true → (conditionOf n ts ≡ true → ⊥) → ⊥
+    go true c ih = true≢false (sym c ∙ e .0)
+    go false c ih = ih c
 
-    go : (b : Bool) → eqb n (t .number) ≡ b → (a : Bool) → t .applies ≡ a → pick b (t .applies) (conditionOf n ts) ≡ true
-        → (conditionOf n ts ≡ true → first ts ≤ n) → pick a (t .number) (first ts) ≤ n
-    go true k true r c ih = let q = eqb-true n (t .number) k in omega arith
-    go true k false r c ih = absurd (true≢false (sym c ∙ r))
-    go false k true r c ih = let q = above (t .number) ts (h .1) n c in omega arith
-    go false k false r c ih = ih c
+-- each test has a number below those after it, or excludes them all
+data Ordered : List Test → Type 0 where
+  none : Ordered []
+  below : {t : Test} {ts : List Test} → every (λ u. ltb (t .number) (u .number)) ts ≡ true → Ordered ts → Ordered (t ∷ ts)
+  alone : {t : Test} {ts : List Test} → (t .applies ≡ true → None ts) → Ordered ts → Ordered (t ∷ ts)
+
+-- what is given is no larger than what holds
+lower : (t : Test) (ts : List Test) (n : ℕ) → conditionOf n (t ∷ ts) ≡ true → (conditionOf n ts ≡ true → first ts ≤ n) → (t .applies ≡ true → conditionOf n ts ≡ true → t .number ≤ n)
+    → first (t ∷ ts) ≤ n
+lower t ts n c later here = go (eqb n (t .number)) refl (t .applies) refl c
+  where
+    go : (b : Bool) → eqb n (t .number) ≡ b → (a : Bool) → t .applies ≡ a → pick b (t .applies) (conditionOf n ts) ≡ true → pick a (t .number) (first ts) ≤ n
+    go true k true r c = let q = eqb-true n (t .number) k in omega arith
+    go true k false r c = absurd (true≢false (sym c ∙ r))
+    go false k true r c = here r c
+    go false k false r c = later c
+
+first-lowest : (ts : List Test) → Ordered ts → (n : ℕ) → conditionOf n ts ≡ true → first ts ≤ n
+first-lowest [] o n c = absurd (false≢true c)
+first-lowest (t ∷ ts) (below e o) n c = lower t ts n c (first-lowest ts o n) (λ r d. above (t .number) ts e n d)
+first-lowest (t ∷ ts) (alone e o) n c = lower t ts n c (first-lowest ts o n) (λ r d. absurd (none-later ts (e r) n d))
+
+-- a C0 meets none of 8 to 11
+abbrev later : Rest → ℕ → List ℕ → List Test
+later r o sent = test 8 (suspension r o sent) ∷ test 9 (noWel r o) ∷ test 10 (closed r o sent) ∷ test 11 (lockedTarget r o sent) ∷ []
+
+after-13 : (r : Rest) (o : ℕ) (sent : List ℕ) → noSuchBurst o sent ≡ true → None (later r o sent)
+after-13 r o sent e = subst (λ (o : ℕ). None (later r o sent)) (sym c0) (neither (wse r) (wsp r), (refl, (refl, (refl, tt))))
+  where
+    only : (b : Bool) → (b || false) ≡ true → b ≡ true
+    only true q = refl
+    only false q = q
+
+    c0 : o ≡ 0xC0
+    c0 = eqb-true o 0xC0 (only (eqb o 0xC0) (and-split (oneOf o (0xC0 ∷ [])) _ e .0))
+
+    neither : (x y : Bool) → (x && false || y && false) ≡ false
+    neither true true = refl
+    neither true false = refl
+    neither false true = refl
+    neither false false = refl
 
 pub frame-lowest : (s : State) (f : Frame) (n : ℕ) → conditionOf n (frameTests s f) ≡ true → frame s f .number ≤ n
 unfolding frame frameTests commandTests
-frame-lowest s f n c = first-lowest 0 (frameTests s f) refl n c
+frame-lowest s f n c = first-lowest (frameTests s f) ordered n c
+  where
+    ordered : Ordered (frameTests s f)
+    ordered =
+        below refl (below refl (below refl (below refl (below refl (below refl (below refl
+        (alone (after-13 (s .chip .rest) (opcode (f .sent)) (f .sent))
+        (below refl (below refl (below refl (below refl none)))))))))))
 
 pub completion-lowest : (s : State) (n : ℕ) → conditionOf n (completionTests s) ≡ true → completion s .number ≤ n
 unfolding completion completionTests
-completion-lowest s n c = first-lowest 0 (completionTests s) refl n c
+completion-lowest s n c = first-lowest (completionTests s) (below refl (below refl none)) n c
 
 -- ---- what is known of a done frame
 
@@ -253,6 +293,7 @@ pub record Accepted (r : Rest) (o : ℕ) (sent : List ℕ) : Type 0 where
   pub calm : whileBusy r o ≡ false
   pub enabled : noEnable r o ≡ false
   pub wired : noIoc r o ≡ false
+  pub four : noSuchBurst o sent ≡ false
   pub apart : suspension r o sent ≡ false
   pub latched : noWel r o ≡ false
   pub opened : closed r o sent ≡ false
@@ -268,10 +309,11 @@ accepted s f e =
       calm = c .1 .1 .1 .1 .0;
       enabled = c .1 .1 .1 .1 .1 .0;
       wired = c .1 .1 .1 .1 .1 .1 .0;
-      apart = c .1 .1 .1 .1 .1 .1 .1 .0;
-      latched = c .1 .1 .1 .1 .1 .1 .1 .1 .0;
-      opened = c .1 .1 .1 .1 .1 .1 .1 .1 .1 .0;
-      bare = c .1 .1 .1 .1 .1 .1 .1 .1 .1 .1 .0;
+      four = c .1 .1 .1 .1 .1 .1 .1 .0;
+      apart = c .1 .1 .1 .1 .1 .1 .1 .1 .0;
+      latched = c .1 .1 .1 .1 .1 .1 .1 .1 .1 .0;
+      opened = c .1 .1 .1 .1 .1 .1 .1 .1 .1 .1 .0;
+      bare = c .1 .1 .1 .1 .1 .1 .1 .1 .1 .1 .1 .0;
     }
 
 -- the record and the lengths were right

@@ -48,7 +48,8 @@ refusalOf n =
     (pick (ltb n 9) Refusal.Suspension
     (pick (ltb n 10) Refusal.NoWel
     (pick (ltb n 11) Refusal.Closed
-    (pick (ltb n 12) Refusal.WriteLocked Refusal.NothingRuns))))))))))
+    (pick (ltb n 12) Refusal.WriteLocked
+    (pick (ltb n 13) Refusal.NothingRuns Refusal.NoSuchBurst)))))))))))
 
 unfoldable pub answerOf : ℕ → Answer
 answerOf n = pick (ltb n 1) Answer.Done (Answer.Refused (refusalOf n))
@@ -68,6 +69,7 @@ answer-back (Answer.Refused Refusal.NoWel) = refl
 answer-back (Answer.Refused Refusal.Closed) = refl
 answer-back (Answer.Refused Refusal.WriteLocked) = refl
 answer-back (Answer.Refused Refusal.NothingRuns) = refl
+answer-back (Answer.Refused Refusal.NoSuchBurst) = refl
 
 pub answer-one : (a b : Answer) → answerNumber a ≡ answerNumber b → a ≡ b
 answer-one a b e = sym (answer-back a) ∙ ap answerOf e ∙ answer-back b

@@ -5,6 +5,7 @@ use mathlib.Core.Path.{_≡_, refl, sym, ap, _∙_}
 use mathlib.Core.Bool.{Bool, true, false, not, _&&_}
 use mathlib.Core.List.{List, [], _∷_}
 use lib.Dec.{eqb}
+use Rattle.rules.specs.declared.Burst.{Burst}
 use Rattle.rules.specs.declared.Chip.{Chip}
 use Rattle.rules.specs.declared.Flags.{Flags}
 use Rattle.rules.specs.declared.Work.{Work}
@@ -47,10 +48,16 @@ readWork Work.LockSecurity k = k Work.LockSecurity
 readWork (Work.WriteConfiguration i w) k = readFlag i (λ j. readFlag w (λ v. k (Work.WriteConfiguration j v)))
 readWork (Work.AddPermanent v) k = readNumber v (λ m. k (Work.AddPermanent m))
 
+abbrev readBurst : {A : Type 0} → Burst → (Burst → A) → A
+readBurst Burst.Eight k = k Burst.Eight
+readBurst Burst.Sixteen k = k Burst.Sixteen
+readBurst Burst.ThirtyTwo k = k Burst.ThirtyTwo
+readBurst Burst.SixtyFour k = k Burst.SixtyFour
+
 unfoldable pub readChip : {A : Type 0} → Chip → (Chip → A) → A
 readChip c k =
     readBytes (c .buffer) (λ b. readNumber (c .rest .locks .protection) (λ p. readNumber (c .rest .locks .permanent) (λ q. readWork (c .rest .works .running) (λ r. readWork (c .rest .works .suspended) (λ s.
-    readNumber (flagsNumber (c .rest .flags)) (λ f. k (chipOf b (restOf (locksOf p q) (worksOf r s) (flagsIn f)))))))))
+    readNumber (flagsNumber (c .rest .flags)) (λ f. readBurst (c .rest .burst) (λ n. k (chipOf b (restOf (locksOf p q) (worksOf r s) (flagsIn f) n)))))))))
 
 readFlag-is : {A : Type 0} (b : Bool) (k : Bool → A) → readFlag b k ≡ k b
 readFlag-is true k = refl
@@ -75,11 +82,17 @@ readWork-is Work.LockSecurity k = refl
 readWork-is (Work.WriteConfiguration i w) k = readFlag-is i _ ∙ readFlag-is w _
 readWork-is (Work.AddPermanent v) k = readNumber-is v _
 
+readBurst-is : {A : Type 0} (b : Burst) (k : Burst → A) → readBurst b k ≡ k b
+readBurst-is Burst.Eight k = refl
+readBurst-is Burst.Sixteen k = refl
+readBurst-is Burst.ThirtyTwo k = refl
+readBurst-is Burst.SixtyFour k = refl
+
 readChip-is : {A : Type 0} (c : Chip) (k : Chip → A) → readChip c k ≡ k c
 unfolding readChip
 readChip-is c k =
     readBytes-is (c .buffer) _ ∙ readNumber-is (c .rest .locks .protection) _ ∙ readNumber-is (c .rest .locks .permanent) _ ∙ readWork-is (c .rest .works .running) _ ∙ readWork-is (c .rest .works .suspended) _
-    ∙ readNumber-is (flagsNumber (c .rest .flags)) _ ∙ ap (λ (f : Flags). k (chipOf (c .buffer) (restOf (c .rest .locks) (c .rest .works) f))) (flags-back (c .rest .flags) .1)
+    ∙ readNumber-is (flagsNumber (c .rest .flags)) _ ∙ readBurst-is (c .rest .burst) _ ∙ ap (λ (f : Flags). k (chipOf (c .buffer) (restOf (c .rest .locks) (c .rest .works) f (c .rest .burst)))) (flags-back (c .rest .flags) .1)
 
 -- ---- the machine where record and lengths are right
 

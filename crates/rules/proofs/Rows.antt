@@ -42,6 +42,7 @@ opcodesOf (Kind.Show Source.Configuration) = 0x35 ∷ []
 opcodesOf (Kind.Show Source.Protection) = 0x72 ∷ []
 opcodesOf (Kind.Show Source.Identity) = 0x9F ∷ 0xAF ∷ []
 opcodesOf (Kind.Show Source.Array) = 0x03 ∷ 0x0B ∷ 0x6B ∷ []
+opcodesOf (Kind.Show Source.ArrayBurst) = 0x0C ∷ 0xEC ∷ []
 opcodesOf (Kind.Show Source.Security) = 0x88 ∷ []
 opcodesOf (Kind.Begin Long.Sector) = 0x20 ∷ []
 opcodesOf (Kind.Begin Long.Block) = 0xD8 ∷ []
@@ -63,6 +64,7 @@ opcodesOf (Kind.Do Short.LockDown) = 0x8D ∷ []
 opcodesOf (Kind.Do Short.ClearLocks) = 0x98 ∷ []
 opcodesOf (Kind.Do Short.Suspend) = 0xB0 ∷ []
 opcodesOf (Kind.Do Short.Resume) = 0x30 ∷ []
+opcodesOf (Kind.Do Short.SetBurst) = 0xC0 ∷ []
 
 each-row : every (λ r. oneOf (r .opcode) (opcodesOf (r .form .kind))) frames ≡ true
 unfolding frames

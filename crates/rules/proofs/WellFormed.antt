@@ -438,6 +438,7 @@ module _ (c : Chip) (sent : List ℕ) (h : Well c) where
   kind-well (Kind.Do Short.Resume) =
       (λ a. record { registers = h .registers; works = run-again (c .rest .locks .protection) (c .rest .flags .sec) (c .buffer) (c .rest .works .running) (c .rest .works .suspended) (h .works) (idle _ (a .calm)) })
       next end
+  kind-well (Kind.Do Short.SetBurst) = (λ a. record { registers = h .registers; works = h .works }) next end
 
   done-well : Accepted (c .rest) (opcode sent) sent → Well (after (formOf (opcode sent) .kind) sent c)
   done-well a =

@@ -13,6 +13,7 @@ use Rattle.rules.specs.Words.{num, pick, Each, written}
 use Rattle.rules.specs.Texts.{ascii}
 use Rattle.rules.specs.Blocks.{arraySize, securitySize}
 use Rattle.rules.specs.Works.{arrayRange}
+use Rattle.rules.specs.Bursts.{burstLength}
 use Rattle.rules.specs.Commands.{newChip}
 use Rattle.rules.specs.Numbers.{State}
 use Rattle.rules.specs.Machine.{Outcome, Event, sends, completes, cuts, step, left, run}
@@ -79,7 +80,7 @@ events t = eventsInAll (split (code ",") (ascii t))
 -- ---- what is looked at
 
 -- number; byte i of the reply, and its mark; a place of the array, of the Security ID; the first and last place of the running range;
--- the flags; the two registers; the opcode of what runs, and of what is suspended (00: nothing); byte i of the page buffer
+-- the flags; the two registers; the opcode of what runs, and of what is suspended (00: nothing); byte i of the page buffer; the bytes of a burst
 pub data Look : Type 0 where
   number : Look
   byte : ℕ → Look
@@ -94,6 +95,7 @@ pub data Look : Type 0 where
   runs : Look
   aside : Look
   buffered : ℕ → Look
+  burst : Look
 
 -- the flags of a record, each a number, to be added up
 abbrev pub SQI : ℕ
@@ -148,6 +150,7 @@ seenIn o permanent = o .chip .rest .locks .permanent
 seenIn o runs = opcodeOf (o .chip .rest .works .running)
 seenIn o aside = opcodeOf (o .chip .rest .works .suspended)
 seenIn o (buffered i) = getD (o .chip .buffer) i 0
+seenIn o burst = burstLength (o .chip .rest .burst)
 
 pub record Seen : Type 0 where
   pub look : Look

@@ -1,9 +1,10 @@
--- 01, Long and short; 42, 98, E8; Suspension; Reset; power-up: the record after a command, and after work ends.
+-- 01, Long and short; 42, 98, E8; Suspension; Reset; power-up; 02, W-201, C0: the record after a command, and after work ends.
 use Prim.Native.Nat.{ℕ, _/_}
 use mathlib.Core.Bool.{Bool, true, false}
 use mathlib.Core.List.{List}
 use lib.Dec.{ltb}
 use lib.Bits.{bitAnd, bitOr}
+use Rattle.rules.specs.declared.Burst.{Burst}
 use Rattle.rules.specs.declared.Chip.{Chip}
 use Rattle.rules.specs.declared.Rest.{Rest}
 use Rattle.rules.specs.declared.Short.{Short}
@@ -14,7 +15,8 @@ use Rattle.rules.specs.Words.{bit, pick}
 use Rattle.rules.specs.Blocks.{blockOf, writeLocks, readLocks, allLocks, powerUpLocks}
 use Rattle.rules.specs.Works.{isProgram}
 use Rattle.rules.specs.Frames.{sentByte, address, securityAddress, six}
-use Rattle.rules.specs.Fields.{locksOf, worksOf, restOf, chipOf, noFlags, withProtection, withPermanent, withRunning, withSuspended, withSqi, withWel, withIoc, withWpen, withWpld, withSec, withEnable}
+use Rattle.rules.specs.Bursts.{burstOf}
+use Rattle.rules.specs.Fields.{locksOf, worksOf, restOf, chipOf, noFlags, withProtection, withPermanent, withRunning, withSuspended, withSqi, withWel, withIoc, withWpen, withWpld, withSec, withEnable, withBurst}
 use Rattle.rules.specs.Programs.{blank, pageBuffer, securityBuffer}
 
 -- ---- power-up and reset
@@ -22,17 +24,20 @@ use Rattle.rules.specs.Programs.{blank, pageBuffer, securityBuffer}
 abbrev pub powerUpIoc : Bool
 powerUpIoc = false
 
--- the power-up state: idle, nothing suspended, every flag 0 but for IOC; SEC, WPEN and the permanent register are what they were
+abbrev pub powerUpBurst : Burst
+powerUpBurst = Burst.Eight
+
+-- the power-up state: idle, nothing suspended, every flag 0 but for IOC, the burst 8; SEC, WPEN and the permanent register are what they were
 abbrev pub poweredUp : Bool → Bool → ℕ → Rest
 poweredUp sec wpen permanent =
-    withSec sec (withWpen wpen (withIoc powerUpIoc (restOf (locksOf powerUpLocks permanent) (worksOf Work.Nothing Work.Nothing) noFlags)))
+    withSec sec (withWpen wpen (withIoc powerUpIoc (restOf (locksOf powerUpLocks permanent) (worksOf Work.Nothing Work.Nothing) noFlags powerUpBurst)))
 
 abbrev pub newChip : Chip
 newChip = chipOf blank (poweredUp false false 0)
 
 -- running and suspended work dropped; WPLD, SEC, WPEN and both protection registers stay
 abbrev pub afterReset : Rest → Rest
-afterReset r = withRunning Work.Nothing (withSuspended Work.Nothing (withSqi false (withWel false (withIoc powerUpIoc r))))
+afterReset r = withRunning Work.Nothing (withSuspended Work.Nothing (withSqi false (withWel false (withIoc powerUpIoc (withBurst powerUpBurst r)))))
 
 -- ---- long commands
 
@@ -73,6 +78,7 @@ atOnce Short.LockDown sent r = withWel false (withWpld true r)
 atOnce Short.ClearLocks sent r = withWel false (withProtection (bitOr (bitAnd (r .locks .protection) readLocks) (r .locks .permanent)) r)
 atOnce Short.Suspend sent r = withSuspended (r .works .running) (withRunning Work.Nothing r)
 atOnce Short.Resume sent r = withRunning (r .works .suspended) (withSuspended Work.Nothing r)
+atOnce Short.SetBurst sent r = withBurst (burstOf (sentByte sent 1)) r
 
 abbrev pub act : Kind → List ℕ → Rest → Rest
 act (Kind.Show s) sent r = r
@@ -93,6 +99,7 @@ bufferAtOnce Short.LockDown b = b
 bufferAtOnce Short.ClearLocks b = b
 bufferAtOnce Short.Suspend b = b
 bufferAtOnce Short.Resume b = b
+bufferAtOnce Short.SetBurst b = b
 
 abbrev pub bufferAfter : Kind → List ℕ → List ℕ → List ℕ
 bufferAfter (Kind.Show s) sent b = b

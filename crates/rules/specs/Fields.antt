@@ -2,6 +2,7 @@
 use Prim.Native.Nat.{ℕ, _+_, _*_}
 use mathlib.Core.Bool.{Bool, false}
 use mathlib.Core.List.{List}
+use Rattle.rules.specs.declared.Burst.{Burst}
 use Rattle.rules.specs.declared.Chip.{Chip}
 use Rattle.rules.specs.declared.Flags.{Flags}
 use Rattle.rules.specs.declared.Locks.{Locks}
@@ -24,8 +25,8 @@ flagsOf sqi wel ioc wpen wpld sec enable = record { sqi = sqi; wel = wel; ioc = 
 abbrev pub noFlags : Flags
 noFlags = flagsOf false false false false false false false
 
-abbrev pub restOf : Locks → Works → Flags → Rest
-restOf l w f = record { locks = l; works = w; flags = f }
+abbrev pub restOf : Locks → Works → Flags → Burst → Rest
+restOf l w f b = record { locks = l; works = w; flags = f; burst = b }
 
 abbrev pub chipOf : List ℕ → Rest → Chip
 chipOf b r = record { buffer = b; rest = r }
@@ -33,19 +34,19 @@ chipOf b r = record { buffer = b; rest = r }
 -- ---- with one field set
 
 abbrev pub withProtection : ℕ → Rest → Rest
-withProtection p r = restOf (locksOf p (r .locks .permanent)) (r .works) (r .flags)
+withProtection p r = restOf (locksOf p (r .locks .permanent)) (r .works) (r .flags) (r .burst)
 
 abbrev pub withPermanent : ℕ → Rest → Rest
-withPermanent q r = restOf (locksOf (r .locks .protection) q) (r .works) (r .flags)
+withPermanent q r = restOf (locksOf (r .locks .protection) q) (r .works) (r .flags) (r .burst)
 
 abbrev pub withRunning : Work → Rest → Rest
-withRunning w r = restOf (r .locks) (worksOf w (r .works .suspended)) (r .flags)
+withRunning w r = restOf (r .locks) (worksOf w (r .works .suspended)) (r .flags) (r .burst)
 
 abbrev pub withSuspended : Work → Rest → Rest
-withSuspended w r = restOf (r .locks) (worksOf (r .works .running) w) (r .flags)
+withSuspended w r = restOf (r .locks) (worksOf (r .works .running) w) (r .flags) (r .burst)
 
 abbrev pub withFlags : Flags → Rest → Rest
-withFlags f r = restOf (r .locks) (r .works) f
+withFlags f r = restOf (r .locks) (r .works) f (r .burst)
 
 abbrev pub withSqi : Bool → Rest → Rest
 withSqi b r = withFlags (flagsOf b (r .flags .wel) (r .flags .ioc) (r .flags .wpen) (r .flags .wpld) (r .flags .sec) (r .flags .enable)) r
@@ -67,6 +68,9 @@ withSec b r = withFlags (flagsOf (r .flags .sqi) (r .flags .wel) (r .flags .ioc)
 
 abbrev pub withEnable : Bool → Rest → Rest
 withEnable b r = withFlags (flagsOf (r .flags .sqi) (r .flags .wel) (r .flags .ioc) (r .flags .wpen) (r .flags .wpld) (r .flags .sec) b) r
+
+abbrev pub withBurst : Burst → Rest → Rest
+withBurst b r = restOf (r .locks) (r .works) (r .flags) b
 
 -- ---- the flags as bits, from bit 0 on: SQI, WEL, IOC, WPEN, WPLD, SEC, and whether a 99 is taken next
 

@@ -1,4 +1,4 @@
--- 01, Frames: the table, a row for each opcode, and the addresses.
+-- 01, Frames: the table, a row for each opcode, and the addresses. The last rows are 02's.
 use Prim.Native.Nat.{ℕ, _+_, _*_, _%_, _^_}
 use mathlib.Core.Bool.{Bool, true, false, not, _&&_, _||_}
 use mathlib.Core.List.{List, [], _∷_}
@@ -49,6 +49,10 @@ frames =
     ∷ row 0x42 (Do Short.WriteProtection) 7 7 ∷ row 0xE8 (Begin Long.Permanent) 7 7
     ∷ row 0x8D (Do Short.LockDown) 1 1 ∷ row 0x98 (Do Short.ClearLocks) 1 1
     ∷ row 0xB0 (Do Short.Suspend) 1 1 ∷ row 0x30 (Do Short.Resume) 1 1
+    -- W-201
+    ∷ row 0xC0 (Do Short.SetBurst) 2 2
+    ∷ row 0x0C (Show Source.ArrayBurst) 0 7
+    ∷ row 0xEC (Show Source.ArrayBurst) 7 0
     ∷ []
 
 -- the form of an opcode; in no protocol where it is not listed

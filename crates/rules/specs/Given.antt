@@ -2,14 +2,14 @@
 use Prim.Native.Nat.{ℕ, _≤_}
 use mathlib.Core.Path.{_≡_}
 use mathlib.Core.Bool.{Bool, true, false}
-use mathlib.Core.List.{List, [], _∷_}
+use mathlib.Core.List.{List, [], _∷_, map}
 use mathlib.Core.Logic.{_↔_}
 use lib.Dec.{eqb}
 use lib.ListN.{length}
 use Rattle.rules.specs.Words.{pick, oneOf}
 use Rattle.rules.specs.Frames.{opcode}
 use Rattle.rules.specs.WellFormed.{wellFormed}
-use Rattle.rules.specs.Numbers.{State, Frame, stateRight, malformed, emptyFrame, notListed, wrongLength, whileBusy, noEnable, noIoc, suspension, noWel, closed, lockedTarget, nothingRuns, Test, frameTests}
+use Rattle.rules.specs.Numbers.{State, Frame, stateRight, malformed, emptyFrame, notListed, wrongLength, whileBusy, noEnable, noIoc, noSuchBurst, suspension, noWel, closed, lockedTarget, nothingRuns, Test, frameTests}
 use Rattle.rules.specs.Machine.{frame, completion, powerCut}
 
 -- ---- 1: "record not well-formed, or a length outside Sizes (every event)"
@@ -45,9 +45,13 @@ abbrev pub None : List Test → Type 0
 None [] = Unit {0}
 None (t ∷ ts) = (t .applies ≡ false) × None ts
 
+-- the order in which a frame's are tested: 13 after 7
+abbrev pub frameOrder : List ℕ
+frameOrder = 1 ∷ 2 ∷ 3 ∷ 4 ∷ 5 ∷ 6 ∷ 7 ∷ 13 ∷ 8 ∷ 9 ∷ 10 ∷ 11 ∷ []
+
 -- the numbers that an event can get
 abbrev pub frameNumbers : List ℕ
-frameNumbers = 0 ∷ 1 ∷ 2 ∷ 3 ∷ 4 ∷ 5 ∷ 6 ∷ 7 ∷ 8 ∷ 9 ∷ 10 ∷ 11 ∷ []
+frameNumbers = 0 ∷ frameOrder
 
 abbrev pub completionNumbers : List ℕ
 completionNumbers = 0 ∷ 1 ∷ 12 ∷ []
@@ -64,11 +68,13 @@ pub record FrameGiven (s : State) (f : Frame) : Type 0 where
   pub is-5 : (frame s f .number ≡ 5) ↔ (None (before 5 (frameTests s f)) × (whileBusy (s .chip .rest) (opcode (f .sent)) ≡ true))
   pub is-6 : (frame s f .number ≡ 6) ↔ (None (before 6 (frameTests s f)) × (noEnable (s .chip .rest) (opcode (f .sent)) ≡ true))
   pub is-7 : (frame s f .number ≡ 7) ↔ (None (before 7 (frameTests s f)) × (noIoc (s .chip .rest) (opcode (f .sent)) ≡ true))
+  pub is-13 : (frame s f .number ≡ 13) ↔ (None (before 13 (frameTests s f)) × (noSuchBurst (opcode (f .sent)) (f .sent) ≡ true))
   pub is-8 : (frame s f .number ≡ 8) ↔ (None (before 8 (frameTests s f)) × (suspension (s .chip .rest) (opcode (f .sent)) (f .sent) ≡ true))
   pub is-9 : (frame s f .number ≡ 9) ↔ (None (before 9 (frameTests s f)) × (noWel (s .chip .rest) (opcode (f .sent)) ≡ true))
   pub is-10 : (frame s f .number ≡ 10) ↔ (None (before 10 (frameTests s f)) × (closed (s .chip .rest) (opcode (f .sent)) (f .sent) ≡ true))
   pub is-11 : (frame s f .number ≡ 11) ↔ (None (before 11 (frameTests s f)) × (lockedTarget (s .chip .rest) (opcode (f .sent)) (f .sent) ≡ true))
   pub no-other : oneOf (frame s f .number) frameNumbers ≡ true
+  pub in-order : map (λ t. t .number) (frameTests s f) ≡ frameOrder
 
 pub record CompletionGiven (s : State) : Type 0 where
   pub is-0 : (completion s .number ≡ 0) ↔ ((stateRight s ≡ true) × (nothingRuns (s .chip .rest) ≡ false))

@@ -1,10 +1,11 @@
--- Document 01 as definitions, in its order. Words hold the tools; Starred holds the cases marked * under one statement.
+-- Document 01 as definitions, in its order; Bursts is document 02's. Words hold the tools; Starred holds the cases marked * under one statement.
 pub mod Words
 pub mod Texts
 pub mod Blocks
 pub mod Works
 pub mod Registers
 pub mod Frames
+pub mod Bursts
 pub mod Reading
 pub mod Programs
 pub mod Fields
@@ -17,6 +18,7 @@ pub mod Promises
 pub mod Demands
 pub mod Cases
 pub mod Starred
+pub mod CasesOfBursts
 pub mod CasesOfReading
 pub mod CasesOfWriting
 pub mod CasesOfEnding

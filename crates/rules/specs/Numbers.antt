@@ -1,8 +1,8 @@
--- 01, Numbers the bench gives back: the conditions, each from its row, and the order in which they are tested.
+-- 01, Numbers the bench gives back; 02, W-201, number 13: the conditions, each from its row, and the order in which they are tested.
 use Prim.Native.Nat.{ℕ, _*_, _/_}
 use mathlib.Core.Bool.{Bool, not, _&&_, _||_}
 use mathlib.Core.List.{List, [], _∷_}
-use lib.Dec.{eqb, leb}
+use lib.Dec.{eqb, ltb, leb}
 use lib.ListN.{length}
 use lib.Bits.{bitAnd}
 use Rattle.rules.specs.declared.Chip.{Chip}
@@ -13,7 +13,8 @@ use Rattle.rules.specs.Words.{pick, oneOf, range, holds, Lent}
 use Rattle.rules.specs.Blocks.{arraySize, securitySize, blockOf, blockAt, span, writeLocked, writeLocks}
 use Rattle.rules.specs.Works.{isNothing, canSuspend, arrayRange}
 use Rattle.rules.specs.Registers.{busy, wse, wsp}
-use Rattle.rules.specs.Frames.{formOf, listed, lengthRight, opcode, address}
+use Rattle.rules.specs.Frames.{formOf, listed, lengthRight, sentByte, opcode, address}
+use Rattle.rules.specs.Bursts.{lastBurst}
 use Rattle.rules.specs.Programs.{reachesFirst}
 use Rattle.rules.specs.WellFormed.{wellFormed}
 
@@ -32,6 +33,7 @@ refusalNumber Refusal.NoWel = 9
 refusalNumber Refusal.Closed = 10
 refusalNumber Refusal.WriteLocked = 11
 refusalNumber Refusal.NothingRuns = 12
+refusalNumber Refusal.NoSuchBurst = 13
 
 abbrev pub answerNumber : Answer → ℕ
 answerNumber Answer.Done = 0
@@ -81,9 +83,9 @@ whileBusy r o = busy r && not (oneOf o (0x05 ∷ 0x66 ∷ 0x99 ∷ 0xB0 ∷ []))
 abbrev pub noEnable : Rest → ℕ → Bool
 noEnable r o = oneOf o (0x99 ∷ []) && not (r .flags .enable)
 
--- 7: 6B or 32 with IOC 0
+-- 7: 6B, 32 or EC with IOC 0
 abbrev pub noIoc : Rest → ℕ → Bool
-noIoc r o = oneOf o (0x6B ∷ 0x32 ∷ []) && not (r .flags .ioc)
+noIoc r o = oneOf o (0x6B ∷ 0x32 ∷ 0xEC ∷ []) && not (r .flags .ioc)
 
 -- 8, clause by clause
 -- B0 unless 20, D8, 02 or 32 runs and nothing is suspended
@@ -138,6 +140,10 @@ lockedTarget r o sent =
 abbrev pub nothingRuns : Rest → Bool
 nothingRuns r = isNothing (r .works .running)
 
+-- 13: a C0 byte above 03
+abbrev pub noSuchBurst : ℕ → List ℕ → Bool
+noSuchBurst o sent = oneOf o (0xC0 ∷ []) && ltb lastBurst (sentByte sent 1)
+
 -- ---- the order
 
 -- a number and its condition
@@ -161,6 +167,7 @@ commandTests r sent =
     ∷ test 5 (whileBusy r (opcode sent))
     ∷ test 6 (noEnable r (opcode sent))
     ∷ test 7 (noIoc r (opcode sent))
+    ∷ test 13 (noSuchBurst (opcode sent) sent)
     ∷ test 8 (suspension r (opcode sent) sent)
     ∷ test 9 (noWel r (opcode sent))
     ∷ test 10 (closed r (opcode sent) sent)

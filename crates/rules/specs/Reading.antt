@@ -7,7 +7,7 @@ use Rattle.rules.specs.declared.Cell.{Cell}
 use Rattle.rules.specs.declared.Rest.{Rest}
 use Rattle.rules.specs.declared.Range.{Range}
 use Rattle.rules.specs.declared.Source.{Source}
-use Rattle.rules.specs.declared.Source.the-variants.{Status, Configuration, Protection, Identity, Array, Security}
+use Rattle.rules.specs.declared.Source.the-variants.{Status, Configuration, Protection, Identity, Array, ArrayBurst, Security}
 use Rattle.rules.specs.declared.Kind.{Kind}
 use Rattle.rules.specs.declared.Kind.the-variants.{Show, Begin, Do}
 use Rattle.rules.specs.Words.{pick, holds, Lent}
@@ -15,6 +15,7 @@ use Rattle.rules.specs.Blocks.{arraySize, securitySize, readLocked}
 use Rattle.rules.specs.Works.{arrayRange}
 use Rattle.rules.specs.Registers.{status, configuration}
 use Rattle.rules.specs.Frames.{address, securityAddress}
+use Rattle.rules.specs.Bursts.{burstLength, burstPlace}
 
 abbrev pub known : ℕ → Cell
 known b = record { byte = b; mark = 1 }
@@ -37,6 +38,8 @@ shown Configuration r array security sent i = known (configuration r)
 shown Protection r array security sent i = known (pick (ltb i 6) (r .locks .protection / 2 ^ (8 * (5 - i)) % 256) 0)
 shown Identity r array security sent i = known (getD (0xBF ∷ 0x26 ∷ 0x51 ∷ []) (i % 3) 0)
 shown Array r array security sent i = placeCell (r .locks .protection) (arrayRange (r .works .suspended)) array ((address sent + i) % arraySize)
+shown ArrayBurst r array security sent i =
+    placeCell (r .locks .protection) (arrayRange (r .works .suspended)) array (burstPlace (burstLength (r .burst)) (address sent) i)
 shown Security r array security sent i = known (security .byte ((securityAddress sent + i) % securitySize))
 
 -- byte i of the reply to a done frame

@@ -40,11 +40,20 @@ pub struct Flags {
     pub enable: bool,
 }
 
+// How many bytes a burst read goes round in.
+pub enum Burst {
+    Eight,
+    Sixteen,
+    ThirtyTwo,
+    SixtyFour,
+}
+
 // The chip record without its page buffer.
 pub struct Rest {
     pub locks: Locks,
     pub works: Works,
     pub flags: Flags,
+    pub burst: Burst,
 }
 
 // The chip record.
@@ -53,7 +62,7 @@ pub struct Chip {
     pub rest: Rest,
 }
 
-// Why an event is refused: document 01's list, in its order.
+// Why an event is refused: document 01's list, in its order, then document 02's numbers.
 pub enum Refusal {
     Malformed,
     Empty,
@@ -67,6 +76,7 @@ pub enum Refusal {
     Closed,
     WriteLocked,
     NothingRuns,
+    NoSuchBurst,
 }
 
 pub enum Answer {
@@ -93,6 +103,7 @@ pub enum Source {
     Protection,
     Identity,
     Array,
+    ArrayBurst,
     Security,
 }
 
@@ -122,6 +133,7 @@ pub enum Short {
     ClearLocks,
     Suspend,
     Resume,
+    SetBurst,
 }
 
 // What an opcode asks for.

@@ -6,8 +6,8 @@ use mathlib.Core.List.{List, [], _∷_}
 use lib.ListN.{replicate, set, take}
 use Rattle.rules.specs.Words.{pick}
 use Rattle.rules.specs.Texts.{ascii}
-use Rattle.grammar.specs.Places.{lineStart, afterByte, afterByteStar, afterBytes, afterReply, afterReplyCount, afterSlash, afterMarkCount, afterEqual, afterExpected, afterTilde, afterExpectedStar, afterExpectedTimes, afterRefuse, lineDone, afterEvent, afterCut, afterQuestion, afterAsked, afterAnswer, afterAnswerTilde, afterAnswerStar, afterAnswerTimes, afterDump, afterDumpId, afterDumpPlace, afterFill, afterFillId, afterFillPlace, afterFillCount, afterLend, afterLendArray, inFields, afterProtect, afterPerm, afterRun, afterAside, afterRunKind, afterAsideKind, afterNoReply, afterNoReplySlash, afterAny, afterAnyStar, afterAnyTimes, afterAnswerAny, afterAnswerAnyStar, afterAnswerAnyTimes}
-use Rattle.grammar.specs.Slots.{verb, wanted, marksGiven, marks, expecting, judged, refused, from, size, filling, ofId, protection, permanent, runKind, runNumber, asideKind, asideNumber, sqi, wel, ioc, wpen, wpld, sec, enable}
+use Rattle.grammar.specs.Places.{lineStart, afterByte, afterByteStar, afterBytes, afterReply, afterReplyCount, afterSlash, afterMarkCount, afterEqual, afterExpected, afterTilde, afterExpectedStar, afterExpectedTimes, afterRefuse, lineDone, afterEvent, afterCut, afterQuestion, afterAsked, afterAnswer, afterAnswerTilde, afterAnswerStar, afterAnswerTimes, afterDump, afterDumpId, afterDumpPlace, afterFill, afterFillId, afterFillPlace, afterFillCount, afterLend, afterLendArray, inFields, afterProtect, afterPerm, afterRun, afterAside, afterRunKind, afterAsideKind, afterNoReply, afterNoReplySlash, afterAny, afterAnyStar, afterAnyTimes, afterAnswerAny, afterAnswerAnyStar, afterAnswerAnyTimes, afterBurst}
+use Rattle.grammar.specs.Slots.{verb, wanted, marksGiven, marks, expecting, judged, refused, from, size, filling, burst, ofId, protection, permanent, runKind, runNumber, asideKind, asideNumber, sqi, wel, ioc, wpen, wpld, sec, enable}
 use Rattle.grammar.specs.Verbs as verbs
 use Rattle.script.specs.declared.Line.{Line}
 use Rattle.script.specs.declared.Reading.{Reading}
@@ -163,6 +163,10 @@ lines =
     (λ l. with runKind 3 (with asideKind 6 (with sqi 1 (with ioc 1 (with wpen 1 (with wpld 1 (with sec 1 l)))))))
     ∷ plain "is run block 3 aside id 4" verbs.is (λ l. with runKind 2 (with runNumber 3 (with asideKind 5 (with asideNumber 4 l))))
     ∷ plain "is run config 0f aside bits 3" verbs.is (λ l. with runKind 7 (with runNumber 0x0F (with asideKind 8 (with asideNumber 3 l))))
+    ∷ plain "record burst 64 wel" verbs.records (λ l. with burst 3 (with wel 1 l))
+    ∷ plain "is burst 32" verbs.is (with burst 2)
+    ∷ plain "is burst 16" verbs.is (with burst 1)
+    ∷ plain "is burst 8" verbs.is alone
     ∷ plain "full" verbs.full alone
     ∷ plain "short" verbs.short alone
     ∷ plain "strict" verbs.strict alone
@@ -205,7 +209,7 @@ wrongLines =
     ∷ wrong "03 > 4 = ??*4" afterAnyTimes "" 0 14
     ∷ wrong "03 > 1 = 11*2*" afterExpectedTimes "*" 1 14
     ∷ wrong "05 > 1 != 00" afterRefuse "=" 1 9
-    ∷ wrong "02 ! 13" afterRefuse "13" 2 6
+    ∷ wrong "02 ! 14" afterRefuse "14" 2 6
     ∷ wrong "new  a chip" lineDone "a" 1 6
     ∷ wrong "new ! 0" lineDone "!" 1 5
     ∷ wrong "done 5" afterEvent "5" 1 6
@@ -237,6 +241,8 @@ wrongLines =
     ∷ wrong "record aside wel" afterAside "wel" 3 14
     ∷ wrong "is run page" afterRunKind "" 0 12
     ∷ wrong "is aside id x" afterAsideKind "x" 1 13
+    ∷ wrong "is burst" afterBurst "" 0 9
+    ∷ wrong "record burst 24" afterBurst "24" 2 14
     ∷ wrong "??" lineStart "??" 2 1
     ∷ wrong "  a remark needs its # where a line begins" lineStart "a" 1 3
     ∷ wrong "a-word-of-more-than-24-bytes-is-shown-by-its-first" lineStart "a-word-of-more-than-24-b" 25 1

@@ -1,6 +1,7 @@
-// A bench chip, the SST26WF016B, written from the rules of the bench chip (document 01) and the part's data sheet (002).
-// One flat state, and three events over it: a frame, a completion, a power cut. The text goes through document 01 in its order;
-// the words in quotation marks are its own. Every function is proved to be safe and to end, and says nothing more than that.
+// A bench chip, the SST26WF016B, written from the rules of the bench chip (document 01), the request for burst reads (W-201)
+// and the part's data sheet (002). One flat state, and three events over it: a frame, a completion, a power cut. The text goes
+// through document 01 in its order; the words in quotation marks are its own, or the request's where a comment says W-201.
+// Every function is proved to be safe and to end, and says nothing more than that.
 ghost use Prim.Native.Nat.{_≤_, _<_};
 
 // What runs (run_) or is suspended (sus_), as a kind and a number:
@@ -23,6 +24,8 @@ pub struct Flat {
     pub sec: bool,
     // the reset enable
     pub enable: bool,
+    // the burst, by the byte that C0 sends for it: 0, 1, 2, 3 for 8, 16, 32, 64 bytes
+    pub burst: u8,
 }
 
 // What an event gives back: its number, 0 for done, and the record after it.
@@ -51,7 +54,7 @@ const WRITE_LOCKS: u64 = 0x5555FFFFFFFF;
 // The read locks: the odd bits of the pairs.
 const READ_LOCKS: u64 = 0xAAAA00000000;
 
-// "A new chip record is the power-up state with SEC 0, WPEN 0 and nothing permanent."
+// "A new chip record is the power-up state with SEC 0, WPEN 0 and nothing permanent." W-201: "Power-up and reset set 8"
 pub fn fresh() -> Flat {
     Flat {
         buffer: [255u8; 256],
@@ -68,6 +71,7 @@ pub fn fresh() -> Flat {
         wpld: false,
         sec: false,
         enable: false,
+        burst: 0,
     }
 }
 
@@ -292,13 +296,14 @@ fn configuration(s: Flat) -> u8 {
 // ---- Frames ----
 
 // In which protocols an opcode is listed: 0 in none, 1 in both, 2 "SPI only", 3 "SQI only".
+// W-201: C0 "in both protocols", "0C (SQI) and EC (SPI, IOC 1)"
 fn protocols(opcode: u8) -> u8 {
     match opcode {
-        0x38 | 0x9F | 0x03 | 0x6B | 0x32 => 2,
-        0xAF => 3,
+        0x38 | 0x9F | 0x03 | 0x6B | 0x32 | 0xEC => 2,
+        0xAF | 0x0C => 3,
         0x00 | 0x66 | 0x99 | 0xFF | 0x05 | 0x35 | 0x72 | 0x0B | 0x88 => 1,
         0x06 | 0x04 | 0x20 | 0xD8 | 0xC7 | 0x02 | 0xA5 | 0x85 | 0x01 => 1,
-        0x42 | 0xE8 | 0x8D | 0x98 | 0xB0 | 0x30 => 1,
+        0x42 | 0xE8 | 0x8D | 0x98 | 0xB0 | 0x30 | 0xC0 => 1,
         _ => 0,
     }
 }
@@ -319,10 +324,11 @@ fn either(sqi: bool, in_sqi: usize, in_spi: usize) -> usize {
 }
 
 // The "Length" column: "counts all bytes, opcode included". For "or more" it is the least length.
+// W-201: "C0 takes one data byte", "0C (SQI) and EC (SPI, IOC 1) have length 7"
 fn table_length(opcode: u8, sqi: bool) -> usize {
     match opcode {
         0x05 | 0x35 | 0x72 => either(sqi, 2, 1),
-        0xAF => 2,
+        0xAF | 0xC0 => 2,
         0x03 | 0x20 | 0xD8 => 4,
         0x0B => either(sqi, 7, 5),
         0x6B => 5,
@@ -330,7 +336,7 @@ fn table_length(opcode: u8, sqi: bool) -> usize {
         0x02 | 0x32 => 5,
         0xA5 => 4,
         0x01 => 3,
-        0x42 | 0xE8 => 7,
+        0x42 | 0xE8 | 0x0C | 0xEC => 7,
         _ => 1,
     }
 }
@@ -345,7 +351,9 @@ fn length_listed(opcode: u8, sqi: bool, length: usize) -> bool {
 }
 
 // "Address bytes are highest first; an array address counts modulo 200000"
-fn array_address(sent: &[u8]) -> usize {
+fn array_address(sent: &[u8]) -> usize
+    ensures { λ r. ⌜ r < 2097152 ⌝ }
+{
     let high = number_at(sent, 1);
     let middle = number_at(sent, 2);
     let low = number_at(sent, 3);
@@ -392,7 +400,7 @@ fn identity_byte(i: usize) -> u8 {
 fn replies(opcode: u8) -> bool {
     match opcode {
         0x05 | 0x35 | 0x72 | 0x9F | 0xAF => true,
-        0x03 | 0x0B | 0x6B | 0x88 => true,
+        0x03 | 0x0B | 0x6B | 0x88 | 0x0C | 0xEC => true,
         _ => false,
     }
 }
@@ -462,6 +470,52 @@ fn answer_security(security: &[u8], start: usize, reply: &mut [u8], marks: &mut 
     }
 }
 
+// W-201: "C0 takes one data byte: 00 to 03 set a burst of 8, 16, 32 or 64 bytes". Whether a byte is one of these.
+fn burst_listed(code: u8) -> bool {
+    code <= 3
+}
+
+// And the burst that it sets, in bytes.
+fn burst_size(code: u8) -> usize
+    ensures { λ r. ⌜ (0 < r) × (r ≤ 64) ⌝ }
+{
+    match code {
+        0 => 8,
+        1 => 16,
+        2 => 32,
+        _ => 64,
+    }
+}
+
+// W-201: "start at the address given and wrap within the naturally aligned group of that length". A group begins at a multiple
+// of the length, whatever the length is; the byte i of the reply lies i places on from the start, counted round in the group.
+fn burst_place(start: usize, size: usize, i: usize) -> usize
+    requires { ⌜ start < 2097152 ⌝ }
+    requires { ⌜ 0 < size ⌝ }
+    requires { ⌜ size ≤ 2097152 ⌝ }
+{
+    let within = start % size;
+    let first = start - within;
+    let on = (within + i % size) % size;
+    first + on
+}
+
+// W-201: "Locks and suspended ranges read as before."
+fn answer_burst(s: Flat, array: &[u8], start: usize, reply: &mut [u8], marks: &mut [u8])
+    requires { ⌜ start < 2097152 ⌝ }
+{
+    let n = reply.len();
+    let size = burst_size(s.burst);
+    let mut i = 0;
+    while i < n {
+        let place = burst_place(start, size, i);
+        let out = array_out(s.protection, s.sus_kind, s.sus_number, array, place);
+        put(reply, i, out.value);
+        put(marks, i, out.mark);
+        i += 1;
+    }
+}
+
 fn fill(to: &mut [u8], value: u8) {
     let n = to.len();
     let mut i = 0;
@@ -485,6 +539,7 @@ fn answer(s: Flat, array: &[u8], security: &[u8], sent: &[u8], reply: &mut [u8],
     }
     match opcode {
         0x03 | 0x0B | 0x6B => answer_array(s, array, array_address(sent), reply, marks),
+        0x0C | 0xEC => answer_burst(s, array, array_address(sent), reply, marks),
         0x88 => answer_security(security, security_address(sent), reply, marks),
         _ => answer_register(opcode, s, reply, marks),
     }
@@ -614,12 +669,13 @@ fn dropped(s: Flat) -> Flat {
 }
 
 // "Reset (99): SPI, BUSY, WEL, WSE, WSP 0, IOC at its power-up value, running and suspended work dropped with its target
-// unchanged. WPLD, SEC, WPEN and both protection registers stay."
+// unchanged. WPLD, SEC, WPEN and both protection registers stay." W-201: "Power-up and reset set 8"
 fn reset(s: Flat) -> Flat {
     let mut next = dropped(s);
     next.sqi = false;
     next.wel = false;
     next.ioc = false;
+    next.burst = 0;
     next
 }
 
@@ -641,6 +697,13 @@ fn with_wel(s: Flat, wel: bool) -> Flat {
     next
 }
 
+// W-201: "00 to 03 set a burst of 8, 16, 32 or 64 bytes"
+fn with_burst(s: Flat, burst: u8) -> Flat {
+    let mut next = s;
+    next.burst = burst;
+    next
+}
+
 // The record after a frame that is done; s has its enable used up already.
 fn acted(s: Flat, opcode: u8, sent: &[u8]) -> Flat {
     if work_kind(opcode) != 0 {
@@ -658,6 +721,7 @@ fn acted(s: Flat, opcode: u8, sent: &[u8]) -> Flat {
         0x98 => locks_cleared(s),
         0xB0 => suspended(s),
         0x30 => resumed(s),
+        0xC0 => with_burst(s, byte_at(sent, 1)),
         _ => s,
     }
 }
@@ -752,7 +816,7 @@ fn completed(s: Flat) -> Flat {
 }
 
 // "Then power-up: SPI, WPLD 0, WEL 0, IOC 0, nothing running, no reset enable, protection 5555FFFFFFFF; SEC, WPEN and the
-// permanent register stay." "Suspended work is dropped."
+// permanent register stay." "Suspended work is dropped." W-201: "Power-up and reset set 8"
 fn powered_up(s: Flat) -> Flat {
     let mut next = dropped(s);
     next.sqi = false;
@@ -761,6 +825,7 @@ fn powered_up(s: Flat) -> Flat {
     next.ioc = false;
     next.enable = false;
     next.protection = 0x5555FFFFFFFF;
+    next.burst = 0;
     next
 }
 
@@ -892,6 +957,10 @@ fn well_formed(s: Flat) -> bool {
     if !security_fits(s.run_kind, s.run_number, s.sec, buffer) {
         return false;
     }
+    // W-201: "a well-formed record holds one of these four"
+    if !burst_listed(s.burst) {
+        return false;
+    }
     buffer_fits(s.run_kind, s.sus_kind, buffer)
 }
 
@@ -908,10 +977,18 @@ fn refused_busy(s: Flat, opcode: u8) -> bool {
     }
 }
 
-// 7: "6B or 32 with IOC 0"
+// 7: "6B or 32 with IOC 0", and W-201: "7 now covers EC too"
 fn refused_quad(s: Flat, opcode: u8) -> bool {
     match opcode {
-        0x6B | 0x32 => !s.ioc,
+        0x6B | 0x32 | 0xEC => !s.ioc,
+        _ => false,
+    }
+}
+
+// W-201: "13 for a C0 byte above 03"
+fn refused_burst(opcode: u8, sent: &[u8]) -> bool {
+    match opcode {
+        0xC0 => !burst_listed(byte_at(sent, 1)),
         _ => false,
     }
 }
@@ -1034,10 +1111,13 @@ fn refused_protected(s: Flat, opcode: u8, sent: &[u8]) -> bool {
     }
 }
 
-// "If several apply to an event, the lowest is given." 7 to 11, or 0.
+// "If several apply to an event, the lowest is given." W-201: 13 is "tested after 7". 7, 13, 8 to 11, or 0.
 fn later_refusal(s: Flat, opcode: u8, sent: &[u8]) -> u8 {
     if refused_quad(s, opcode) {
         return 7;
+    }
+    if refused_burst(opcode, sent) {
+        return 13;
     }
     if refused_suspension(s, opcode, sent) {
         return 8;
@@ -1054,7 +1134,7 @@ fn later_refusal(s: Flat, opcode: u8, sent: &[u8]) -> u8 {
     0
 }
 
-// 3 to 11, or 0, for a frame that is not empty.
+// 3 to 11, 13, or 0, for a frame that is not empty.
 fn refusal(s: Flat, sent: &[u8]) -> u8 {
     let opcode = byte_at(sent, 0);
     // 3: "opcode not listed, or not in this protocol"
@@ -1107,7 +1187,7 @@ pub fn frame(
         return given(1, s);
     }
     // "Refusals 2 to 11 fill the reply with FF and the marks with 0; nothing else changes, except that 3 to 11 use up the
-    // reset enable."
+    // reset enable." W-201: 13, "leaving what 3 to 11 leave"
     if sent.len() == 0 {
         no_reply(reply, marks);
         return given(2, s);

@@ -42,6 +42,7 @@ fn part_row(
     let works = rest.works;
     let aside = works.suspended;
     let flags = rest.flags;
+    let burst = rest.burst;
     let before = p.before;
     let old = before.rest;
     let old_works = old.works;
@@ -90,7 +91,7 @@ fn part_row(
         ),
         Part::Configuration => heads::configuration(l.verb, rest),
         Part::Bits => heads::bit(l.verb, rest, i),
-        Part::Protocol => heads::protocol(l.verb, flags.sqi, flags.enable),
+        Part::Protocol => heads::protocol(l.verb, flags.sqi, flags.enable, burst),
         Part::Number => reasons::number(l.verb, p.number),
         Part::Why => reasons::why(
             l.verb,

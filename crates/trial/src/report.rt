@@ -5,7 +5,8 @@ use script::Line;
 use second::Flat;
 use standing::Playing;
 
-// Places of what is counted: frames by opcode, done ones, events by number, by what runs, by what is suspended; the checklist's lines.
+// Places of what is counted: frames by opcode, done ones, events by number, by what runs, by what is suspended; burst reads by their length; the checklist's
+// lines.
 const SENT: usize = 4096;
 
 const DONE: usize = 4352;
@@ -17,6 +18,8 @@ const RUNNING: usize = 4626;
 const SUSPENDED: usize = 4636;
 
 const BESIDE: usize = 4646;
+
+const BURSTS: usize = 4660;
 
 const LINES: usize = 4696;
 
@@ -51,6 +54,9 @@ pub fn event_counted(tally: &mut Counts, before: Flat, l: Line, frame: &[u8], nu
         bump(tally, plus(SENT, opcode));
         if number == 0 {
             bump(tally, plus(DONE, opcode));
+            if (opcode == 0x0c) | (opcode == 0xec) {
+                bump(tally, plus(BURSTS, before.burst as usize));
+            }
         }
     }
 }
@@ -132,7 +138,7 @@ fn untried(tally: &Counts) -> u64 {
 
 pub fn counts_said(tally: &Counts) {
     let listed =
-        b"\x00\x66\x99\x38\xff\x05\x35\x72\x9f\xaf\x03\x0b\x6b\x88\x06\x04\x20\xd8\xc7\x02\x32\xa5\x85\x01\x42\xe8\x8d\x98\xb0\x30";
+        b"\x00\x66\x99\x38\xff\x05\x35\x72\x9f\xaf\x03\x0b\x6b\x88\x06\x04\x20\xd8\xc7\x02\x32\xa5\x85\x01\x42\xe8\x8d\x98\xb0\x30\xc0\x0c\xec";
     let n = untried(tally);
     say_number(b"checklist: lines 1 to 81, not tried: ", n);
     say(b"\n");
@@ -141,7 +147,7 @@ pub fn counts_said(tally: &Counts) {
     kinds_said(
         tally,
         NUMBERS,
-        b"\x00\x01\x02\x03\x04\x05\x06\x07\x08\x09\x0a\x0b\x0c",
+        b"\x00\x01\x02\x03\x04\x05\x06\x07\x08\x09\x0a\x0b\x0c\x0d",
         b"numbers",
     );
     kinds_said(
@@ -157,6 +163,7 @@ pub fn counts_said(tally: &Counts) {
         b"\x00\x01\x02\x04\x05",
         b"work beside a suspension",
     );
+    kinds_said(tally, BURSTS, b"\x00\x01\x02\x03", b"burst reads");
 }
 
 // ---- a line

@@ -13,7 +13,7 @@ use Rattle.rules.specs.declared.Locks.{Locks}
 use Rattle.rules.specs.Words.{pick, oneOf}
 use Rattle.rules.specs.Blocks.{readLocks, unlocked}
 use Rattle.rules.specs.Works.{arrayRange}
-use Rattle.rules.specs.Frames.{formOf, leastLength, opcode}
+use Rattle.rules.specs.Frames.{formOf, leastLength, sentByte, opcode}
 use Rattle.rules.specs.WellFormed.{numbersRight, suspendedRight, besideRight, securityRight}
 use Rattle.writing.specs.declared.Row.{Row}
 use Rattle.page.specs.Page.{form}
@@ -46,7 +46,8 @@ why n c sent r =
     (pick (eqb n 9) (form 72 0 0 0 r)
     (pick (eqb n 10) (closedWhy (c .flags .sec) (opcode sent) r)
     (pick (eqb n 11) (lockedWhy c (opcode sent) sent r)
-    (form 63 0 0 0 r))))))))))
+    (pick (eqb n 13) (form 79 (sentByte sent 1) 0 0 r)
+    (form 63 0 0 0 r)))))))))))
 
 -- ---- 1: which length, or which sentence of a well-formed record
 

@@ -99,6 +99,7 @@ pub fn reason(r: Row, number: u8, c: Rest, sent: &[u8]) -> Row
         9 => form(r, 72, 0, 0, 0),
         10 => closed(r, c.flags.sec, op),
         11 => locked(r, c, op, sent),
+        13 => form(r, 79, opcodes::sent_byte(sent, 1), 0, 0),
         _ => form(r, 63, 0, 0, 0),
     }
 }

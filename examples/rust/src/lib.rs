@@ -51,7 +51,7 @@ mod library {
     }
 }
 
-/// Why an event was refused: a number from 1 to 12.
+/// Why an event was refused: a number from 1 to 13.
 #[repr(transparent)]
 #[derive(Clone, Copy, PartialEq, Eq, Debug)]
 pub struct Refusal(NonZeroU8);
@@ -208,6 +208,11 @@ impl Record {
     /// One of `FLAG_..`.
     pub fn flag(&self, flag: u8) -> bool {
         self.0[PLACE_FLAGS] & flag != 0
+    }
+
+    /// How many bytes a burst read goes round in: 8, 16, 32 or 64.
+    pub fn burst(&self) -> usize {
+        8 << (self.0[PLACE_BURST] & 3)
     }
 
     /// The bytes sent while CE# is low. Reply and marks have one length.

@@ -65,10 +65,24 @@ fn a_power_cut_in_an_erase() {
 }
 
 #[test]
+fn a_burst_wraps_in_its_group() {
+    let mut b = Bench::new();
+    assert_eq!(b.chip.burst(), 8);
+    b.array[..256].iter_mut().enumerate().for_each(|(i, x)| *x = i as u8);
+    assert_eq!(b.send(&[0x38], 0).0, 0);
+    assert_eq!(b.send(&[0xC0, 0x03], 0).0, 0);
+    assert_eq!(b.chip.burst(), 64);
+    assert_eq!(b.send(&[0x0C, 0x00, 0x00, 0x3E, 0, 0, 0], 4), (0, vec![0x3E, 0x3F, 0x00, 0x01], vec![1; 4]));
+    assert_eq!(b.send(&[0xC0, 0x04], 0).0, 13);
+    assert_eq!(b.chip.burst(), 64);
+}
+
+#[test]
 fn bytes_that_are_no_record() {
     let mut b = Bench::new();
     let wrong = [
         (PLACE_FLAGS, 128),
+        (PLACE_BURST, 4),
         (PLACE_RUNNING_KIND, KIND_PERMANENT_BITS + 1),
         (PLACE_RUNNING_NUMBER, 1),
         (PLACE_SUSPENDED_NUMBER, 1),

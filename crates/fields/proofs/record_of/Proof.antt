@@ -51,9 +51,15 @@ array-read-t43 c = search needs
 array-read-t47 : tie.Need-array-read-t47
 array-read-t47 c = search needs
 
+array-read-burst-of : tie.Need-array-read-burst-of
+array-read-burst-of c = search needs
+
+burst-of-requires : tie.Need-burst-of-requires
+burst-of-requires c κs = search needs
+
 returns : tie.Need-returns
 unfolding recordOf blank
-returns c = rw (c .before .work-of .ensures, c .work-of2 .ensures)
+returns c = rw (c .before .before .work-of .ensures, c .before .work-of2 .ensures, c .burst-of .ensures)
 
 pub record-of-spec : {M : Type 1} → statement M
 record-of-spec =
@@ -74,4 +80,6 @@ record-of-spec =
     array-read-t39
     array-read-t43
     array-read-t47
+    array-read-burst-of
+    burst-of-requires
     returns)

@@ -14,10 +14,23 @@ same-work-requires-2 c κs = search needs
 same-flags-requires : tie.Need-same-flags-requires
 same-flags-requires c κs = search needs
 
+burst-byte-requires : tie.Need-burst-byte-requires
+burst-byte-requires c κs = search needs
+
+burst-byte-requires-2 : tie.Need-burst-byte-requires-2
+burst-byte-requires-2 c κs = search needs
+
 returns : tie.Need-returns
 unfolding sameRest
-returns c = rw (c .before .before .same-work .ensures, c .before .same-work2 .ensures, c .same-flags .ensures)
+returns c = rw (c .before .before .before .before .same-work .ensures, c .before .before .before .same-work2 .ensures, c .before .before .same-flags .ensures, c .before .burst-byte .ensures, c .burst-byte2 .ensures)
 
 pub same-rest-spec : {M : Type 1} → statement M
 same-rest-spec =
-    tie.close (tie.spec same-work-requires same-work-requires-2 same-flags-requires returns)
+    tie.close
+    (tie.spec
+    same-work-requires
+    same-work-requires-2
+    same-flags-requires
+    burst-byte-requires
+    burst-byte-requires-2
+    returns)

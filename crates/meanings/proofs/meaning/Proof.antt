@@ -1,4 +1,4 @@
--- Each number has its text, and a number above 12 has none. Assumes nothing.
+-- Each number has its text, and a number above 13 has none. Assumes nothing.
 use mathlib.Core.Path.{refl}
 use native.Mathlib.Omega.{arith}
 use Rattle.meanings.specs.Meanings.{meaning}
@@ -27,7 +27,11 @@ unfolding meaning
 returns-7 c = let m = c .before .before .before .before .before in put (m .before .before .before .before .args .number) 12 _ _ _ _ (m .match .keys5) refl (c .before .before .put-text5 .ensures)
 
 returns-8 : tie.Need-returns-8
-returns-8 c = none (c .before .before .before .before .args .number) _ (omega arith)
+unfolding meaning
+returns-8 c = let m = c .before .before .before .before .before in put (m .before .before .before .before .args .number) 13 _ _ _ _ (m .match .keys6) refl (c .before .before .put-text6 .ensures)
+
+returns-9 : tie.Need-returns-9
+returns-9 c = none (c .before .before .before .before .args .number) _ (omega arith)
 
 pub meaning-spec : {M : Type 1} → statement M
 meaning-spec =
@@ -49,6 +53,8 @@ meaning-spec =
     (λ c κs. tt)
     (λ c. refl)
     (λ c κs. tt)
+    (λ c. refl)
+    (λ c κs. tt)
     (λ c. c .before .before .put-text .kept .0)
     returns-3
     (λ c. c .before .before .put-text2 .kept .0)
@@ -59,4 +65,6 @@ meaning-spec =
     returns-6
     (λ c. c .before .before .put-text5 .kept .0)
     returns-7
-    returns-8)
+    (λ c. c .before .before .put-text6 .kept .0)
+    returns-8
+    returns-9)

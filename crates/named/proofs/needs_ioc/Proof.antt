@@ -9,5 +9,5 @@ pub needs-ioc-spec : {M : Type 1} → statement M
 needs-ioc-spec =
     tie.close
     (tie.spec
-    (λ c. sym (one-in 0x32 (0x6B ∷ []) (0x6B ∷ 0x32 ∷ []) (c .before .args .op) refl (c .match .keys1)))
-    (λ c. sym (none-in 0x32 (0x6B ∷ []) (0x6B ∷ 0x32 ∷ []) (c .before .args .op) refl (c .match .rest .1))))
+    (λ c. sym (one-in 0x32 (0x6B ∷ 0xEC ∷ []) (0x6B ∷ 0x32 ∷ 0xEC ∷ []) (c .before .args .op) refl (c .match .keys1)))
+    (λ c. sym (none-in 0x32 (0x6B ∷ 0xEC ∷ []) (0x6B ∷ 0x32 ∷ 0xEC ∷ []) (c .before .args .op) refl (c .match .rest .1))))

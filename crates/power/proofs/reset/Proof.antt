@@ -1,4 +1,4 @@
--- Five fields are set. Assumes nothing.
+-- Six fields are set. Assumes nothing.
 use mathlib.Core.Path.{refl}
 use Rattle.power.proofs.reset.Statement.{statement}
 use Rattle.power.proofs.reset.Tie as tie

@@ -34,12 +34,19 @@ shared-slice-read-flags-right c = omega arith
 flags-right-requires : tie.Need-flags-right-requires
 flags-right-requires c κs = tt
 
+shared-slice-read-burst-right : tie.Need-shared-slice-read-burst-right
+shared-slice-read-burst-right c = omega arith
+
+burst-right-requires : tie.Need-burst-right-requires
+burst-right-requires c κs = tt
+
 nothing-reserved-requires : tie.Need-nothing-reserved-requires
 nothing-reserved-requires c κs = omega arith
 
 returns-2 : tie.Need-returns-2
 unfolding isCode
-returns-2 c = let w₂ = c .before .before .before in
+returns-2 c = let f = c .before .before .before in
+    let w₂ = f .before .before in
     let w₁ = w₂ .before .before .before in
     rw (
       eq-eqb _ 320 (w₁ .before .before .before .if1 .left),
@@ -47,7 +54,8 @@ returns-2 c = let w₂ = c .before .before .before in
       w₁ .before .get-word .ensures,
       w₂ .work-right2 .ensures,
       w₂ .before .get-word2 .ensures,
-      c .before .flags-right .ensures,
+      f .flags-right .ensures,
+      c .before .burst-right .ensures,
       c .nothing-reserved .ensures,
     ) (simp add-zero)
 
@@ -64,5 +72,7 @@ is-code-spec =
     work-right-requires-2
     shared-slice-read-flags-right
     flags-right-requires
+    shared-slice-read-burst-right
+    burst-right-requires
     nothing-reserved-requires
     returns-2)

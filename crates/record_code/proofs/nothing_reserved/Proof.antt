@@ -40,7 +40,7 @@ zeros-next l i x h =
     rw k (zero-both x (getD l i 0) (numberAt l (i + 1) (320 - (i + 1))))
 
 abbrev Inv-loop : tie.InvT-loop
-Inv-loop coded other₀ i₀ other i = record { low : i ≤ 320; size : length coded ≡ 320; is : (eqb other 0 && eqb (numberAt coded i (320 - i)) 0) ≡ eqb (numberAt coded 291 29) 0 }
+Inv-loop coded other₀ i₀ other i = record { low : i ≤ 320; size : length coded ≡ 320; is : (eqb other 0 && eqb (numberAt coded i (320 - i)) 0) ≡ eqb (numberAt coded 292 28) 0 }
 
 abbrev μ-loop : tie.MeasureT-loop
 μ-loop coded other₀ i₀ other i = 320 - i

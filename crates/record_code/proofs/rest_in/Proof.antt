@@ -35,13 +35,21 @@ shared-slice-read-flags-of c = omega arith
 flags-of-requires : tie.Need-flags-of-requires
 flags-of-requires c κs = tt
 
+shared-slice-read-burst-of : tie.Need-shared-slice-read-burst-of
+shared-slice-read-burst-of c = omega arith
+
+burst-of-requires : tie.Need-burst-of-requires
+burst-of-requires c κs = tt
+
 returns : tie.Need-returns
 unfolding restIn
-returns c = let w₂ = c .before .before in
+returns c = let f = c .before .before in
+    let w₂ = f .before .before in
     let w₁ = w₂ .before .before .before in
     let p₂ = w₁ .before .before .before in
     rw (
-      c .flags-of .ensures,
+      c .burst-of .ensures,
+      f .flags-of .ensures,
       w₂ .work-of2 .ensures,
       w₂ .before .get-word4 .ensures,
       w₁ .work-of .ensures,
@@ -64,4 +72,6 @@ rest-in-spec =
     work-of-requires-2
     shared-slice-read-flags-of
     flags-of-requires
+    shared-slice-read-burst-of
+    burst-of-requires
     returns)

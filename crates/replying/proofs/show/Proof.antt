@@ -1,5 +1,5 @@
 -- Each source has its loop. Assumes nothing.
-use Rattle.replying.proofs.Shows.{suspended-pages, shows-status, shows-configuration, shows-protection, shows-identity, shows-security, shows-array}
+use Rattle.replying.proofs.Shows.{suspended-pages, length-divides, shows-status, shows-configuration, shows-protection, shows-identity, shows-security, shows-array, shows-burst}
 use borrow.Author.Needs.{needs}
 use Rattle.replying.proofs.show.Statement.{statement}
 use Rattle.replying.proofs.show.Tie as tie
@@ -28,6 +28,11 @@ show-spec =
     (λ c κs. search needs)
     (λ c κs. search needs)
     (λ c κs. search needs)
+    (λ c κs. let s = c .before .before .before .before .before .before .before .before .before .before .before .before .before in (suspended-pages (s .args .r) _ (s .pre .suspended) (c .before .before .before .before .array-range2 .ensures), (s .pre .whole, (c .before .before .before .address-of2 .ensures .1, (length-divides (s .args .r .burst) _ (c .before .before .burst-length .ensures), (s .pre .even, s .pre .few))))))
+    (λ c. search needs)
+    (λ c κs. search needs)
+    (λ c κs. search needs)
+    (λ c κs. search needs)
     (λ c. search needs)
     (λ c. search needs)
     (λ c. let a = c .before .before .before .before .before .before .before .before .before .before .before .before .before .before .before .args in shows-status (a .s) (a .r) (a .array .now) (a .security .now) (a .sent .now) (a .reply .now) (a .marks .now) _ _ _ (c .before .before .before .before .before .before .before .before .enum-told .given .1) (c .before .before .before .before .before .status-of .ensures) (c .before .before .before .before .fill-both .ensures))
@@ -45,4 +50,7 @@ show-spec =
     (λ c. let a = c .before .before .before .before .before .before .before .before .before .before .before .before .before .before .before .before .before .args in shows-array (a .s) (a .r) (a .array .now) (a .security .now) (a .sent .now) (a .reply .now) (a .marks .now) _ _ _ _ (c .before .before .before .before .before .before .before .before .before .before .enum-told5 .given .1) (c .before .before .before .before .before .before .before .before .array-range .ensures) (c .before .before .before .before .before .before .before .address-of .ensures .0) (c .before .before .before .before .read-array .ensures .0) (c .before .before .before .before .read-array .ensures .1))
     (λ c. search needs)
     (λ c. search needs)
-    (λ c. let a = c .before .before .before .before .before .before .before .before .before .before .before .before .before .before .before .before .args in shows-security (a .s) (a .r) (a .array .now) (a .security .now) (a .sent .now) (a .reply .now) (a .marks .now) _ _ _ (c .before .before .before .before .before .before .before .before .before .enum-told6 .given .1) (c .before .before .before .before .before .before .before .before .security-address-of .ensures .0) (c .before .before .before .before .before .before .read-security .ensures) (c .before .before .mark-all3 .ensures)))
+    (λ c. let a = c .before .before .before .before .before .before .before .before .before .before .before .before .before .before .before .before .before .before .args in shows-burst (a .s) (a .r) (a .array .now) (a .security .now) (a .sent .now) (a .reply .now) (a .marks .now) _ _ _ _ _ (c .before .before .before .before .before .before .before .before .before .before .before .enum-told6 .given .1) (c .before .before .before .before .before .before .before .before .before .array-range2 .ensures) (c .before .before .before .before .before .before .before .before .address-of2 .ensures .0) (c .before .before .before .before .before .before .before .burst-length .ensures) (c .before .before .before .before .read-burst .ensures .0) (c .before .before .before .before .read-burst .ensures .1))
+    (λ c. search needs)
+    (λ c. search needs)
+    (λ c. let a = c .before .before .before .before .before .before .before .before .before .before .before .before .before .before .before .before .args in shows-security (a .s) (a .r) (a .array .now) (a .security .now) (a .sent .now) (a .reply .now) (a .marks .now) _ _ _ (c .before .before .before .before .before .before .before .before .before .enum-told7 .given .1) (c .before .before .before .before .before .before .before .before .security-address-of .ensures .0) (c .before .before .before .before .before .before .read-security .ensures) (c .before .before .mark-all3 .ensures)))

@@ -7,6 +7,7 @@ use mathlib.Core.Path.{refl, sym, ap, _∙_}
 use Prim.Native.Nat.{ℕ}
 use Rattle.writing.proofs.Picks.{yes, no}
 use lib.ListN.{length}
+use Rattle.page.specs.Page.{form}
 use borrow.Author.Needs.{needs}
 use Rattle.why.proofs.reason.Statement.{statement}
 use Rattle.why.proofs.reason.Tie as tie
@@ -44,8 +45,14 @@ closed-requires c κs = search needs
 locked-requires : tie.Need-locked-requires
 locked-requires c κs = search needs
 
+sent-byte-requires : tie.Need-sent-byte-requires
+sent-byte-requires c κs = search needs
+
 form-requires-5 : tie.Need-form-requires-5
 form-requires-5 c κs = search needs
+
+form-requires-6 : tie.Need-form-requires-6
+form-requires-6 c κs = search needs
 
 returns : tie.Need-returns
 unfolding why
@@ -89,7 +96,11 @@ returns-10 c = c .locked .ensures ∙ ap (λ (o : ℕ). lockedWhy (c .before .be
 
 returns-11 : tie.Need-returns-11
 unfolding why
-returns-11 c = no _ _ (ne-eqb _ _ (c .before .match .rest .0 .0 .0 .0 .0 .0 .0 .0 .0 .1)) (no _ _ (ne-eqb _ _ (c .before .match .rest .0 .0 .0 .0 .0 .0 .0 .0 .1)) (no _ _ (ne-eqb _ _ (c .before .match .rest .0 .0 .0 .0 .0 .0 .0 .1)) (no _ _ (ne-eqb _ _ (c .before .match .rest .0 .0 .0 .0 .0 .0 .1)) (no _ _ (ne-eqb _ _ (c .before .match .rest .0 .0 .0 .0 .0 .1)) (no _ _ (ne-eqb _ _ (c .before .match .rest .0 .0 .0 .0 .1)) (no _ _ (ne-eqb _ _ (c .before .match .rest .0 .0 .0 .1)) (no _ _ (ne-eqb _ _ (c .before .match .rest .0 .0 .1)) (no _ _ (ne-eqb _ _ (c .before .match .rest .0 .1)) (no _ _ (ne-eqb _ _ (c .before .match .rest .1)) (c .form5 .ensures))))))))))
+returns-11 c = c .form5 .ensures ∙ ap (λ (x : ℕ). form 79 x 0 0 (c .before .before .before .before .before .before .args .r)) (c .before .sent-byte .ensures .0) ∙ ap (λ (n : ℕ). why n (c .before .before .before .before .before .before .args .c) (c .before .before .before .before .before .before .args .sent .now) (c .before .before .before .before .before .before .args .r)) (sym (c .before .before .match .keys11))
+
+returns-12 : tie.Need-returns-12
+unfolding why
+returns-12 c = no _ _ (ne-eqb _ _ (c .before .match .rest .0 .0 .0 .0 .0 .0 .0 .0 .0 .0 .1)) (no _ _ (ne-eqb _ _ (c .before .match .rest .0 .0 .0 .0 .0 .0 .0 .0 .0 .1)) (no _ _ (ne-eqb _ _ (c .before .match .rest .0 .0 .0 .0 .0 .0 .0 .0 .1)) (no _ _ (ne-eqb _ _ (c .before .match .rest .0 .0 .0 .0 .0 .0 .0 .1)) (no _ _ (ne-eqb _ _ (c .before .match .rest .0 .0 .0 .0 .0 .0 .1)) (no _ _ (ne-eqb _ _ (c .before .match .rest .0 .0 .0 .0 .0 .1)) (no _ _ (ne-eqb _ _ (c .before .match .rest .0 .0 .0 .0 .1)) (no _ _ (ne-eqb _ _ (c .before .match .rest .0 .0 .0 .1)) (no _ _ (ne-eqb _ _ (c .before .match .rest .0 .0 .1)) (no _ _ (ne-eqb _ _ (c .before .match .rest .0 .1)) (no _ _ (ne-eqb _ _ (c .before .match .rest .1)) (c .form6 .ensures)))))))))))
 
 pub reason-spec : {M : Type 1} → statement M
 reason-spec =
@@ -106,7 +117,9 @@ reason-spec =
     form-requires-4
     closed-requires
     locked-requires
+    sent-byte-requires
     form-requires-5
+    form-requires-6
     returns
     returns-2
     returns-3
@@ -117,4 +130,5 @@ reason-spec =
     returns-8
     returns-9
     returns-10
-    returns-11)
+    returns-11
+    returns-12)

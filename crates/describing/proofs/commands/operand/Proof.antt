@@ -47,9 +47,15 @@ sent-byte-requires c κs = search needs
 form-requires-6 : tie.Need-form-requires-6
 form-requires-6 c κs = search needs
 
+sent-byte-requires-2 : tie.Need-sent-byte-requires-2
+sent-byte-requires-2 c κs = search needs
+
+form-requires-7 : tie.Need-form-requires-7
+form-requires-7 c κs = search needs
+
 returns : tie.Need-returns
 unfolding operandOn
-returns c = c .form .ensures ∙ ap (λ (a : ℕ). form 133 a 0 0 (c .before .before .before .before .before .args .r)) (c .before .before .before .address-of .ensures .0) ∙ ap (λ (n : ℕ). operandOn n (c .before .before .before .before .before .args .sent .now) (c .before .before .before .before .before .args .r)) (sym (c .before .match .keys1))
+returns c = c .form .ensures ∙ ap (λ (a : ℕ). form 139 a 0 0 (c .before .before .before .before .before .args .r)) (c .before .before .before .address-of .ensures .0) ∙ ap (λ (n : ℕ). operandOn n (c .before .before .before .before .before .args .sent .now) (c .before .before .before .before .before .args .r)) (sym (c .before .match .keys1))
 
 returns-2 : tie.Need-returns-2
 unfolding operandOn
@@ -73,7 +79,11 @@ returns-6 c = c .form6 .ensures ∙ ap (λ (a : ℕ). form 138 a 0 0 (c .before 
 
 returns-7 : tie.Need-returns-7
 unfolding operandOn
-returns-7 c = no _ _ (ne-eqb _ _ (c .match .rest .0 .0 .0 .0 .0 .1)) (no _ _ (ne-eqb _ _ (c .match .rest .0 .0 .0 .0 .1)) (no _ _ (ne-eqb _ _ (c .match .rest .0 .0 .0 .1)) (no _ _ (ne-eqb _ _ (c .match .rest .0 .0 .1)) (no _ _ (ne-eqb _ _ (c .match .rest .0 .1)) (no _ _ (ne-eqb _ _ (c .match .rest .1)) (refl))))))
+returns-7 c = c .form7 .ensures ∙ ap (λ (a : ℕ). form 138 a 0 0 (c .before .before .before .before .before .before .args .r)) (c .before .sent-byte2 .ensures .0) ∙ ap (λ (n : ℕ). operandOn n (c .before .before .before .before .before .before .args .sent .now) (c .before .before .before .before .before .before .args .r)) (sym (c .before .before .match .keys7))
+
+returns-8 : tie.Need-returns-8
+unfolding operandOn
+returns-8 c = no _ _ (ne-eqb _ _ (c .match .rest .0 .0 .0 .0 .0 .0 .1)) (no _ _ (ne-eqb _ _ (c .match .rest .0 .0 .0 .0 .0 .1)) (no _ _ (ne-eqb _ _ (c .match .rest .0 .0 .0 .0 .1)) (no _ _ (ne-eqb _ _ (c .match .rest .0 .0 .0 .1)) (no _ _ (ne-eqb _ _ (c .match .rest .0 .0 .1)) (no _ _ (ne-eqb _ _ (c .match .rest .0 .1)) (no _ _ (ne-eqb _ _ (c .match .rest .1)) (refl)))))))
 
 pub operand-spec : {M : Type 1} → statement M
 operand-spec =
@@ -91,10 +101,13 @@ operand-spec =
     form-requires-5
     sent-byte-requires
     form-requires-6
+    sent-byte-requires-2
+    form-requires-7
     returns
     returns-2
     returns-3
     returns-4
     returns-5
     returns-6
-    returns-7)
+    returns-7
+    returns-8)

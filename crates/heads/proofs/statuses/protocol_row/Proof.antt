@@ -1,25 +1,21 @@
--- By the two flags. Assumes nothing.
+-- With the burst behind it. Assumes nothing.
 use Rattle.heads.specs.Statuses.{protocolRow}
 use borrow.Author.Needs.{needs}
 use Rattle.heads.proofs.statuses.protocol_row.Statement.{statement}
 use Rattle.heads.proofs.statuses.protocol_row.Tie as tie
 
-protocol-name-requires : tie.Need-protocol-name-requires
-protocol-name-requires c κs = search needs
+enable-row-requires : tie.Need-enable-row-requires
+enable-row-requires c κs = search needs
+
+burst-length-requires : tie.Need-burst-length-requires
+burst-length-requires c κs = search needs
 
 form-requires : tie.Need-form-requires
 form-requires c κs = search needs
 
 returns : tie.Need-returns
 unfolding protocolRow
-returns c = rw (← c .before .before .protocol-name .ensures, c .before .if1 .taken) (c .form .ensures)
-
-form-requires-2 : tie.Need-form-requires-2
-form-requires-2 c κs = search needs
-
-returns-2 : tie.Need-returns-2
-unfolding protocolRow
-returns-2 c = rw (← c .before .before .protocol-name .ensures, c .before .if1 .left) (c .form2 .ensures)
+returns c = rw (← c .before .before .enable-row .ensures, ← c .before .burst-length .ensures) (c .form .ensures)
 
 pub protocol-row-spec : {M : Type 1} → statement M
-protocol-row-spec = tie.close (tie.spec protocol-name-requires form-requires returns form-requires-2 returns-2)
+protocol-row-spec = tie.close (tie.spec enable-row-requires burst-length-requires form-requires returns)
