@@ -97,7 +97,7 @@ pub extern "C" fn fulkibono_power_cut(
 
 // ---- what a number means
 
-// The text of a number; a number above 12 has none.
+// The text of a number; a number above 13 has none.
 #[no_mangle]
 pub extern "C" fn fulkibono_meaning(number: u8, text: &mut [u8]) -> usize
     ensures { λ r. ⌜ MeaningBytes number (now (text .entry)) r (now (text .exit)) ⌝ }

@@ -41,7 +41,7 @@ extern "C" {
 #define FULKIBONO_FRAME_MOST 65536   /* the longest frame, and the longest reply */
 #define FULKIBONO_MEANING_MOST 64    /* room for every text of fulkibono_meaning */
 
-/* ---- the numbers that each call gives back; if several apply, the lowest is given (13, tested after 7, is never one of several with 8 to 11) */
+/* ---- the numbers that each call gives back; if several apply, the lowest is given */
 
 enum fulkibono_number {
     FULKIBONO_DONE = 0,          /* done */

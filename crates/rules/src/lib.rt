@@ -51,9 +51,10 @@ pub enum Burst {
 // The chip record without its page buffer.
 pub struct Rest {
     pub locks: Locks,
+    // apart from the flags: next to them both are moved as one word, and an event takes more instructions
+    pub burst: Burst,
     pub works: Works,
     pub flags: Flags,
-    pub burst: Burst,
 }
 
 // The chip record.

@@ -147,5 +147,5 @@ fn sizes_are_held() {
     let security = Security::of(&mut b.security).unwrap();
     let refused = b.chip.frame(array, security, &[0x05], &mut [0; 2], &mut [0; 1]).unwrap_err();
     assert_eq!(refused.number(), 1);
-    assert_eq!(refused.to_string(), "record not well-formed, or a length outside the sizes");
+    assert_eq!(refused.to_string(), "record not well-formed, or a length outside \"Sizes\"");
 }
