@@ -9,6 +9,7 @@ use lib.ListN.{length, getD, set, length-set}
 use lib.Seq.{getD-set-same}
 use borrow.Author.Tests.{ltb-true}
 use Rattle.rules.specs.declared.Burst.{Burst}
+use Rattle.rules.specs.declared.Cell.{Cell}
 use Rattle.rules.specs.declared.Range.{Range}
 use Rattle.rules.specs.declared.Rest.{Rest}
 use Rattle.rules.specs.declared.Source.{Source}
@@ -100,34 +101,21 @@ module _ (s : Source) (x : Rest) (array security sent y m y′ m′ : List ℕ) 
       by-source Source.Security e
       record { bytes = upto-written y′ (length y) _ (subst (λ (at : ℕ). Upto y′ (length y) (length y) (λ i. getD security ((at + i) % securitySize) 0)) ea h); known = k }
 
+  -- a read of the array: the cells that the loops leave are those of the rules
+  by-cells : (t : Source) (f g : ℕ → Cell) → s ≡ t → (λ (i : ℕ). shown t x (lent array) (lent security) sent i) ≡ g → f ≡ g
+      → Upto y′ (length y) (length y) (λ i. f i .byte) → Upto m′ (length m) (length m) (λ i. f i .mark) → Replied y m y′ m′ (λ i. shown s x (lent array) (lent security) sent i)
+  unfolding Shown
+  by-cells t f g e is q h k =
+      by-source t e (subst (λ (c : ℕ → Cell). Replied y m y′ m′ c) (q ∙ sym is) record { bytes = upto-written y′ (length y) _ h; known = upto-written m′ (length m) _ k })
+
   pub shows-array : (r : Range) (at : ℕ) → s ≡ Source.Array → r ≡ arrayRange (x .works .suspended) → at ≡ address sent
       → Upto y′ (length y) (length y) (λ i. cellFrom (x .locks .protection) r array at i .byte) → Upto m′ (length m) (length m) (λ i. cellFrom (x .locks .protection) r array at i .mark)
       → Replied y m y′ m′ (λ i. shown s x (lent array) (lent security) sent i)
-  unfolding Shown shown
-  shows-array r at e er ea h k =
-      by-source Source.Array e
-      record {
-        bytes = upto-written y′ (length y) _
-            (subst (λ (r : Range). Upto y′ (length y) (length y) (λ i. cellFrom (x .locks .protection) r array (address sent) i .byte)) er
-            (subst (λ (at : ℕ). Upto y′ (length y) (length y) (λ i. cellFrom (x .locks .protection) r array at i .byte)) ea h));
-        known = upto-written m′ (length m) _
-            (subst (λ (r : Range). Upto m′ (length m) (length m) (λ i. cellFrom (x .locks .protection) r array (address sent) i .mark)) er
-            (subst (λ (at : ℕ). Upto m′ (length m) (length m) (λ i. cellFrom (x .locks .protection) r array at i .mark)) ea k));
-      }
+  unfolding shown
+  shows-array r at e er ea h k = by-cells Source.Array (cellFrom (x .locks .protection) r array at) _ e refl (λ j. cellFrom (x .locks .protection) (er j) array (ea j)) h k
 
   pub shows-burst : (r : Range) (at n : ℕ) → s ≡ Source.ArrayBurst → r ≡ arrayRange (x .works .suspended) → at ≡ address sent → n ≡ burstLength (x .burst)
       → Upto y′ (length y) (length y) (λ i. burstCell (x .locks .protection) r array n at i .byte) → Upto m′ (length m) (length m) (λ i. burstCell (x .locks .protection) r array n at i .mark)
       → Replied y m y′ m′ (λ i. shown s x (lent array) (lent security) sent i)
-  unfolding Shown shown
-  shows-burst r at n e er ea en h k =
-      by-source Source.ArrayBurst e
-      record {
-        bytes = upto-written y′ (length y) _
-            (subst (λ (r : Range). Upto y′ (length y) (length y) (λ i. burstCell (x .locks .protection) r array (burstLength (x .burst)) (address sent) i .byte)) er
-            (subst (λ (at : ℕ). Upto y′ (length y) (length y) (λ i. burstCell (x .locks .protection) r array (burstLength (x .burst)) at i .byte)) ea
-            (subst (λ (n : ℕ). Upto y′ (length y) (length y) (λ i. burstCell (x .locks .protection) r array n at i .byte)) en h)));
-        known = upto-written m′ (length m) _
-            (subst (λ (r : Range). Upto m′ (length m) (length m) (λ i. burstCell (x .locks .protection) r array (burstLength (x .burst)) (address sent) i .mark)) er
-            (subst (λ (at : ℕ). Upto m′ (length m) (length m) (λ i. burstCell (x .locks .protection) r array (burstLength (x .burst)) at i .mark)) ea
-            (subst (λ (n : ℕ). Upto m′ (length m) (length m) (λ i. burstCell (x .locks .protection) r array n at i .mark)) en k)));
-      }
+  unfolding shown
+  shows-burst r at n e er ea en h k = by-cells Source.ArrayBurst (burstCell (x .locks .protection) r array n at) _ e refl (λ j. burstCell (x .locks .protection) (er j) array (en j) (ea j)) h k
