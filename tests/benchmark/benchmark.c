@@ -177,6 +177,14 @@ static void read_ours(void)
     uint8_t n = send(sent, 4, wanted);
     sink += (uint64_t)n + reply[0];
 }
+/* the same of a chip with nothing suspended */
+static fulkibono_record unlocked;
+static void read_unlocked(void)
+{
+    const uint8_t sent[] = { 0x03, (uint8_t)(from >> 16), (uint8_t)(from >> 8), (uint8_t)from };
+    uint8_t n = fulkibono_send(&unlocked, array, security, sent, 4, reply, marks, wanted);
+    sink += (uint64_t)n + reply[0];
+}
 static void read_plain(void)
 {
     const uint8_t sent[] = { 0x03, (uint8_t)(from >> 16), (uint8_t)(from >> 8), (uint8_t)from };
@@ -354,7 +362,7 @@ static void mixed(void)
 int main(void)
 {
     setvbuf(stdout, NULL, _IOLBF, 0);
-    double read_limit_ratio = 0, read_plain_ratio = 0, burst_ratio = 0, middle_ratio = 0, long_ratio = 0;
+    double read_limit_ratio = 0, read_plain_ratio = 0, burst_ratio = 0, middle_ratio = 0, long_ratio = 0, suspended_ratio[5];
     static const size_t sizes[] = { 1, 16, 256, 4096, 65536 };
     char name[64];
     for (size_t i = 0; i < sizeof frame; i++)
@@ -369,6 +377,7 @@ int main(void)
         for (size_t k = 0; k < 5; k++) {
             static const char *const names[] = { "unlocked", "read-locked", "suspended" };
             fresh();
+            unlocked = chip;
             from = 0x20000;
             if (area == 1) {
                 /* the eight 8-KB blocks with their read locks set: read from the last four, 1F8000 on */
@@ -386,6 +395,11 @@ int main(void)
             if (area == 0 && wanted == 65536) {
                 read_plain_ratio = q.to_plain;
                 read_limit_ratio = q.to_limit;
+            }
+            if (area == 2) {
+                struct row u = { "  the same (limit: unlocked)", read_ours, NULL, read_unlocked, q.turns, 0, 0 };
+                measure(&u);
+                suspended_ratio[k] = u.to_limit;
             }
         }
 
@@ -454,6 +468,10 @@ int main(void)
         bar("sector erase (20, completion) against memset plus a status frame", e1.to_limit, 1, 2);
         bar("chip erase (06, C7, completion) against memset", e3.to_limit, 1, 1.3);
         bar("page program (06, 02, poll, completion) against four status frames", p.to_limit, 1, 4);
+        for (size_t k = 0; k < 5; k++) {
+            snprintf(name, sizeof name, "suspended read of %zu against the unlocked one", sizes[k]);
+            bar(name, suspended_ratio[k], 1, 1.3);
+        }
         bar("64-byte burst of 64 against a plain read of 64 bytes", burst_ratio, 1, 1.3);
         bar("  from the middle of a group", middle_ratio, 1, 1.3);
         bar("65,536-byte reply of an 8-byte burst against the limit", long_ratio, 1, 8);

@@ -1,5 +1,5 @@
 -- Laws that the proofs cite.
 pub mod Grouped
-pub mod Locks
 pub mod Ranges
+pub mod Shape
 pub mod Unique

@@ -1,7 +1,7 @@
 -- No second outcome: whatever meets the guarantee of a public function of this crate at the same input is the same result. Assumes nothing.
 use Rattle.rules.proofs.Promises.{one}
 use Rattle.rules.proofs.Outcomes.{OneResult}
-use Rattle.blocks.proofs.table.block_at.Reads as block-at
+use Rattle.blocks.proofs.block_at.Reads as block-at
 use Rattle.blocks.proofs.block_of.Reads as block-of
 use Rattle.blocks.proofs.bit_at.Reads as bit-at
 use Rattle.blocks.proofs.write_locked.Reads as write-locked

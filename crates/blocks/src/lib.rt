@@ -1,25 +1,14 @@
 // Blocks and locks; the kind and the range of work.
-mod table;
-
 use rules::Block;
 use rules::Range;
 use rules::Work;
-pub use table::block_at;
 ghost use mathlib.Core.Path.{_≡_};
 ghost use mathlib.Core.Bool.{true};
-ghost use Prim.Native.Nat.{_+_, _*_, _^_, _≤_, _<_};
+ghost use Prim.Native.Nat.{_+_, _^_, _≤_, _<_};
 ghost use Rattle.rules.specs.Words.{bit, holds};
 ghost use Rattle.rules.specs.Blocks.{arraySize, blockOf, blockAt, writeLocked, readLocked, unlocked};
 ghost use Rattle.rules.specs.Works.{isNothing, isErase, isProgram, canSuspend, arrayRange};
 ghost use Rattle.rules.specs.WellFormed.{numbersRight};
-
-// The number of the block that holds a place.
-pub fn block_of(a: usize) -> usize
-    requires { ⌜ a < arraySize ⌝ }
-    ensures { λ r. ⌜ r ≡ blockOf a ⌝ }
-{
-    table::group_block(a / 8192) as usize
-}
 
 // Bit n of a register.
 pub fn bit_at(p: u64, n: u32) -> bool
@@ -29,29 +18,8 @@ pub fn bit_at(p: u64, n: u32) -> bool
     (p >> n) & 1 == 1
 }
 
-// The write-lock bit of the block that holds a place. Each event asks this of what runs, so it goes by shifts and not by the table.
-fn lock_of(a: usize) -> u32
-    requires { ⌜ a < arraySize ⌝ }
-    ensures { λ r. ⌜ r ≡ blockAt (blockOf a) .write ⌝ }
-{
-    let group = (a / 8192) as u32;
-    if group < 4 {
-        return 2 * group + 32;
-    }
-    if group < 8 {
-        return 30;
-    }
-    if group < 248 {
-        return group / 8 - 1;
-    }
-    if group < 252 {
-        return 31;
-    }
-    2 * group - 464
-}
-
-// A row of the table. Each event asks this of a block erase that runs or waits, so it goes by shifts too.
-fn row(n: usize) -> Block
+// A block by its number, with shifts and comparisons. No other function knows the shape of the blocks: where they begin, their sizes, their lock bits.
+pub fn block_at(n: usize) -> Block
     requires { ⌜ n < 40 ⌝ }
     ensures { λ r. ⌜ r ≡ blockAt n ⌝ }
 {
@@ -88,27 +56,46 @@ fn row(n: usize) -> Block
     }
 }
 
+// The number of the block that holds a place, from the bottom up. In a stretch of blocks of one size numbers fall as places rise.
+pub fn block_of(a: usize) -> usize
+    requires { ⌜ a < arraySize ⌝ }
+    ensures { λ r. ⌜ r ≡ blockOf a ⌝ }
+{
+    let low = block_at(9);
+    if a < low.start {
+        let bottom = block_at(7);
+        return 7 - (a - bottom.start) / bottom.size;
+    }
+    let wide = block_at(39);
+    if a < wide.start {
+        return 9;
+    }
+    let high = block_at(8);
+    if a < high.start {
+        return 39 - (a - wide.start) / wide.size;
+    }
+    let top = block_at(3);
+    if a < top.start {
+        return 8;
+    }
+    3 - (a - top.start) / top.size
+}
+
 pub fn write_locked(p: u64, a: usize) -> bool
     requires { ⌜ a < arraySize ⌝ }
     ensures { λ r. ⌜ r ≡ writeLocked p a ⌝ }
 {
-    let write = lock_of(a);
-    bit_at(p, write)
+    let b = block_at(block_of(a));
+    bit_at(p, b.write)
 }
 
-// Only the first four and the last four 8 KB have a read lock. A read asks this for every page, so it goes by shifts.
+// In a pair the odd bit is the read lock.
 pub fn read_locked(p: u64, a: usize) -> bool
     requires { ⌜ a < arraySize ⌝ }
     ensures { λ r. ⌜ r ≡ readLocked p a ⌝ }
 {
-    let g = (a / 8192) as u32;
-    if g < 4 {
-        return bit_at(p, 2 * g + 33);
-    }
-    if g < 252 {
-        return false;
-    }
-    bit_at(p, 2 * g - 463)
+    let b = block_at(block_of(a));
+    b.paired & bit_at(p, b.write + 1)
 }
 
 pub fn is_nothing(w: Work) -> bool
@@ -159,7 +146,7 @@ pub fn array_range(w: Work) -> Range
             size: 4096,
         },
         Work::EraseBlock(n) => {
-            let b = row(n);
+            let b = block_at(n);
             Range {
                 start: b.start,
                 size: b.size,
@@ -185,7 +172,7 @@ pub fn is_unlocked(p: u64, w: Work) -> bool
     match w {
         Work::EraseSector(n) => !write_locked(p, n * 4096),
         Work::EraseBlock(n) => {
-            let b = row(n);
+            let b = block_at(n);
             let write = b.write;
             !bit_at(p, write)
         }

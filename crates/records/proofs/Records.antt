@@ -1,7 +1,7 @@
 -- The parts of the test of a record, put together. Assumes nothing.
 use Prim.Native.Nat.{ℕ, _+_, _^_, _≤_, _<_, min, max}
 use mathlib.Core.Path.{_≡_, sym, ap, _∙_}
-use mathlib.Core.Bool.{Bool, true, false, _&&_}
+use mathlib.Core.Bool.{Bool, true, false, not, _&&_, _||_}
 use mathlib.Core.List.{List}
 use native.Mathlib.Omega.{arith}
 use lib.Dec.{ltb}
@@ -12,7 +12,7 @@ use Rattle.rules.specs.declared.Rest.{Rest}
 use Rattle.rules.specs.declared.Work.{Work}
 use Rattle.rules.specs.Words.{overlap}
 use Rattle.rules.specs.Blocks.{unlocked}
-use Rattle.rules.specs.Works.{isNothing, arrayRange}
+use Rattle.rules.specs.Works.{isNothing, isErase, isProgram, arrayRange}
 use Rattle.rules.specs.Fields.{worksOf, chipOf}
 use Rattle.rules.specs.WellFormed.{numbersRight, locksRight, suspendedRight, besideRight, securityRight, firstFF, bufferRight, worksRight, wellFormed}
 use Rattle.rules.proofs.Bools.{and-split, and-both, same-test}
@@ -54,6 +54,14 @@ overlap-four r s =
 -- the range that was found ends within the array
 pub found-inside : (w : Work) (r : Range) → numbersRight w ≡ true → r ≡ arrayRange w → r .start + r .size ≤ 2097152
 found-inside w r h e = rw e (array-inside w h)
+
+-- beside nothing all is right; two works are by their ranges and kinds
+pub one-alone : (r s : Work) → (isNothing r || isNothing s) ≡ true → true ≡ besideRight r s
+one-alone r s e = rw e
+
+pub two-beside : (r s : Work) → (isNothing r || isNothing s) ≡ false
+    → (not (overlap (arrayRange r) (arrayRange s)) && (isErase r && isProgram s || isProgram r && isErase s)) ≡ besideRight r s
+two-beside r s e = rw e
 
 pub low-register : (l : Locks) (x : Bool) → x ≡ locksRight l → x ≡ true → l .protection < 2 ^ 48
 low-register l x e t = registers-of (l .protection) (l .permanent) (sym e ∙ t) .low

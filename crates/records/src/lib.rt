@@ -54,12 +54,14 @@ pub fn beside_right(r: Work, s: Work) -> bool
     requires { ⌜ (numbersRight r ≡ true) × (numbersRight s ≡ true) ⌝ }
     ensures { λ b. ⌜ b ≡ besideRight r s ⌝ }
 {
+    if blocks::is_nothing(r) | blocks::is_nothing(s) {
+        return true;
+    }
     let range = blocks::array_range(r);
     let other = blocks::array_range(s);
-    let none = blocks::is_nothing(r) | blocks::is_nothing(s);
     let pair = blocks::is_erase(r) & blocks::is_program(s)
         | blocks::is_program(r) & blocks::is_erase(s);
-    none | !overlaps(range, other) & pair
+    !overlaps(range, other) & pair
 }
 
 // Running Security ID work has SEC 0, and an A5 of page 0 leaves the first eight bytes.

@@ -18,8 +18,8 @@ mul-t7 c = let h = sector-number (c .before .before .before .args .w) _ (c .befo
 enum-known-w-2 : tie.Need-enum-known-w-2
 enum-known-w-2 c = search needs
 
-row-requires : tie.Need-row-requires
-row-requires c κs = block-number (c .before .before .before .args .w) _ (c .before .w2 .given .1) (c .before .before .before .pre)
+block-at-requires : tie.Need-block-at-requires
+block-at-requires c κs = block-number (c .before .before .before .args .w) _ (c .before .w2 .given .1) (c .before .before .before .pre)
 
 enum-told : tie.Need-enum-told
 enum-told c = search needs
@@ -34,7 +34,7 @@ returns : tie.Need-returns
 returns c = ap arrayRange (sym (c .before .w .given .1))
 
 returns-2 : tie.Need-returns-2
-returns-2 c = ap span (c .row .ensures) ∙ ap arrayRange (sym (c .before .before .w2 .given .1))
+returns-2 c = ap span (c .block-at .ensures) ∙ ap arrayRange (sym (c .before .before .w2 .given .1))
 
 returns-3 : tie.Need-returns-3
 returns-3 c = ap arrayRange (sym (c .enum-told .given .1))
@@ -52,7 +52,7 @@ array-range-spec =
     enum-known-w
     mul-t7
     enum-known-w-2
-    row-requires
+    block-at-requires
     enum-told
     enum-known-w-3
     mul-t8

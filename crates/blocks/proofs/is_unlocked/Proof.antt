@@ -21,13 +21,13 @@ write-locked-requires c κs = let h = sector-number (c .before .before .before .
 enum-known-w-2 : tie.Need-enum-known-w-2
 enum-known-w-2 c = search needs
 
-row-requires : tie.Need-row-requires
-row-requires c κs = block-number (c .before .before .before .args .w) _ (c .before .w2 .given .1) (c .before .before .before .pre .0)
+block-at-requires : tie.Need-block-at-requires
+block-at-requires c κs = block-number (c .before .before .before .args .w) _ (c .before .w2 .given .1) (c .before .before .before .pre .0)
 
 bit-at-requires : tie.Need-bit-at-requires
 bit-at-requires c κs = let n = block-number (c .before .before .before .before .args .w) _ (c .before .before .w2 .given .1) (c .before .before .before .before .pre .0) in
     let f = block-placed _ n .lock in
-    let e = ap (λ (b : Block). b .write) (c .row .ensures) in
+    let e = ap (λ (b : Block). b .write) (c .block-at .ensures) in
     omega arith
 
 enum-told : tie.Need-enum-told
@@ -48,7 +48,7 @@ returns c = let a = c .before .before .before .before in
 
 returns-2 : tie.Need-returns-2
 returns-2 c = let a = c .before .before .before .before .before in
-    unlocked-block (a .args .p) _ _ (a .args .w) _ (c .before .before .before .w2 .given .1) (a .pre .0) (c .before .row .ensures) (c .bit-at .ensures)
+    unlocked-block (a .args .p) _ _ (a .args .w) _ (c .before .before .before .w2 .given .1) (a .pre .0) (c .before .block-at .ensures) (c .bit-at .ensures)
 
 returns-3 : tie.Need-returns-3
 returns-3 c = let a = c .before .before in unlocked-array (a .args .p) (a .args .w) (c .enum-told .given .1) (a .pre .1)
@@ -68,7 +68,7 @@ is-unlocked-spec =
     mul-write-locked
     write-locked-requires
     enum-known-w-2
-    row-requires
+    block-at-requires
     bit-at-requires
     enum-told
     enum-known-w-3

@@ -1,47 +1,33 @@
--- The first four and the last four 8 KB have a read lock, by shifts of their number; the others have none. Assumes nothing.
-
-use Rattle.blocks.proofs.Locks.{read-first, read-between, read-last}
+-- The read lock of the block that holds the place, if it has one. Assumes nothing.
+use native.Mathlib.Omega.{arith}
+use Rattle.blocks.proofs.Shape.{number-small, lock-small, read-lock}
 use borrow.Author.Needs.{needs}
 use Rattle.blocks.proofs.read_locked.Statement.{statement}
 use Rattle.blocks.proofs.read_locked.Tie as tie
 
-cast-g : tie.Need-cast-g
-cast-g c = search needs
+block-of-requires : tie.Need-block-of-requires
+block-of-requires c κs = search needs
 
-mul-bit-at : tie.Need-mul-bit-at
-mul-bit-at c = search needs
+block-at-requires : tie.Need-block-at-requires
+block-at-requires c κs = number-small (c .before .args .a) _ (c .before .pre) (c .block-of .ensures)
 
 add-bit-at : tie.Need-add-bit-at
-add-bit-at c = search needs
+add-bit-at c =
+    let s = c .before .before .before in
+    let l = lock-small _ _ (number-small (s .args .a) _ (s .pre) (c .before .before .block-of .ensures)) (c .before .block-at .ensures) in
+    omega arith
 
 bit-at-requires : tie.Need-bit-at-requires
-bit-at-requires c κs = search needs
+bit-at-requires c κs =
+    let s = c .before .before .before in
+    let l = lock-small _ _ (number-small (s .args .a) _ (s .pre) (c .before .before .block-of .ensures)) (c .before .block-at .ensures) in
+    omega arith
 
 returns : tie.Need-returns
 returns c =
-    let s = c .before .before in
-    read-first (s .args .p) (s .args .a) _ (s .pre) (c .before .if1 .taken) (c .bit-at .ensures)
-
-returns-2 : tie.Need-returns-2
-returns-2 c =
-    let s = c .before .before in
-    read-between (s .args .p) (s .args .a) (s .pre) (c .before .if1 .left) (c .if2 .taken)
-
-mul-bit-at-2 : tie.Need-mul-bit-at-2
-mul-bit-at-2 c = search needs
-
-sub-bit-at : tie.Need-sub-bit-at
-sub-bit-at c = search needs
-
-bit-at-requires-2 : tie.Need-bit-at-requires-2
-bit-at-requires-2 c κs = search needs
-
-returns-3 : tie.Need-returns-3
-returns-3 c =
-    let s = c .before .before .before in
-    read-last (s .args .p) (s .args .a) _ (s .pre) (c .before .if2 .left) (c .bit-at2 .ensures)
+    let s = c .before .before .before .before .before in
+    read-lock (s .args .p) (s .args .a) _ _ _ (c .before .before .before .before .block-of .ensures) (c .before .before .before .block-at .ensures) (c .before .bit-at .ensures)
 
 pub read-locked-spec : {M : Type 1} → statement M
 read-locked-spec =
-    tie.close
-    (tie.spec cast-g mul-bit-at add-bit-at bit-at-requires returns returns-2 mul-bit-at-2 sub-bit-at bit-at-requires-2 returns-3)
+    tie.close (tie.spec block-of-requires block-at-requires add-bit-at bit-at-requires returns)
