@@ -13,7 +13,8 @@ use Rattle.rules.specs.Blocks.{arraySize, blockOf, blockAt, span}
 use Rattle.rules.specs.Works.{isNothing, isErase, isProgram, canSuspend, arrayRange}
 use Rattle.rules.specs.Frames.{address}
 use Rattle.rules.specs.WellFormed.{numbersRight}
-use Rattle.rules.specs.Numbers.{suspension}
+use Rattle.rules.specs.Registers.{wse, wsp}
+use Rattle.rules.specs.Numbers.{suspendsWrongly, resumesNothing, mustWait, suspension}
 use Rattle.rules.proofs.Blocks.{blockOf-lt, block-placed}
 use Rattle.rules.proofs.Ranges.{array-inside}
 use Rattle.rules.proofs.WellFormed.{nothing}
@@ -30,35 +31,12 @@ block-found a n h e = rw e (blockOf-lt a h)
 pub block-inside : (n : ℕ) (b : Block) → n < 40 → b ≡ blockAt n → b .start + b .size ≤ arraySize
 block-inside n b h e = rw e (block-placed n h .inside)
 
--- ---- an opcode that changes one block
+-- ---- work of the other kind
 
-module _ (o : ℕ) where
-  abbrev changing : List ℕ
-  changing = 0x20 ∷ 0xD8 ∷ 0x02 ∷ 0x32 ∷ []
+pub other-kind : (w x y : Bool) → x ≡ w → not x ≡ true → false ≡ (w && y)
+other-kind w x y e n = rw (sym e ∙ not-true x n)
 
-  no-erase : (w h : Bool) → (w && oneOf o changing) ≡ false → false ≡ (w && (oneOf o (0x20 ∷ 0xD8 ∷ []) || oneOf o (0x02 ∷ 0x32 ∷ []) && h))
-  no-erase false h f = refl
-  no-erase true h f = rw (not-among changing (0x20 ∷ 0xD8 ∷ []) o refl f, not-among changing (0x02 ∷ 0x32 ∷ []) o refl f)
-
-  no-program : (w h k : Bool) → (w && oneOf o changing) ≡ false → false ≡ (w && (oneOf o (0x02 ∷ 0x32 ∷ []) || oneOf o (0x20 ∷ []) && h || oneOf o (0xD8 ∷ []) && k))
-  no-program false h k f = refl
-  no-program true h k f =
-      rw (not-among changing (0x02 ∷ 0x32 ∷ []) o refl f, not-among changing (0x20 ∷ []) o refl f, not-among changing (0xD8 ∷ []) o refl f)
-
-  module _ (aside : Work) (sent : List ℕ) (x y : Bool) (ey : y ≡ oneOf o changing) (none : not (x && y) ≡ true) where
-    pub no-erase-beside : x ≡ isErase aside
-        → false ≡ (isErase aside && (oneOf o (0x20 ∷ 0xD8 ∷ []) || oneOf o (0x02 ∷ 0x32 ∷ []) && holds (arrayRange aside) (address sent)))
-    no-erase-beside ex = no-erase (isErase aside) _ ((λ i. sym ex i && sym ey i) ∙ not-true _ none)
-
-    pub no-program-beside : x ≡ isProgram aside
-        → false
-        ≡ (isProgram aside
-        && (oneOf o (0x02 ∷ 0x32 ∷ [])
-        || oneOf o (0x20 ∷ []) && holds (range (address sent / 4096 * 4096) 4096) (arrayRange aside .start)
-        || oneOf o (0xD8 ∷ []) && holds (span (blockAt (blockOf (address sent)))) (arrayRange aside .start)))
-    no-program-beside ex = no-program (isProgram aside) _ _ ((λ i. sym ex i && sym ey i) ∙ not-true _ none)
-
--- ---- nothing suspended
+-- ---- an opcode that goes to no block
 
 and-true : (a : Bool) → (a && true) ≡ a
 and-true true = refl
@@ -67,6 +45,22 @@ and-true false = refl
 and-none : (a : Bool) → (a && false) ≡ false
 and-none true = refl
 and-none false = refl
+
+or-two : (a : Bool) → a ≡ (a || false || false)
+or-two true = refl
+or-two false = refl
+
+module _ (r : Rest) (o : ℕ) (sent : List ℕ) where
+  abbrev changing : List ℕ
+  changing = 0x20 ∷ 0xD8 ∷ 0x02 ∷ 0x32 ∷ []
+
+  pub no-block : (x : Bool) → x ≡ oneOf o changing → not x ≡ true → (suspendsWrongly r o || resumesNothing r o || mustWait r o) ≡ suspension r o sent
+  no-block x e n =
+      let none = sym e ∙ not-true x n in
+      rw (not-among changing (0x20 ∷ 0xD8 ∷ []) o refl none, not-among changing (0x02 ∷ 0x32 ∷ []) o refl none, not-among changing (0x20 ∷ []) o refl none, not-among changing (0xD8 ∷ []) o refl none, and-none (wse r), and-none (wsp r))
+      (or-two (suspendsWrongly r o || resumesNothing r o || mustWait r o))
+
+-- ---- nothing suspended
 
 or-three : (a : Bool) → a ≡ (a || false || false || false)
 or-three true = refl

@@ -18,7 +18,7 @@ fn beside_erase(aside: Work, op: u8, sent: &[u8]) -> bool
     requires { ⌜ numbersRight aside ≡ true ⌝ }
     ensures { λ b. ⌜ b ≡ (isErase aside && (oneOf op (0x20 ∷ 0xD8 ∷ []) || oneOf op (0x02 ∷ 0x32 ∷ []) && holds (arrayRange aside) (address (now (sent .entry))))) ⌝ }
 {
-    if !(blocks::is_erase(aside) & named::in_a_block(op)) {
+    if !blocks::is_erase(aside) {
         return false;
     }
     let erased = blocks::array_range(aside);
@@ -31,7 +31,7 @@ fn beside_program(aside: Work, op: u8, sent: &[u8]) -> bool
     requires { ⌜ numbersRight aside ≡ true ⌝ }
     ensures { λ b. ⌜ b ≡ (isProgram aside && (oneOf op (0x02 ∷ 0x32 ∷ []) || oneOf op (0x20 ∷ []) && holds (range (address (now (sent .entry)) / 4096 * 4096) 4096) (arrayRange aside .start) || oneOf op (0xD8 ∷ []) && holds (span (blockAt (blockOf (address (now (sent .entry)))))) (arrayRange aside .start))) ⌝ }
 {
-    if !(blocks::is_program(aside) & named::in_a_block(op)) {
+    if !blocks::is_program(aside) {
         return false;
     }
     let page = blocks::array_range(aside);
@@ -50,7 +50,7 @@ fn beside_program(aside: Work, op: u8, sent: &[u8]) -> bool
     named::programs(op) | named::is(op, 0x20) & in_sector | named::is(op, 0xd8) & in_block
 }
 
-// 8, clause by clause.
+// 8, clause by clause; the last two are of opcodes that go to one block.
 fn conflicts_beside(r: Rest, op: u8, sent: &[u8]) -> bool
     requires { ⌜ numbersRight (r .works .suspended) ≡ true ⌝ }
     ensures { λ b. ⌜ b ≡ suspension r op (now (sent .entry)) ⌝ }
@@ -61,6 +61,9 @@ fn conflicts_beside(r: Rest, op: u8, sent: &[u8]) -> bool
     let wrongly = named::is(op, 0xb0) & !(blocks::can_suspend(run) & blocks::is_nothing(aside));
     let nothing = named::is(op, 0x30) & blocks::is_nothing(aside);
     let waits = named::must_wait(op) & !blocks::is_nothing(aside);
+    if !named::in_a_block(op) {
+        return wrongly | nothing | waits;
+    }
     let erase = beside_erase(aside, op, sent);
     let program = beside_program(aside, op, sent);
     wrongly | nothing | waits | erase | program

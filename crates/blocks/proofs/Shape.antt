@@ -17,26 +17,30 @@ abbrev by-number : ℕ → Block
 by-number n =
     pick (ltb n 4) (pair (46 - 2 * n) (0x1FE000 - 0x2000 * n))
     (pick (ltb n 8) (pair (46 - 2 * n) (0xE000 - 0x2000 * n))
-    (pick (ltb n 10) (single (39 - n) (0x1F0000 - 0x1E8000 * (n - 8)) 0x8000)
-    (single (39 - n) (0x280000 - 0x10000 * n) 0x10000)))
+    (pick (ltb n 9) (single (39 - n) 0x1F0000 0x8000)
+    (pick (ltb n 10) (single (39 - n) 0x8000 0x8000)
+    (single (39 - n) (0x280000 - 0x10000 * n) 0x10000))))
 
 -- the one test: it is the rules' table, computed over the forty rows
 row-is : (n : ℕ) → n < 40 → by-number n ≡ blockAt n
 unfolding blockAt blocks wide
 row-is n h = row-ext (by-number n) (blockAt n) (upto-at 40 (λ n. same-row (by-number n) (blockAt n)) refl n h)
 
--- the 8-KB blocks at the top, those at the bottom, the 32-KB blocks, the 64-KB blocks
+-- the 8-KB blocks at the top, those at the bottom, the 32-KB block at the top, that at the bottom, the 64-KB blocks
 pub row-top : (n : ℕ) → n < 40 → n < 4 → pair (46 - 2 * n) (0x1FE000 - 0x2000 * n) ≡ blockAt n
 row-top n h a = (rw (lt-ltb n 4 a) at (row-is n h))
 
 pub row-bottom : (n : ℕ) → n < 40 → 4 ≤ n → n < 8 → pair (46 - 2 * n) (0xE000 - 0x2000 * n) ≡ blockAt n
 row-bottom n h a b = (rw (le-ltb n 4 a, lt-ltb n 8 b) at (row-is n h))
 
-pub row-half : (n : ℕ) → n < 40 → 8 ≤ n → n < 10 → single (39 - n) (0x1F0000 - 0x1E8000 * (n - 8)) 0x8000 ≡ blockAt n
-row-half n h a b = (rw (le-ltb n 4 (omega arith), le-ltb n 8 a, lt-ltb n 10 b) at (row-is n h))
+pub row-high : (n : ℕ) → n < 40 → 8 ≤ n → n < 9 → single (39 - n) 0x1F0000 0x8000 ≡ blockAt n
+row-high n h a b = (rw (le-ltb n 4 (omega arith), le-ltb n 8 a, lt-ltb n 9 b) at (row-is n h))
+
+pub row-low : (n : ℕ) → n < 40 → 9 ≤ n → n < 10 → single (39 - n) 0x8000 0x8000 ≡ blockAt n
+row-low n h a b = (rw (le-ltb n 4 (omega arith), le-ltb n 8 (omega arith), le-ltb n 9 a, lt-ltb n 10 b) at (row-is n h))
 
 pub row-wide : (n : ℕ) → n < 40 → 10 ≤ n → single (39 - n) (0x280000 - 0x10000 * n) 0x10000 ≡ blockAt n
-row-wide n h a = (rw (le-ltb n 4 (omega arith), le-ltb n 8 (omega arith), le-ltb n 10 a) at (row-is n h))
+row-wide n h a = (rw (le-ltb n 4 (omega arith), le-ltb n 8 (omega arith), le-ltb n 9 (omega arith), le-ltb n 10 a) at (row-is n h))
 
 -- ---- of a place
 

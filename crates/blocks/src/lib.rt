@@ -18,7 +18,8 @@ pub fn bit_at(p: u64, n: u32) -> bool
     (p >> n) & 1 == 1
 }
 
-// A block by its number, with shifts and comparisons. No other function knows the shape of the blocks: where they begin, their sizes, their lock bits.
+// A block by its number, by comparisons and shifts (products and quotients of powers of two).
+// No other function knows the shape of the blocks: where they begin, their sizes, their lock bits.
 pub fn block_at(n: usize) -> Block
     requires { ⌜ n < 40 ⌝ }
     ensures { λ r. ⌜ r ≡ blockAt n ⌝ }
@@ -40,9 +41,17 @@ pub fn block_at(n: usize) -> Block
             paired: true,
         };
     }
+    if n < 9 {
+        return Block {
+            start: 0x1f0000,
+            size: 0x8000,
+            write: 39 - lock,
+            paired: false,
+        };
+    }
     if n < 10 {
         return Block {
-            start: 0x1f0000 - 0x1e8000 * (n - 8),
+            start: 0x8000,
             size: 0x8000,
             write: 39 - lock,
             paired: false,

@@ -1,7 +1,7 @@
 -- The parts of the test of a record, put together. Assumes nothing.
 use Prim.Native.Nat.{ℕ, _+_, _^_, _≤_, _<_, min, max}
 use mathlib.Core.Path.{_≡_, sym, ap, _∙_}
-use mathlib.Core.Bool.{Bool, true, false, not, _&&_, _||_}
+use mathlib.Core.Bool.{Bool, true, false, not, _&&_, _||_, and-true}
 use mathlib.Core.List.{List}
 use native.Mathlib.Omega.{arith}
 use lib.Dec.{ltb}
@@ -80,6 +80,13 @@ pub works-parts : (p : ℕ) (sec : Bool) (b : List ℕ) (r s : Work) (k d o u e 
 unfolding worksRight
 works-parts p sec b r s k d o u e f hr hs h =
     rw (h .is-kind, h .is-beside, h .is-running-open, h .is-suspended-open, h .is-security, h .is-clean, hr, hs)
+
+-- with nothing running three of them are
+pub alone : (p : ℕ) (sec : Bool) (b : List ℕ) (r s : Work) (k u f : Bool) → numbersRight s ≡ true → isNothing r ≡ true → k ≡ suspendedRight s → u ≡ unlocked p (arrayRange s)
+    → f ≡ bufferRight r s b → (k && u && f) ≡ worksRight p sec b (worksOf r s)
+unfolding worksRight
+alone p sec b r s k u f hs i e o g =
+    rw (e, o, g, nothing r i, hs, unlocked-nowhere p, and-true (suspendedRight s), and-true (suspendedRight s), and-true (suspendedRight s && unlocked p (arrayRange s)))
 
 pub not-registers : (x y : Bool) (l : Locks) → x ≡ locksRight l → x ≡ false → false ≡ (locksRight l && y)
 not-registers x y l e t = rw (sym e ∙ t)

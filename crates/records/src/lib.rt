@@ -89,6 +89,7 @@ fn buffer_right(r: Work, s: Work, page: &[u8]) -> bool
     blocks::is_program(r) | blocks::is_program(s) | memory::first_ff(page, 256)
 }
 
+// With nothing running, the kind of the suspended work, its lock and the buffer decide.
 fn works_right(p: u64, sec: bool, page: &[u8], w: Works) -> bool
     requires { ⌜ (numbersRight (w .running) ≡ true) × ((numbersRight (w .suspended) ≡ true) × ((p < 2 ^ 48) × (length (now page) ≡ 256))) ⌝ }
     ensures { λ b. ⌜ b ≡ worksRight p sec (now (page .entry)) w ⌝ }
@@ -96,11 +97,14 @@ fn works_right(p: u64, sec: bool, page: &[u8], w: Works) -> bool
     let r = w.running;
     let s = w.suspended;
     let kind = blocks::is_nothing(s) | blocks::can_suspend(s);
+    let aside_open = blocks::is_unlocked(p, s);
+    let clean = buffer_right(r, s, page);
+    if blocks::is_nothing(r) {
+        return kind & aside_open & clean;
+    }
     let beside = beside_right(r, s);
     let run_open = blocks::is_unlocked(p, r);
-    let aside_open = blocks::is_unlocked(p, s);
     let security = security_right(r, sec, page);
-    let clean = buffer_right(r, s, page);
     kind & beside & run_open & aside_open & security & clean
 }
 

@@ -1,9 +1,8 @@
 -- Nothing to refuse, or the clause's tests. Assumes nothing.
 use mathlib.Core.Path.{sym, _∙_}
 use borrow.Author.Tests.{not-false}
-use Rattle.rules.proofs.Bools.{and-split}
 use native.Mathlib.Omega.{arith}
-use Rattle.beside.proofs.Clauses.{block-found, block-inside, no-program-beside}
+use Rattle.beside.proofs.Clauses.{block-found, block-inside, other-kind}
 use borrow.Author.Needs.{needs}
 use Rattle.beside.proofs.beside_program.Statement.{statement}
 use Rattle.beside.proofs.beside_program.Tie as tie
@@ -13,8 +12,7 @@ beside-program-spec =
     tie.close
     (tie.spec
     (λ c κs. search needs)
-    (λ c κs. search needs)
-    (λ c. no-program-beside (c .before .before .before .before .args .op) (c .before .before .before .before .args .aside) (c .before .before .before .before .args .sent .now) _ _ (c .before .in-a-block .ensures) (c .if1 .taken) (c .before .before .is-program .ensures))
+    (λ c. other-kind _ _ _ (c .before .is-program .ensures) (c .if1 .taken))
     (λ c κs. search needs)
     (λ c κs. search needs)
     (λ c. search needs)
@@ -25,4 +23,4 @@ beside-program-spec =
     (λ c κs. search needs)
     (λ c κs. search needs)
     (λ c κs. search needs)
-    (λ c. rw ((sym (c .before .before .before .before .before .before .before .before .before .before .before .is-program .ensures) ∙ and-split _ _ (not-false _ (c .before .before .before .before .before .before .before .before .before .if1 .left)) .0), c .is2 .ensures, c .before .is .ensures, c .before .before .programs .ensures, c .before .before .before .holds-place2 .ensures, c .before .before .before .before .holds-place .ensures, c .before .before .before .before .before .block-at .ensures, c .before .before .before .before .before .before .block-of .ensures, c .before .before .before .before .before .before .before .address-of .ensures .0, c .before .before .before .before .before .before .before .before .array-range .ensures)))
+    (λ c. rw ((sym (c .before .before .before .before .before .before .before .before .before .before .is-program .ensures) ∙ not-false _ (c .before .before .before .before .before .before .before .before .before .if1 .left)), c .is2 .ensures, c .before .is .ensures, c .before .before .programs .ensures, c .before .before .before .holds-place2 .ensures, c .before .before .before .before .holds-place .ensures, c .before .before .before .before .before .block-at .ensures, c .before .before .before .before .before .before .block-of .ensures, c .before .before .before .before .before .before .before .address-of .ensures .0, c .before .before .before .before .before .before .before .before .array-range .ensures)))

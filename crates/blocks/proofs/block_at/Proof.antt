@@ -1,5 +1,6 @@
--- Four cases by the number, each with its row of the table. Assumes nothing.
-use Rattle.blocks.proofs.Shape.{row-top, row-bottom, row-half, row-wide}
+-- Five cases by the number, each with its row of the table. Assumes nothing.
+use native.Mathlib.Omega.{arith}
+use Rattle.blocks.proofs.Shape.{row-top, row-bottom, row-high, row-low, row-wide}
 use borrow.Author.Needs.{needs}
 use Rattle.blocks.proofs.block_at.Statement.{statement}
 use Rattle.blocks.proofs.block_at.Tie as tie
@@ -13,17 +14,17 @@ block-at-spec =
     (λ c. search needs)
     (λ c. search needs)
     (λ c. search needs)
-    (λ c. row-top (c .before .args .n) (c .before .pre) (c .if1 .taken))
+    (λ c. row-top (c .before .args .n) (c .before .pre) (omega arith))
     (λ c. search needs)
     (λ c. search needs)
     (λ c. search needs)
     (λ c. search needs)
-    (λ c. row-bottom (c .before .before .args .n) (c .before .before .pre) (c .before .if1 .left) (c .if2 .taken))
+    (λ c. row-bottom (c .before .before .args .n) (c .before .before .pre) (omega arith) (omega arith))
+    (λ c. search needs)
+    (λ c. row-high (c .before .before .before .args .n) (c .before .before .before .pre) (omega arith) (omega arith))
+    (λ c. search needs)
+    (λ c. row-low (c .before .before .before .before .args .n) (c .before .before .before .before .pre) (omega arith) (omega arith))
     (λ c. search needs)
     (λ c. search needs)
     (λ c. search needs)
-    (λ c. row-half (c .before .before .before .args .n) (c .before .before .before .pre) (c .before .if2 .left) (c .if3 .taken))
-    (λ c. search needs)
-    (λ c. search needs)
-    (λ c. search needs)
-    (λ c. row-wide (c .before .before .before .args .n) (c .before .before .before .pre) (c .if3 .left)))
+    (λ c. row-wide (c .before .before .before .before .args .n) (c .before .before .before .before .pre) (omega arith)))
