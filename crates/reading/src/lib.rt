@@ -3,18 +3,35 @@ use rules::Range;
 use rules::plain::smaller;
 ghost use mathlib.Core.Path.{_≡_};
 ghost use mathlib.Core.List.{[], _∷_};
-ghost use Prim.Native.Nat.{_+_, _-_, _*_, _/_, _%_, _^_, _≤_, _<_, min};
+ghost use Prim.Native.Nat.{ℕ, _+_, _-_, _*_, _/_, _%_, _^_, _≤_, _<_, min};
 ghost use lib.Dec.{ltb};
 ghost use lib.ListN.{length, getD};
-ghost use Rattle.rules.specs.Words.{lent, pick};
+ghost use Rattle.rules.specs.Words.{lent, pick, holds};
 ghost use Rattle.rules.specs.Blocks.{arraySize, securitySize};
 ghost use Rattle.rules.specs.Reading.{placeCell};
 ghost use Rattle.rules.specs.Bursts.{Divides};
 ghost use Rattle.memory.specs.Patched.{Patched};
 ghost use Rattle.reading.specs.Upto.{Upto, Pages, cellFrom, burstCell};
 
-// n bytes of one page from place a on, into the reply and the marks from i on: locks and suspended ranges do not change within a page.
-fn read_piece(
+// How many places from a on lie in the same 8 KB and, with a, all in the range or all outside: read lock and suspended range do not change among them.
+fn alike(r: Range, a: usize) -> usize
+    requires { ⌜ r .start + r .size ≤ arraySize ⌝ }
+    ensures { λ n. ⌜ n ≡ min (8192 - a % 8192) (pick (ltb a (r .start)) (r .start - a) (pick (ltb a (r .start + r .size)) (r .start + r .size - a) 8192)) ⌝ }
+{
+    let group = 8192 - a % 8192;
+    let start = r.start;
+    let end = start + r.size;
+    if a < start {
+        return smaller(group, start - a);
+    }
+    if a < end {
+        return smaller(group, end - a);
+    }
+    group
+}
+
+// n bytes from place a on, all alike, into the reply and the marks from i on.
+fn read_alike(
     p: u64,
     r: Range,
     array: &[u8],
@@ -24,7 +41,7 @@ fn read_piece(
     marks: &mut [u8],
     i: usize,
 )
-    requires { ⌜ (Pages r) × ((length (now array) ≡ arraySize) × ((a < arraySize) × ((a % 256 + n ≤ 256) × ((i + n ≤ length (now reply)) × (i + n ≤ length (now marks)))))) ⌝ }
+    requires { ⌜ (r .start + r .size ≤ arraySize) × ((length (now array) ≡ arraySize) × ((a < arraySize) × ((a + n ≤ arraySize) × (((j : ℕ) → j < n → ((a + j) / 8192 ≡ a / 8192) × (holds r (a + j) ≡ holds r a)) × ((i + n ≤ length (now reply)) × (i + n ≤ length (now marks))))))) ⌝ }
     ensures bytes { λ _. ⌜ Patched (now (reply .exit)) (now (reply .entry)) i n (λ j. placeCell p r (lent (now (array .entry))) (a + j) .byte) ⌝ }
     ensures known { λ _. ⌜ Patched (now (marks .exit)) (now (marks .entry)) i n (λ j. placeCell p r (lent (now (array .entry))) (a + j) .mark) ⌝ }
 {
@@ -42,7 +59,25 @@ fn read_piece(
     memory::set_all(marks, i, n, 1);
 }
 
-// The array from place `at` on, going round, page by page.
+// n bytes of one page from place a on, into the reply and the marks from i on: locks and suspended ranges do not change within a page.
+fn read_piece(
+    p: u64,
+    r: Range,
+    array: &[u8],
+    a: usize,
+    n: usize,
+    reply: &mut [u8],
+    marks: &mut [u8],
+    i: usize,
+)
+    requires { ⌜ (Pages r) × ((length (now array) ≡ arraySize) × ((a < arraySize) × ((a % 256 + n ≤ 256) × ((i + n ≤ length (now reply)) × (i + n ≤ length (now marks)))))) ⌝ }
+    ensures bytes { λ _. ⌜ Patched (now (reply .exit)) (now (reply .entry)) i n (λ j. placeCell p r (lent (now (array .entry))) (a + j) .byte) ⌝ }
+    ensures known { λ _. ⌜ Patched (now (marks .exit)) (now (marks .entry)) i n (λ j. placeCell p r (lent (now (array .entry))) (a + j) .mark) ⌝ }
+{
+    read_alike(p, r, array, a, n, reply, marks, i);
+}
+
+// The array from place `at` on, going round, as far each time as places are alike.
 pub fn read_array(p: u64, r: Range, array: &[u8], at: usize, reply: &mut [u8], marks: &mut [u8])
     requires { ⌜ (Pages r) × ((length (now array) ≡ arraySize) × ((at < arraySize) × ((length (now marks) ≡ length (now reply)) × (length (now reply) ≤ 65536)))) ⌝ }
     ensures bytes { λ _. ⌜ Upto (now (reply .exit)) (length (now (reply .entry))) (length (now (reply .entry))) (λ i. cellFrom p r (now (array .entry)) at i .byte) ⌝ }
@@ -51,8 +86,8 @@ pub fn read_array(p: u64, r: Range, array: &[u8], at: usize, reply: &mut [u8], m
     let mut i: usize = 0;
     while i < reply.len() {
         let a = (at + i) % 2097152;
-        let n = smaller(256 - a % 256, reply.len() - i);
-        read_piece(p, r, array, a, n, reply, marks, i);
+        let n = smaller(alike(r, a), reply.len() - i);
+        read_alike(p, r, array, a, n, reply, marks, i);
         i += n;
     }
 }

@@ -1,11 +1,11 @@
--- Each turn adds a piece of one page: its places are the next places of the read. Assumes nothing.
+-- Each turn adds a piece whose places are alike: they are the next places of the read. Assumes nothing.
 use Prim.Native.Nat.{ℕ, _-_, _≤_}
 use mathlib.Core.Path.{ap}
 use lib.ListN.{length}
 use Rattle.rules.specs.Words.{lent}
 use Rattle.rules.specs.Reading.{placeCell}
 use Rattle.reading.specs.Upto.{Upto, cellFrom}
-use Rattle.reading.proofs.Upto.{upto-none, upto-piece, upto-all, place-on}
+use Rattle.reading.proofs.Upto.{upto-none, upto-piece, upto-all, piece, place-on}
 use borrow.Author.Needs.{needs}
 use native.Mathlib.Omega.{arith}
 use Rattle.reading.proofs.read_array.Statement.{statement}
@@ -23,52 +23,60 @@ loop-holds c = record { low = omega arith; bytes = upto-none _ _; known = upto-n
 add-a : tie.Need-add-a Inv-loop μ-loop
 add-a c = let s = c .before .before .before .before .before .pre .1 .1 .1 .1 in let l = c .before .loop .inv .low in let p = c .before .before .before .before .before .pre .1 .1 .0 in omega arith
 
+alike-requires : tie.Need-alike-requires Inv-loop μ-loop
+alike-requires c κs = c .before .before .before .before .before .pre .0 .inside
+
 sub-smaller : tie.Need-sub-smaller Inv-loop μ-loop
 sub-smaller c = search needs
-
-sub-smaller-2 : tie.Need-sub-smaller-2 Inv-loop μ-loop
-sub-smaller-2 c = search needs
 
 smaller-requires : tie.Need-smaller-requires Inv-loop μ-loop
 smaller-requires c κs = search needs
 
-read-piece-requires : tie.Need-read-piece-requires Inv-loop μ-loop
-read-piece-requires c κs = let s = c .before .before .before .before .before .before .before .before in
-    let l = c .before .before .before .before .loop in
-    let n = c .before .before .smaller .ensures in
+read-alike-requires : tie.Need-read-alike-requires Inv-loop μ-loop
+read-alike-requires c κs = let l = c .before .before .before .before .before .loop in
+    let s = c .before .before .before .before .before .before .before .before .before in
+    let t = c .before .before .before .before .loop-test .taken in
     let h = l .inv .bytes .size in
     let k = l .inv .known .size in
     let m = s .pre .1 .1 .1 .0 in
-    let t = c .before .before .before .loop-test .taken in
-    (s .pre .0, (s .pre .1 .0, (omega arith, (omega arith, (omega arith, omega arith)))))
+    let q = piece (s .args .r) _ _ _ _ (c .before .before .before .alike .ensures) (c .before .before .smaller .ensures) (omega arith) in
+    let n = q .most in
+    let g = q .in-group in
+    (s .pre .0 .inside, (s .pre .1 .0, (omega arith, (omega arith, (q .is-alike, (omega arith, omega arith))))))
 
 add-i : tie.Need-add-i Inv-loop μ-loop
-add-i c = let l = c .before .before .before .before .before .before .before .before .before .loop in
+add-i c = let l = c .before .before .before .before .before .before .before .before .before .before .loop in
     let n = c .before .before .before .before .before .before .before .smaller .ensures in
     let h = l .inv .bytes .size in
-    let t = c .before .before .before .before .before .before .before .before .loop-test .taken in
-    let s = c .before .before .before .before .before .before .before .before .before .before .before .before .before .pre .1 .1 .1 .1 in
+    let t = c .before .before .before .before .before .before .before .before .before .loop-test .taken in
+    let s = c .before .before .before .before .before .before .before .before .before .before .before .before .before .before .pre .1 .1 .1 .1 in
     omega arith
 
 loop-less : tie.Need-loop-less Inv-loop μ-loop
-loop-less c = let l = c .before .before .before .before .before .before .before .before .before .loop in
-    let n = c .before .before .before .before .before .before .before .smaller .ensures in
+loop-less c = let w = c .before .before .before .before .before .before .before in
+    let l = w .before .before .before .loop in
+    let s = w .before .before .before .before .before .before .before in
+    let t = w .before .before .loop-test .taken in
     let h = l .inv .bytes .size in
-    let t = c .before .before .before .before .before .before .before .before .loop-test .taken in
-    let s = c .before .before .before .before .before .before .before .before .before .before .before .before .before .pre .1 .1 .1 .1 in
+    let q = piece (s .args .r) _ _ _ _ (w .before .alike .ensures) (w .smaller .ensures) (omega arith) in
+    let x = q .some in
+    let y = q .most in
     omega arith
 
 loop-again : tie.Need-loop-again Inv-loop μ-loop
-loop-again c = let s = c .before .before .before .before .before .before .before .before .before .before .before .before .before in
-    let l = c .before .before .before .before .before .before .before .before .before .loop in
-    let n = c .before .before .before .before .before .before .before .smaller .ensures in
+loop-again c = let w = c .before .before .before .before .before .before .before in
+    let l = w .before .before .before .loop in
+    let s = w .before .before .before .before .before .before .before in
+    let t = w .before .before .loop-test .taken in
     let h = l .inv .bytes .size in
-    let t = c .before .before .before .before .before .before .before .before .loop-test .taken in
+    let q = piece (s .args .r) _ _ _ _ (w .before .alike .ensures) (w .smaller .ensures) (omega arith) in
+    let y = q .most in
+    let g = q .in-group in
     record {
       low = omega arith;
-      bytes = upto-piece _ _ _ _ _ _ _ (l .inv .bytes) (c .before .before .before .before .read-piece .ensures .0)
+      bytes = upto-piece _ _ _ _ _ _ _ (l .inv .bytes) (c .before .before .before .before .read-alike .ensures .0)
           (λ j below. ap (λ (x : ℕ). placeCell (s .args .p) (s .args .r) (lent (s .args .array .now)) x .byte) (place-on (s .args .at) (l .i) j (omega arith)));
-      known = upto-piece _ _ _ _ _ _ _ (l .inv .known) (c .before .before .before .before .read-piece .ensures .1)
+      known = upto-piece _ _ _ _ _ _ _ (l .inv .known) (c .before .before .before .before .read-alike .ensures .1)
           (λ j below. ap (λ (x : ℕ). placeCell (s .args .p) (s .args .r) (lent (s .args .array .now)) x .mark) (place-on (s .args .at) (l .i) j (omega arith)));
     }
 
@@ -94,10 +102,10 @@ read-array-spec =
     μ-loop
     loop-holds
     add-a
+    alike-requires
     sub-smaller
-    sub-smaller-2
     smaller-requires
-    read-piece-requires
+    read-alike-requires
     add-i
     loop-less
     loop-again
