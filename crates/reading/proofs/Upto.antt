@@ -14,7 +14,7 @@ use Rattle.rules.specs.Words.{pick, holds, Lent}
 use Rattle.rules.specs.Blocks.{arraySize, readLocked}
 use Rattle.rules.specs.Reading.{placeCell}
 use Rattle.rules.proofs.Bools.{same-test}
-use Rattle.rules.proofs.Blocks.{same-group, holds-at, holds-intro}
+use Rattle.rules.proofs.Blocks.{sector-in-one, holds-at, holds-intro}
 use Rattle.rules.proofs.Effects.{read-locked-place, suspended-place, stored-place}
 use Rattle.memory.specs.Patched.{Patched}
 use Rattle.reading.specs.Upto.{Upto, Pages}
@@ -42,12 +42,12 @@ upto-piece l l₀ n k m f g h p e = record { size = p .size ∙ h .size; at = λ
 
 -- ---- among places that are alike nothing changes
 
-same-lock : (p a j : ℕ) → (a + j) / 8192 ≡ a / 8192 → readLocked p (a + j) ≡ readLocked p a
+same-lock : (p a j : ℕ) → (a + j) / 4096 ≡ a / 4096 → readLocked p (a + j) ≡ readLocked p a
 unfolding readLocked
-same-lock p a j e = rw (same-group (a + j) a e)
+same-lock p a j e = rw (sector-in-one (a + j) a e)
 
 abbrev pub Alike : Range → ℕ → ℕ → Type 0
-Alike r a n = (j : ℕ) → j < n → ((a + j) / 8192 ≡ a / 8192) × (holds r (a + j) ≡ holds r a)
+Alike r a n = (j : ℕ) → j < n → ((a + j) / 4096 ≡ a / 4096) × (holds r (a + j) ≡ holds r a)
 
 module _ (p : ℕ) (r : Range) (m : Lent) (a n : ℕ) (alike : Alike r a n) where
   pub locked-piece : (x : Bool) → x ≡ readLocked p a → x ≡ true → (j : ℕ) → j < n → placeCell p r m (a + j) ≡ record { byte = 0; mark = 1 }
@@ -70,27 +70,27 @@ alike-in-page r a n g fits j h =
           (λ e. let k = holds-at r a e in holds-intro r (a + j) (omega arith) (omega arith)),
     )
 
--- and up to the end of their 8 KB, the range's start or its end
+-- and up to the end of their sector, the range's start or its end
 abbrev pub run : Range → ℕ → ℕ
-run r a = min (8192 - a % 8192) (pick (ltb a (r .start)) (r .start - a) (pick (ltb a (r .start + r .size)) (r .start + r .size - a) 8192))
+run r a = min (4096 - a % 4096) (pick (ltb a (r .start)) (r .start - a) (pick (ltb a (r .start + r .size)) (r .start + r .size - a) 4096))
 
 pub alike-in-run : (r : Range) (a n : ℕ) → n ≤ run r a → Alike r a n
 alike-in-run r a n fits j h = go (ltb a (r .start)) refl (ltb a (r .start + r .size)) refl
   where
-    go : (x : Bool) → ltb a (r .start) ≡ x → (y : Bool) → ltb a (r .start + r .size) ≡ y → ((a + j) / 8192 ≡ a / 8192) × (holds r (a + j) ≡ holds r a)
+    go : (x : Bool) → ltb a (r .start) ≡ x → (y : Bool) → ltb a (r .start + r .size) ≡ y → ((a + j) / 4096 ≡ a / 4096) × (holds r (a + j) ≡ holds r a)
     go true e y f =
         let b = ltb-true a (r .start) e in
-        let l : n ≤ min (8192 - a % 8192) (r .start - a) = (rw (e) at fits) in
+        let l : n ≤ min (4096 - a % 4096) (r .start - a) = (rw (e) at fits) in
         (omega arith, same-test (holds r (a + j)) (holds r a) (λ q. let k = holds-at r (a + j) q in absurd (omega arith)) (λ q. let k = holds-at r a q in absurd (omega arith)))
     go false e true f =
         let b = ltb-false a (r .start) e in
         let d = ltb-true a (r .start + r .size) f in
-        let l : n ≤ min (8192 - a % 8192) (r .start + r .size - a) = (rw (e, f) at fits) in
+        let l : n ≤ min (4096 - a % 4096) (r .start + r .size - a) = (rw (e, f) at fits) in
         (omega arith, same-test (holds r (a + j)) (holds r a) (λ q. holds-intro r a (omega arith) (omega arith)) (λ q. holds-intro r (a + j) (omega arith) (omega arith)))
     go false e false f =
         let b = ltb-false a (r .start) e in
         let d = ltb-false a (r .start + r .size) f in
-        let l : n ≤ min (8192 - a % 8192) 8192 = (rw (e, f) at fits) in
+        let l : n ≤ min (4096 - a % 4096) 4096 = (rw (e, f) at fits) in
         (omega arith, same-test (holds r (a + j)) (holds r a) (λ q. let k = holds-at r (a + j) q in absurd (omega arith)) (λ q. let k = holds-at r a q in absurd (omega arith)))
 
 -- that is one place at least
@@ -106,21 +106,21 @@ run-some r a = go (ltb a (r .start)) refl (ltb a (r .start + r .size)) refl
 pub record Piece (r : Range) (a n left : ℕ) : Type 0 where
   pub some : 0 < n
   pub most : n ≤ left
-  pub in-group : a % 8192 + n ≤ 8192
+  pub in-sector : a % 4096 + n ≤ 4096
   pub is-alike : Alike r a n
 
 pub piece : (r : Range) (a x n left : ℕ) → x ≡ run r a → n ≡ min x left → 0 < left → Piece r a n left
 piece r a x n left e f h =
     let s = run-some r a in
-    let m : run r a ≤ 8192 - a % 8192 = omega arith in
-    record { some = omega arith; most = omega arith; in-group = omega arith; is-alike = alike-in-run r a n (omega arith) }
+    let m : run r a ≤ 4096 - a % 4096 = omega arith in
+    record { some = omega arith; most = omega arith; in-sector = omega arith; is-alike = alike-in-run r a n (omega arith) }
 
 -- a patch whose bytes are said another way
 pub patched-same : (l l₀ : List ℕ) (i n : ℕ) (f g : ℕ → ℕ) → Patched l l₀ i n f → ((j : ℕ) → j < n → g j ≡ f j) → Patched l l₀ i n g
 patched-same l l₀ i n f g h e = record { size = h .size; inside = λ j below. h .inside j below ∙ sym (e j below); before = h .before; after = h .after }
 
 -- the place of byte i + j of a read
-pub place-on : (at i j : ℕ) → (at + i) % arraySize % 8192 + j < 8192 → (at + i) % arraySize + j ≡ (at + (i + j)) % arraySize
+pub place-on : (at i j : ℕ) → (at + i) % arraySize % 4096 + j < 4096 → (at + i) % arraySize + j ≡ (at + (i + j)) % arraySize
 place-on at i j h = omega arith
 
 -- filled to the end

@@ -13,21 +13,21 @@ ghost use Rattle.rules.specs.Bursts.{Divides};
 ghost use Rattle.memory.specs.Patched.{Patched};
 ghost use Rattle.reading.specs.Upto.{Upto, Pages, cellFrom, burstCell};
 
-// How many places from a on lie in the same 8 KB and, with a, all in the range or all outside: read lock and suspended range do not change among them.
+// How many places from a on lie in its sector and, as it does, in the range or outside: neither read lock nor suspended range changes among them.
 fn alike(r: Range, a: usize) -> usize
     requires { ⌜ r .start + r .size ≤ arraySize ⌝ }
-    ensures { λ n. ⌜ n ≡ min (8192 - a % 8192) (pick (ltb a (r .start)) (r .start - a) (pick (ltb a (r .start + r .size)) (r .start + r .size - a) 8192)) ⌝ }
+    ensures { λ n. ⌜ n ≡ min (4096 - a % 4096) (pick (ltb a (r .start)) (r .start - a) (pick (ltb a (r .start + r .size)) (r .start + r .size - a) 4096)) ⌝ }
 {
-    let group = 8192 - a % 8192;
+    let left = 4096 - a % 4096;
     let start = r.start;
     let end = start + r.size;
     if a < start {
-        return smaller(group, start - a);
+        return smaller(left, start - a);
     }
     if a < end {
-        return smaller(group, end - a);
+        return smaller(left, end - a);
     }
-    group
+    left
 }
 
 // n bytes from place a on, all alike, into the reply and the marks from i on.
@@ -41,7 +41,7 @@ fn read_alike(
     marks: &mut [u8],
     i: usize,
 )
-    requires { ⌜ (r .start + r .size ≤ arraySize) × ((length (now array) ≡ arraySize) × ((a < arraySize) × ((a + n ≤ arraySize) × (((j : ℕ) → j < n → ((a + j) / 8192 ≡ a / 8192) × (holds r (a + j) ≡ holds r a)) × ((i + n ≤ length (now reply)) × (i + n ≤ length (now marks))))))) ⌝ }
+    requires { ⌜ (r .start + r .size ≤ arraySize) × ((length (now array) ≡ arraySize) × ((a < arraySize) × ((a + n ≤ arraySize) × (((j : ℕ) → j < n → ((a + j) / 4096 ≡ a / 4096) × (holds r (a + j) ≡ holds r a)) × ((i + n ≤ length (now reply)) × (i + n ≤ length (now marks))))))) ⌝ }
     ensures bytes { λ _. ⌜ Patched (now (reply .exit)) (now (reply .entry)) i n (λ j. placeCell p r (lent (now (array .entry))) (a + j) .byte) ⌝ }
     ensures known { λ _. ⌜ Patched (now (marks .exit)) (now (marks .entry)) i n (λ j. placeCell p r (lent (now (array .entry))) (a + j) .mark) ⌝ }
 {

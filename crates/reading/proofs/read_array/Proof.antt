@@ -41,7 +41,7 @@ read-alike-requires c κs = let l = c .before .before .before .before .before .l
     let m = s .pre .1 .1 .1 .0 in
     let q = piece (s .args .r) _ _ _ _ (c .before .before .before .alike .ensures) (c .before .before .smaller .ensures) (omega arith) in
     let n = q .most in
-    let g = q .in-group in
+    let g = q .in-sector in
     (s .pre .0 .inside, (s .pre .1 .0, (omega arith, (omega arith, (q .is-alike, (omega arith, omega arith))))))
 
 add-i : tie.Need-add-i Inv-loop μ-loop
@@ -71,7 +71,7 @@ loop-again c = let w = c .before .before .before .before .before .before .before
     let h = l .inv .bytes .size in
     let q = piece (s .args .r) _ _ _ _ (w .before .alike .ensures) (w .smaller .ensures) (omega arith) in
     let y = q .most in
-    let g = q .in-group in
+    let g = q .in-sector in
     record {
       low = omega arith;
       bytes = upto-piece _ _ _ _ _ _ _ (l .inv .bytes) (c .before .before .before .before .read-alike .ensures .0)
