@@ -1,21 +1,20 @@
--- The clauses of refusal 8: ranges inside the array, opcodes that change no block, and nothing suspended. Assumes nothing.
-use Prim.Native.Nat.{ℕ, _+_, _*_, _/_, _≤_, _<_}
+-- The clauses of refusal 8: ranges inside the array, opcodes that go to no block, and nothing suspended. Assumes nothing.
+use Prim.Native.Nat.{ℕ, _+_, _≤_, _<_}
 use mathlib.Core.Path.{_≡_, refl, sym, _∙_}
-use mathlib.Core.Bool.{Bool, true, false, not, _&&_, _||_}
+use mathlib.Core.Bool.{Bool, true, false, not, _&&_, _||_, and-true, and-false}
 use mathlib.Core.List.{List, [], _∷_}
 use borrow.Author.Tests.{not-true}
 use Rattle.rules.specs.declared.Block.{Block}
 use Rattle.rules.specs.declared.Range.{Range}
 use Rattle.rules.specs.declared.Rest.{Rest}
 use Rattle.rules.specs.declared.Work.{Work}
-use Rattle.rules.specs.Words.{oneOf, range, holds}
-use Rattle.rules.specs.Blocks.{arraySize, blockOf, blockAt, span}
-use Rattle.rules.specs.Works.{isNothing, isErase, isProgram, canSuspend, arrayRange}
-use Rattle.rules.specs.Frames.{address}
+use Rattle.rules.specs.Words.{oneOf}
+use Rattle.rules.specs.Blocks.{arraySize, blockAt}
+use Rattle.rules.specs.Works.{isNothing, canSuspend, arrayRange}
 use Rattle.rules.specs.WellFormed.{numbersRight}
 use Rattle.rules.specs.Registers.{wse, wsp}
 use Rattle.rules.specs.Numbers.{suspendsWrongly, resumesNothing, mustWait, suspension}
-use Rattle.rules.proofs.Blocks.{blockOf-lt, block-placed}
+use Rattle.rules.proofs.Blocks.{block-placed}
 use Rattle.rules.proofs.Ranges.{array-inside}
 use Rattle.rules.proofs.WellFormed.{nothing}
 use Rattle.named.proofs.Lists.{not-among}
@@ -24,9 +23,6 @@ use Rattle.named.proofs.Lists.{not-among}
 
 pub found-inside : (w : Work) (r : Range) → numbersRight w ≡ true → r ≡ arrayRange w → r .start + r .size ≤ arraySize
 found-inside w r h e = rw e (array-inside w h)
-
-pub block-found : (a n : ℕ) → a < arraySize → n ≡ blockOf a → n < 40
-block-found a n h e = rw e (blockOf-lt a h)
 
 pub block-inside : (n : ℕ) (b : Block) → n < 40 → b ≡ blockAt n → b .start + b .size ≤ arraySize
 block-inside n b h e = rw e (block-placed n h .inside)
@@ -37,14 +33,6 @@ pub other-kind : (w x y : Bool) → x ≡ w → not x ≡ true → false ≡ (w 
 other-kind w x y e n = rw (sym e ∙ not-true x n)
 
 -- ---- an opcode that goes to no block
-
-and-true : (a : Bool) → (a && true) ≡ a
-and-true true = refl
-and-true false = refl
-
-and-none : (a : Bool) → (a && false) ≡ false
-and-none true = refl
-and-none false = refl
 
 or-two : (a : Bool) → a ≡ (a || false || false)
 or-two true = refl
@@ -57,7 +45,7 @@ module _ (r : Rest) (o : ℕ) (sent : List ℕ) where
   pub no-block : (x : Bool) → x ≡ oneOf o changing → not x ≡ true → (suspendsWrongly r o || resumesNothing r o || mustWait r o) ≡ suspension r o sent
   no-block x e n =
       let none = sym e ∙ not-true x n in
-      rw (not-among changing (0x20 ∷ 0xD8 ∷ []) o refl none, not-among changing (0x02 ∷ 0x32 ∷ []) o refl none, not-among changing (0x20 ∷ []) o refl none, not-among changing (0xD8 ∷ []) o refl none, and-none (wse r), and-none (wsp r))
+      rw (not-among changing (0x20 ∷ 0xD8 ∷ []) o refl none, not-among changing (0x02 ∷ 0x32 ∷ []) o refl none, not-among changing (0x20 ∷ []) o refl none, not-among changing (0xD8 ∷ []) o refl none, and-false (wse r), and-false (wsp r))
       (or-two (suspendsWrongly r o || resumesNothing r o || mustWait r o))
 
 -- ---- nothing suspended
@@ -73,4 +61,4 @@ none-beside r o sent e =
     let c = canSuspend (r .works .running) in
     let t = oneOf o (0x30 ∷ []) in
     let w = oneOf o (0xC7 ∷ 0x01 ∷ 0x42 ∷ 0x8D ∷ 0xE8 ∷ 0x98 ∷ 0xA5 ∷ 0x85 ∷ []) in
-    rw (nothing (r .works .suspended) e, and-true c, and-true t, and-none w) (or-three (b && not c || t))
+    rw (nothing (r .works .suspended) e, and-true c, and-true t, and-false w) (or-three (b && not c || t))

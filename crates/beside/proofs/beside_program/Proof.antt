@@ -2,7 +2,8 @@
 use mathlib.Core.Path.{sym, _∙_}
 use borrow.Author.Tests.{not-false}
 use native.Mathlib.Omega.{arith}
-use Rattle.beside.proofs.Clauses.{block-found, block-inside, other-kind}
+use Rattle.blocks.proofs.Shape.{number-small}
+use Rattle.beside.proofs.Clauses.{block-inside, other-kind}
 use borrow.Author.Needs.{needs}
 use Rattle.beside.proofs.beside_program.Statement.{statement}
 use Rattle.beside.proofs.beside_program.Tie as tie
@@ -17,9 +18,9 @@ beside-program-spec =
     (λ c κs. search needs)
     (λ c. search needs)
     (λ c κs. search needs)
-    (λ c κs. block-found _ _ (c .before .address-of .ensures .1) (c .block-of .ensures))
+    (λ c κs. number-small _ _ (c .before .address-of .ensures .1) (c .block-of .ensures))
     (λ c κs. let h = c .before .before .address-of .ensures .1 in omega arith)
-    (λ c κs. block-inside _ _ (block-found _ _ (c .before .before .before .address-of .ensures .1) (c .before .before .block-of .ensures)) (c .before .block-at .ensures))
+    (λ c κs. block-inside _ _ (number-small _ _ (c .before .before .before .address-of .ensures .1) (c .before .before .block-of .ensures)) (c .before .block-at .ensures))
     (λ c κs. search needs)
     (λ c κs. search needs)
     (λ c κs. search needs)
