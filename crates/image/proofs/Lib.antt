@@ -1,0 +1,5 @@
+-- The laws of document 02's W-203.
+pub mod Bytes
+pub mod Parts
+pub mod Records
+pub mod Laws
