@@ -3,3 +3,4 @@ pub mod Bytes
 pub mod Parts
 pub mod Records
 pub mod Laws
+pub mod Faults

@@ -3,3 +3,4 @@ pub mod Form
 pub mod Files
 pub mod Promises
 pub mod Laws
+pub mod Faults

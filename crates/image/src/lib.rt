@@ -31,7 +31,7 @@ pub enum What {
 // The first thing that is wrong with a file: in which record, counted from 0 (RG, SI, then the pages), what stands there, and what belongs there.
 pub struct Fault {
     pub what: What,
-    pub record: usize,
+    pub at: usize,
     pub found: u64,
     pub due: u64,
 }

@@ -1,0 +1,85 @@
+-- What is wrong with a file first, for whoever reads a refusal: record by record, the mark, then the sum, then what the record holds. Nothing is, exactly of a
+-- right file: proved in proofs/Faults.
+use Prim.Native.Nat.{ℕ, zero, suc, _+_}
+use Prim.Native.String.{String}
+use mathlib.Core.Path.{_≡_}
+use mathlib.Core.Bool.{Bool, true, false}
+use mathlib.Core.List.{List}
+use lib.Bits.{bitAnd}
+use lib.Dec.{eqb, ltb, leb}
+use lib.ListN.{length}
+use Rattle.rules.specs.Words.{pick}
+use Rattle.rules.specs.Texts.{ascii}
+use Rattle.rules.specs.Blocks.{readLocks}
+use Rattle.rules.specs.Bursts.{lastBurst}
+use Rattle.rules.specs.Fields.{flagsBound}
+use Rattle.image.specs.declared.Fault.{Fault}
+use Rattle.image.specs.declared.What.{What}
+use Rattle.image.specs.Form.{number, sum, fileSize}
+use Rattle.image.specs.Files.{securityPlace, pagePlace, markIn, sumIn, bodyIn, locksIn, flagsByteIn, burstByteIn, numberIn, right}
+use Rattle.image.specs.Laws.{OfBytes}
+
+-- what is wrong, in which record, what stands there and what belongs there
+abbrev pub faultOf : What → ℕ → ℕ → ℕ → Fault
+faultOf w k found due = record { what = w; at = k; found = found; due = due }
+
+abbrev pub noFault : Fault
+noFault = faultOf What.Nothing 0 0 0
+
+abbrev pub isNone : What → Bool
+isNone What.Nothing = true
+isNone What.Length = false
+isNone What.Mark = false
+isNone What.Sum = false
+isNone What.PageNumber = false
+isNone What.FlagBit = false
+isNone What.BurstCode = false
+isNone What.ReadLock = false
+isNone What.Unprotected = false
+
+unfoldable pub sound : Fault → Bool
+sound f = isNone (f .what)
+
+-- the first of two
+unfoldable pub orElse : Fault → Fault → Fault
+orElse f g = pick (sound f) g f
+
+-- none where the test holds
+unfoldable pub unless : Bool → Fault → Fault
+unless t f = pick t noFault f
+
+-- of the record k, at a place
+unfoldable pub recordFault : String → List ℕ → ℕ → ℕ → ℕ → Fault
+recordFault mark l k at n =
+    orElse
+    (unless (eqb (markIn l at) (number (ascii mark))) (faultOf What.Mark k (markIn l at) (number (ascii mark))))
+    (unless (eqb (sumIn l at n) (sum (bodyIn l at n))) (faultOf What.Sum k (sumIn l at n) (sum (bodyIn l at n))))
+
+unfoldable pub registersFault : List ℕ → Fault
+registersFault l =
+    let p = locksIn l .protection in
+    let q = locksIn l .permanent in
+    orElse (unless (ltb (flagsByteIn l) flagsBound) (faultOf What.FlagBit 0 (flagsByteIn l) 0))
+    (orElse (unless (leb (burstByteIn l) lastBurst) (faultOf What.BurstCode 0 (burstByteIn l) lastBurst))
+    (orElse (unless (eqb (bitAnd q readLocks) 0) (faultOf What.ReadLock 0 q 0))
+    (unless (eqb (bitAnd q p) q) (faultOf What.Unprotected 0 q p))))
+
+unfoldable pub pageFault : List ℕ → ℕ → Fault
+pageFault l n = orElse (recordFault "PG" l (2 + n) (pagePlace n) 258) (unless (eqb (numberIn l n) n) (faultOf What.PageNumber (2 + n) (numberIn l n) n))
+
+-- the first of k in a row, from n on
+unfoldable pub firstFrom : (ℕ → Fault) → ℕ → ℕ → Fault
+firstFrom f n zero = noFault
+firstFrom f n (suc k) = orElse (f n) (firstFrom f (n + 1) k)
+
+unfoldable pub firstFault : List ℕ → Fault
+firstFault l =
+    orElse (unless (eqb (length l) fileSize) (faultOf What.Length 0 (length l) fileSize))
+    (orElse (recordFault "RG" l 0 0 14)
+    (orElse (registersFault l)
+    (orElse (recordFault "SI" l 1 securityPlace 2_048)
+    (firstFrom (pageFault l) 0 8_192))))
+
+-- nothing is wrong exactly of a right file
+abbrev pub FaultsTell : Type 0
+FaultsTell = (l : List ℕ) → OfBytes l → sound (firstFault l) ≡ right l
