@@ -14,7 +14,7 @@ use Rattle.image.specs.Files.{part, firstHold}
 
 -- ---- parts
 
-drop-take : (i n : ℕ) (l : List ℕ) → drop i (take (i + n) l) ≡ take n (drop i l)
+pub drop-take : (i n : ℕ) (l : List ℕ) → drop i (take (i + n) l) ≡ take n (drop i l)
 drop-take zero n l = let e : 0 + n ≡ n = omega arith in rw e
 drop-take (suc i) n [] = let e : suc i + n ≡ suc (i + n) = omega arith in rw (e, take-nil)
 drop-take (suc i) n (x ∷ l) = let e : suc i + n ≡ suc (i + n) = omega arith in rw e (drop-take i n l)
