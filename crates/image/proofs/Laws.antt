@@ -16,6 +16,7 @@ use Rattle.rules.specs.declared.Flags.{Flags}
 use Rattle.rules.specs.declared.Rest.{Rest}
 use Rattle.rules.specs.declared.Work.{Work}
 use Rattle.rules.specs.Texts.{ascii}
+use Rattle.rules.specs.Blocks.{arraySize, securitySize}
 use Rattle.rules.specs.Bursts.{burstByte, lastBurst, burstOf}
 use Rattle.rules.specs.Programs.{blank}
 use Rattle.rules.specs.Works.{isNothing}
@@ -52,44 +53,31 @@ pg = record { two = refl; bytes = two-bytes 0x50 0x47 (omega arith) (omega arith
 
 -- ---- what a file is made of
 
-length-registers : (r : Rest) → length (registers r) ≡ 14
+pub length-registers : (r : Rest) → length (registers r) ≡ 14
 unfolding registers
 length-registers r =
     let p = length-high 6 (r .locks .protection) in
     let q = length-high 6 (r .locks .permanent) in
     rw (length-append, length-append, p, q)
 
+pub length-front : (r : Rest) → length (recordOf "RG" (registers r)) ≡ 18
+length-front r = let s = length-registers r in let e = length-record "RG" (registers r) rg in omega arith
+
+pub length-middle : (security : List ℕ) → length security ≡ securitySize → length (recordOf "SI" security) ≡ 2052
+length-middle security s = let e = length-record "SI" security si in omega arith
+
+pub length-page : (array : List ℕ) → length array ≡ arraySize → (n : ℕ) → n < 8192 → length (pageOf array n) ≡ 256
+length-page array s n h = length-part array (n * 256) 256 (omega arith)
+
+pub length-body : (array : List ℕ) → length array ≡ arraySize → (n : ℕ) → n < 8192 → length (highFirst 2 n ++ pageOf array n) ≡ 258
+length-body array s n h = let p = length-page array s n h in let q = length-high 2 n in rw (length-append, p, q)
+
+pub length-pages : (array : List ℕ) → length array ≡ arraySize → Each (pageRecord array) 8192 262
+length-pages array s n h = let b = length-body array s n h in let t = length-record "PG" (highFirst 2 n ++ pageOf array n) pg in omega arith
+
 module _ (c : Chip) (array security : List ℕ) (w : Whole c array security) where
-  file : List ℕ
-  file = fileOf c array security
-
-  length-page : (n : ℕ) → n < 8192 → length (pageOf array n) ≡ 256
-  length-page n h = let s = w .array-size in length-part array (n * 256) 256 (omega arith)
-
-  body : ℕ → List ℕ
-  body n = highFirst 2 n ++ pageOf array n
-
-  length-body : (n : ℕ) → n < 8192 → length (highFirst 2 n ++ pageOf array n) ≡ 258
-  length-body n h = let p = length-page n h in let q = length-high 2 n in rw (length-append, p, q)
-
   pages : Each (pageRecord array) 8192 262
-  pages n h = let b = length-body n h in let s = length-record "PG" (highFirst 2 n ++ pageOf array n) pg in omega arith
-
-  -- the three stretches of the file
-  front : List ℕ
-  front = recordOf "RG" (registers (c .rest))
-
-  middle : List ℕ
-  middle = recordOf "SI" security
-
-  back : List ℕ
-  back = joined (pageRecord array) 8192
-
-  length-front : length (recordOf "RG" (registers (c .rest))) ≡ 18
-  length-front = let s = length-registers (c .rest) in let e = length-record "RG" (registers (c .rest)) rg in omega arith
-
-  length-middle : length (recordOf "SI" security) ≡ 2052
-  length-middle = let s = w .security-size in let e = length-record "SI" security si in omega arith
+  pages = length-pages array (w .array-size)
 
   length-back : length (joined (pageRecord array) 8192) ≡ 2146304
   length-back = length-joined (pageRecord array) 262 8192 pages
@@ -97,27 +85,27 @@ module _ (c : Chip) (array security : List ℕ) (w : Whole c array security) whe
   length-file : length (fileOf c array security) ≡ 2148374
   unfolding fileOf
   length-file =
-      let a = length-front in
-      let b = length-middle in
+      let a = length-front (c .rest) in
+      let b = length-middle security (w .security-size) in
       let d = length-back in
       rw (length-append, length-append, a, b, d)
 
   first-there : part (fileOf c array security) 0 18 ≡ recordOf "RG" (registers (c .rest))
   unfolding fileOf
-  first-there = rw append-assoc (take-at (recordOf "RG" (registers (c .rest))) (recordOf "SI" security ++ joined (pageRecord array) 8192) 18 length-front)
+  first-there = rw append-assoc (take-at (recordOf "RG" (registers (c .rest))) (recordOf "SI" security ++ joined (pageRecord array) 8192) 18 (length-front (c .rest)))
 
   second-there : part (fileOf c array security) 18 2052 ≡ recordOf "SI" security
   unfolding fileOf
   second-there =
       rw append-assoc
-      (ap (take 2052) (drop-at (recordOf "RG" (registers (c .rest))) (recordOf "SI" security ++ joined (pageRecord array) 8192) 18 length-front)
-      ∙ take-at (recordOf "SI" security) (joined (pageRecord array) 8192) 2052 length-middle)
+      (ap (take 2052) (drop-at (recordOf "RG" (registers (c .rest))) (recordOf "SI" security ++ joined (pageRecord array) 8192) 18 (length-front (c .rest)))
+      ∙ take-at (recordOf "SI" security) (joined (pageRecord array) 8192) 2052 (length-middle security (w .security-size)))
 
   page-there : (n : ℕ) → n < 8192 → part (fileOf c array security) (2070 + n * 262) 262 ≡ pageRecord array n
   unfolding fileOf
   page-there n h =
-      let a = length-front in
-      let b = length-middle in
+      let a = length-front (c .rest) in
+      let b = length-middle security (w .security-size) in
       let size : length (recordOf "RG" (registers (c .rest)) ++ recordOf "SI" security) ≡ 2070 = rw (length-append, a, b) in
       ap (take 262) (sym (drop-drop (n * 262) 2070 (recordOf "RG" (registers (c .rest)) ++ recordOf "SI" security ++ joined (pageRecord array) 8192)))
       ∙ ap (λ r. take 262 (drop (n * 262) r)) (drop-at (recordOf "RG" (registers (c .rest)) ++ recordOf "SI" security) (joined (pageRecord array) 8192) 2070 size)
@@ -132,7 +120,7 @@ module _ (c : Chip) (array security : List ℕ) (w : Whole c array security) whe
 
   body-there : (n : ℕ) → n < 8192
       → (recordRight "PG" (fileOf c array security) (pagePlace n) 258 ≡ true) × (bodyIn (fileOf c array security) (pagePlace n) 258 ≡ highFirst 2 n ++ pageOf array n)
-  body-there n h = record-there "PG" (highFirst 2 n ++ pageOf array n) (fileOf c array security) (pagePlace n) 258 pg (length-body n h) (page-there n h)
+  body-there n h = record-there "PG" (highFirst 2 n ++ pageOf array n) (fileOf c array security) (pagePlace n) 258 pg (length-body array (w .array-size) n h) (page-there n h)
 
   -- the page's number, and the page
   number-there : (n : ℕ) → n < 8192 → numberIn (fileOf c array security) n ≡ n
@@ -150,7 +138,7 @@ module _ (c : Chip) (array security : List ℕ) (w : Whole c array security) whe
       (rw e at (sym (part-part (fileOf c array security) (pagePlace n + 2) 258 2 256 (omega arith))))
       ∙ ap (λ r. part r 2 256) (body-there n h .1)
       ∙ ap (take 256) (drop-at (highFirst 2 n) (pageOf array n) 2 (length-high 2 n))
-      ∙ take-all 256 (pageOf array n) (let s = length-page n h in omega arith)
+      ∙ take-all 256 (pageOf array n) (let s = length-page array (w .array-size) n h in omega arith)
 
   -- the registers' body, part by part
   register-part : (i m : ℕ) → i + m ≤ 14 → part (fileOf c array security) (2 + i) m ≡ part (registers (c .rest)) i m
@@ -342,16 +330,16 @@ right-of l e =
     }
 
 module _ (l : List ℕ) (small : OfBytes l) (t : Right l) where
-  length-pages : Each (pageIn l) 8192 256
-  length-pages n h = let s = t .size in length-part l (pagePlace n + 4) 256 (omega arith)
+  length-contents : Each (pageIn l) 8192 256
+  length-contents n h = let s = t .size in length-part l (pagePlace n + 4) 256 (omega arith)
 
   length-array : length (arrayIn l) ≡ 2097152
   unfolding arrayIn
-  length-array = length-joined (pageIn l) 256 8192 length-pages
+  length-array = length-joined (pageIn l) 256 8192 length-contents
 
   page-back : (n : ℕ) → n < 8192 → pageOf (arrayIn l) n ≡ pageIn l n
   unfolding arrayIn
-  page-back n h = part-joined (pageIn l) 256 8192 length-pages n h
+  page-back n h = part-joined (pageIn l) 256 8192 length-contents n h
 
   length-security : length (securityIn l) ≡ 2048
   length-security = let s = t .size in length-part l 20 2048 (omega arith)

@@ -1,4 +1,5 @@
 -- The laws of document 02's W-203.
+pub mod Outcomes
 pub mod Bytes
 pub mod Parts
 pub mod Records

@@ -2,5 +2,6 @@
 pub mod Form
 pub mod Files
 pub mod Promises
+pub mod Given
 pub mod Laws
 pub mod Faults

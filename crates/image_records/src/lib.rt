@@ -1,10 +1,13 @@
 // A record of an image file: numbers of two bytes, the sum, the mark. crate image, specs/Form and specs/Files.
 ghost use mathlib.Core.Path.{_≡_};
+ghost use mathlib.Core.Bool.{_&&_};
 ghost use mathlib.Core.List.{_++_};
 ghost use Prim.Native.Nat.{_+_, _*_, _-_, _≤_, _<_};
+ghost use lib.Dec.{eqb};
 ghost use lib.ListN.{length};
 ghost use lib.Seq.{paste};
-ghost use Rattle.image.specs.Form.{highFirst, number, sum};
+ghost use Rattle.rules.specs.Blocks.{arraySize, securitySize};
+ghost use Rattle.image.specs.Form.{highFirst, number, sum, fileSize};
 ghost use Rattle.image.specs.Files.{part, bodyIn};
 
 fn joined(high: u8, low: u8) -> u64
@@ -50,6 +53,13 @@ pub fn sum(l: &[u8], from: usize, to: usize) -> u16
         i += 1;
     }
     s
+}
+
+// Array, Security ID and file have their sizes.
+pub fn sizes_right(array: usize, security: usize, file: usize) -> bool
+    ensures { λ r. ⌜ r ≡ (eqb array arraySize && eqb security securitySize && eqb file fileSize) ⌝ }
+{
+    (array == 2097152) & (security == 2048) & (file == 2148374)
 }
 
 // A body of n bytes lies behind the place of its mark: mark and sum are put around it.

@@ -2,6 +2,7 @@
 use image::Posted;
 use image_records::put_two;
 use image_records::seal;
+use image_records::sizes_right;
 use rules::Chip;
 use rules::Rest;
 ghost use mathlib.Core.Path.{_≡_};
@@ -109,7 +110,7 @@ pub fn write_turn(
     requires { ⌜ length (now page) ≡ 256 ⌝ }
     ensures { λ p. ⌜ WritePromise (chipOf (now (page .entry)) r) (now (array .entry)) (now (security .entry)) (now (file .entry)) p (now (file .exit)) ⌝ }
 {
-    if (array.len() != 2097152) | (security.len() != 2048) | (file.len() != 2148374) {
+    if !sizes_right(array.len(), security.len(), file.len()) {
         return Posted::Malformed;
     }
     if !records::well_formed(r, page) {
