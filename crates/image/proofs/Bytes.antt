@@ -9,7 +9,6 @@ use lib.Seq.{append-snoc}
 use Rattle.image.specs.Form.{highFirst, numberFrom, number}
 use Rattle.image.specs.Laws.{OfBytes}
 
-
 pub length-high : (n x : ℕ) → length (highFirst n x) ≡ n
 unfolding highFirst
 length-high zero x = refl

@@ -39,13 +39,13 @@ unfolding sound unless
 sound-test w e true k found due = refl
 sound-test w e false k found due = e
 
-record-sound : (mark : String) (l : List ℕ) (k at n : ℕ) → sound (recordFault mark l k at n) ≡ recordRight mark l at n
+record-sound : (mark : String) (l : List ℕ) (k at n : ℕ) → sound (recordFault (number (ascii mark)) l k at n) ≡ recordRight mark l at n
 unfolding recordFault recordRight
 record-sound mark l k at n = rw (sound-both, sound-test What.Mark refl, sound-test What.Sum refl)
 
 page-sound : (l : List ℕ) (n : ℕ) → sound (pageFault l n) ≡ pageRight l n
 unfolding pageFault pageRight
-page-sound l n = rw (sound-both, record-sound, sound-test What.PageNumber refl)
+page-sound l n = rw (sound-both, record-sound "PG", sound-test What.PageNumber refl)
 
 -- the first of k in a row, from n on: where none is wrong up to n
 pages-sound : (f : ℕ → Fault) (t : ℕ → Bool) (n k : ℕ) → ((i : ℕ) → sound (f i) ≡ t i) → (firstHold t n && sound (firstFrom f n k)) ≡ firstHold t (n + k)
@@ -54,7 +54,7 @@ pages-sound f t n zero h = let e : n + 0 ≡ n = omega arith in rw e (and-true (
 pages-sound f t n (suc k) h =
     let e : n + suc k ≡ n + 1 + k = omega arith in
     let s : sound (orElse (f n) (firstFrom f (n + 1) k)) ≡ (t n && sound (firstFrom f (n + 1) k)) =
-        sound-both (f n) (firstFrom f (n + 1) k) ∙ (λ i. h n i && sound (firstFrom f (n + 1) k)) in
+    sound-both (f n) (firstFrom f (n + 1) k) ∙ (λ i. h n i && sound (firstFrom f (n + 1) k)) in
     let one : firstHold t (n + 1) ≡ (firstHold t n && t n) = (let z : n + 1 ≡ suc n = omega arith in rw z) in
     rw (e, s) (sym (and-assoc (firstHold t n) (t n) (sound (firstFrom f (n + 1) k))) ∙ (rw one at (pages-sound f t (n + 1) k h)))
 
@@ -81,16 +81,58 @@ six-below l at h = less-pow (length (part l at 6)) (number (part l at 6)) (numbe
     less-pow : (n x : ℕ) → x < 256 ^ (0 + n) → n ≤ 6 → x < 2 ^ 48
     less-pow n x h s = let z : 0 + n ≡ n = omega arith in let p : 256 ^ n ≤ 256 ^ 6 = pow-le-pow-right {n = 256} (omega arith) s in let k : x < 256 ^ n = (rw z at h) in omega arith
 
-registers-sound : (l : List ℕ) → OfBytes l → sound (registersFault l) ≡ registersRight l
+-- what six bytes each can hold
+pub record Low (l : List ℕ) : Type 0 where
+  pub protection : locksIn l .protection < 2 ^ 48
+  pub permanent : locksIn l .permanent < 2 ^ 48
+
+registers-sound : (l : List ℕ) → Low l → sound (registersFault (flagsByteIn l) (burstByteIn l) (locksIn l)) ≡ registersRight l
 unfolding registersFault registersRight locksRight
 registers-sound l h =
-    let p : ltb (locksIn l .protection) (2 ^ 48) ≡ true = lt-ltb _ _ (six-below l 2 h) in
-    let q : ltb (locksIn l .permanent) (2 ^ 48) ≡ true = lt-ltb _ _ (six-below l 8 h) in
+    let p : ltb (locksIn l .protection) (2 ^ 48) ≡ true = lt-ltb _ _ (h .protection) in
+    let q : ltb (locksIn l .permanent) (2 ^ 48) ≡ true = lt-ltb _ _ (h .permanent) in
     rw (p, q, sound-both, sound-both, sound-both, sound-test What.FlagBit refl, sound-test What.BurstCode refl, sound-test What.ReadLock refl, sound-test What.Unprotected refl)
     (sym (and-assoc (ltb (flagsByteIn l) flagsBound) (leb (burstByteIn l) lastBurst) _))
 
-pub faults-tell : FaultsTell
+pub faults-tell-low : (l : List ℕ) → Low l → sound (firstFault l) ≡ right l
 unfolding firstFault right
-faults-tell l h =
+faults-tell-low l h =
     let pages : sound (firstFrom (pageFault l) 0 8192) ≡ firstHold (pageRight l) 8192 = all-sound (pageFault l) (pageRight l) 8192 (page-sound l) in
-    rw (sound-both, sound-both, sound-both, sound-both, sound-test What.Length refl, record-sound, record-sound, registers-sound l h, pages, and-assoc, and-assoc, and-assoc)
+    rw (sound-both, sound-both, sound-both, sound-both, sound-test What.Length refl, record-sound "RG", record-sound "SI", registers-sound l h, pages, and-assoc, and-assoc, and-assoc)
+
+pub faults-tell : FaultsTell
+faults-tell l h = faults-tell-low l (record { protection = six-below l 2 h; permanent = six-below l 8 h })
+
+-- ---- where the search for the first fault ends
+
+-- at what is found first
+pub found-first : (f g : Fault) → sound f ≡ false → orElse f g ≡ f
+unfolding orElse
+found-first f g e = rw e
+
+-- or behind it
+pub found-behind : (f g : Fault) → sound f ≡ true → orElse f g ≡ g
+unfolding orElse
+found-behind f g e = rw e
+
+pub test-passed : (t : Bool) (f : Fault) → t ≡ true → unless t f ≡ noFault
+unfolding unless
+test-passed t f e = rw e
+
+pub test-failed : (t : Bool) (f : Fault) → t ≡ false → unless t f ≡ f
+unfolding unless
+test-failed t f e = rw e
+
+-- a test in front of the rest
+pub tested : (t : Bool) (f g : Fault) → t ≡ true → orElse (unless t f) g ≡ g
+unfolding orElse unless sound
+tested t f g e = rw e
+
+pub untested : (t : Bool) (f g : Fault) → t ≡ false → isNone (f .what) ≡ false → orElse (unless t f) g ≡ f
+unfolding orElse unless sound
+untested t f g e h = rw (e, h)
+
+-- a file of another length
+pub other-length : (l : List ℕ) → eqb (length l) fileSize ≡ false → right l ≡ false
+unfolding right
+other-length l e = rw e

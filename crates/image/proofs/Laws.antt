@@ -246,10 +246,10 @@ module _ (c : Chip) (array security : List ℕ) (w : Whole c array security) whe
   rest-back =
       let t = idles-both (c .rest) (w .idles) in
       λ i. restOf
-          (locks-back i)
-          (worksOf (sym (t .0) i) (sym (t .1) i))
-          ((ap flagsIn flags-there ∙ flags-back (c .rest .flags) .1) i)
-          ((ap burstOf burst-there ∙ burst-back (c .rest .burst) .1) i)
+      (locks-back i)
+      (worksOf (sym (t .0) i) (sym (t .1) i))
+      ((ap flagsIn flags-there ∙ flags-back (c .rest .flags) .1) i)
+      ((ap burstOf burst-there ∙ burst-back (c .rest .burst) .1) i)
 
   chip-back : chipIn (fileOf c array security) ≡ c
   unfolding chipIn
@@ -369,9 +369,9 @@ module _ (l : List ℕ) (small : OfBytes l) (t : Right l) where
       let s = t .size in
       let e : pagePlace n + 2 + 2 ≡ pagePlace n + 4 = omega arith in
       let k : highFirst 2 n ≡ part l (pagePlace n + 2) 2 =
-          ap (highFirst 2) (sym (t .number-is n h)) ∙ high-number 2 (part l (pagePlace n + 2) 2) (length-part l (pagePlace n + 2) 2 (omega arith)) (part-bytes l (pagePlace n + 2) 2 small) in
+      ap (highFirst 2) (sym (t .number-is n h)) ∙ high-number 2 (part l (pagePlace n + 2) 2) (length-part l (pagePlace n + 2) 2 (omega arith)) (part-bytes l (pagePlace n + 2) 2 small) in
       let b : highFirst 2 n ++ pageOf (arrayIn l) n ≡ bodyIn l (pagePlace n) 258 =
-          (λ i. k i ++ page-back n h i) ∙ sym ((rw e at (part-add l (pagePlace n + 2) 2 256))) in
+      (λ i. k i ++ page-back n h i) ∙ sym ((rw e at (part-add l (pagePlace n + 2) 2 256))) in
       ap (recordOf "PG") b
       ∙ sym (right-record "PG" l (pagePlace n) 258 pg small (omega arith) (t .page n h))
       ∙ ap (take 262) (sym (drop-drop (n * 262) 2070 l))

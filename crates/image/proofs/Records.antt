@@ -38,8 +38,7 @@ record-parts mark body n m e =
     let s = highFirst 2 (sum body) in
     let size : length (ascii mark ++ body) ≡ 2 + n = (let two = m .two in rw (length-append, two, e)) in
     let whole : ascii mark ++ body ++ s ≡ ascii mark ++ (body ++ s) = append-assoc (ascii mark) body s in
-    let behind : drop 2 (ascii mark ++ body ++ s) ≡ body ++ s = rw whole (drop-at (ascii mark) (body ++ s) 2 (m .two)) in
-    (
+    let behind : drop 2 (ascii mark ++ body ++ s) ≡ body ++ s = rw whole (drop-at (ascii mark) (body ++ s) 2 (m .two)) in (
       rw whole (take-at (ascii mark) (body ++ s) 2 (m .two)),
       (
         ap (take n) behind ∙ take-at body s n e,
@@ -54,14 +53,13 @@ unfolding recordRight
 record-there mark body l at n m e h =
     let p = record-parts mark body n m e in
     let mark-is : part l at 2 ≡ ascii mark =
-        (let z : at + 0 ≡ at = omega arith in (rw z at (sym (part-part l at (n + 4) 0 2 (omega arith)))) ∙ ap (λ r. part r 0 2) h ∙ p .0) in
+    (let z : at + 0 ≡ at = omega arith in (rw z at (sym (part-part l at (n + 4) 0 2 (omega arith)))) ∙ ap (λ r. part r 0 2) h ∙ p .0) in
     let body-is : part l (at + 2) n ≡ body = sym (part-part l at (n + 4) 2 n (omega arith)) ∙ ap (λ r. part r 2 n) h ∙ p .1 .0 in
     let sum-is : part l (at + 2 + n) 2 ≡ highFirst 2 (sum body) =
-        (let z : at + (2 + n) ≡ at + 2 + n = omega arith in (rw z at (sym (part-part l at (n + 4) (2 + n) 2 (omega arith)))) ∙ ap (λ r. part r (2 + n) 2) h ∙ p .1 .1) in
-    (
+    (let z : at + (2 + n) ≡ at + 2 + n = omega arith in (rw z at (sym (part-part l at (n + 4) (2 + n) 2 (omega arith)))) ∙ ap (λ r. part r (2 + n) 2) h ∙ p .1 .1) in (
       and-both
-      (eq-eqb _ _ (ap number mark-is))
-      (eq-eqb _ _ (ap number sum-is ∙ number-high 2 (sum body) (omega arith) ∙ sym (ap sum body-is))),
+          (eq-eqb _ _ (ap number mark-is))
+          (eq-eqb _ _ (ap number sum-is ∙ number-high 2 (sum body) (omega arith) ∙ sym (ap sum body-is))),
       body-is,
     )
 
@@ -80,9 +78,9 @@ unfolding recordRight recordOf
 right-record mark l at n m small fits e =
     let t = and-split (eqb (markIn l at) (number (ascii mark))) (eqb (sumIn l at n) (sum (bodyIn l at n))) e in
     let mark-is : part l at 2 ≡ ascii mark =
-        number-one (part l at 2) (ascii mark) (length-part l at 2 (omega arith) ∙ sym (m .two)) (part-bytes l at 2 small) (m .bytes) (eqb-true _ _ (t .0)) in
+    number-one (part l at 2) (ascii mark) (length-part l at 2 (omega arith) ∙ sym (m .two)) (part-bytes l at 2 small) (m .bytes) (eqb-true _ _ (t .0)) in
     let sum-is : part l (at + 2 + n) 2 ≡ highFirst 2 (sum (bodyIn l at n)) =
-        sym (high-number 2 (part l (at + 2 + n) 2) (length-part l (at + 2 + n) 2 (omega arith)) (part-bytes l (at + 2 + n) 2 small)) ∙ ap (highFirst 2) (eqb-true _ _ (t .1)) in
+    sym (high-number 2 (part l (at + 2 + n) 2) (length-part l (at + 2 + n) 2 (omega arith)) (part-bytes l (at + 2 + n) 2 small)) ∙ ap (highFirst 2) (eqb-true _ _ (t .1)) in
     let z : n + 4 ≡ 2 + n + 2 = omega arith in
     let y : at + (2 + n) ≡ at + 2 + n = omega arith in
     rw z (part-add l at (2 + n) 2 ∙ (λ i. part-add l at 2 n i ++ part l (y i) 2) ∙ (λ i. mark-is i ++ bodyIn l at n ++ sum-is i))

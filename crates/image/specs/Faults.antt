@@ -1,13 +1,13 @@
 -- What is wrong with a file first, for whoever reads a refusal: record by record, the mark, then the sum, then what the record holds. Nothing is, exactly of a
 -- right file: proved in proofs/Faults.
 use Prim.Native.Nat.{ℕ, zero, suc, _+_}
-use Prim.Native.String.{String}
 use mathlib.Core.Path.{_≡_}
 use mathlib.Core.Bool.{Bool, true, false}
 use mathlib.Core.List.{List}
 use lib.Bits.{bitAnd}
 use lib.Dec.{eqb, ltb, leb}
 use lib.ListN.{length}
+use Rattle.rules.specs.declared.Locks.{Locks}
 use Rattle.rules.specs.Words.{pick}
 use Rattle.rules.specs.Texts.{ascii}
 use Rattle.rules.specs.Blocks.{readLocks}
@@ -48,24 +48,23 @@ orElse f g = pick (sound f) g f
 unfoldable pub unless : Bool → Fault → Fault
 unless t f = pick t noFault f
 
--- of the record k, at a place
-unfoldable pub recordFault : String → List ℕ → ℕ → ℕ → ℕ → Fault
-recordFault mark l k at n =
+-- of the record k, at a place, whose mark is to be the number m
+unfoldable pub recordFault : ℕ → List ℕ → ℕ → ℕ → ℕ → Fault
+recordFault m l k at n =
     orElse
-    (unless (eqb (markIn l at) (number (ascii mark))) (faultOf What.Mark k (markIn l at) (number (ascii mark))))
+    (unless (eqb (markIn l at) m) (faultOf What.Mark k (markIn l at) m))
     (unless (eqb (sumIn l at n) (sum (bodyIn l at n))) (faultOf What.Sum k (sumIn l at n) (sum (bodyIn l at n))))
 
-unfoldable pub registersFault : List ℕ → Fault
-registersFault l =
-    let p = locksIn l .protection in
-    let q = locksIn l .permanent in
-    orElse (unless (ltb (flagsByteIn l) flagsBound) (faultOf What.FlagBit 0 (flagsByteIn l) 0))
-    (orElse (unless (leb (burstByteIn l) lastBurst) (faultOf What.BurstCode 0 (burstByteIn l) lastBurst))
-    (orElse (unless (eqb (bitAnd q readLocks) 0) (faultOf What.ReadLock 0 q 0))
-    (unless (eqb (bitAnd q p) q) (faultOf What.Unprotected 0 q p))))
+-- of what RG holds: flags, burst code, registers
+unfoldable pub registersFault : ℕ → ℕ → Locks → Fault
+registersFault f b l =
+    orElse (unless (ltb f flagsBound) (faultOf What.FlagBit 0 f 0))
+    (orElse (unless (leb b lastBurst) (faultOf What.BurstCode 0 b lastBurst))
+    (orElse (unless (eqb (bitAnd (l .permanent) readLocks) 0) (faultOf What.ReadLock 0 (l .permanent) 0))
+    (unless (eqb (bitAnd (l .permanent) (l .protection)) (l .permanent)) (faultOf What.Unprotected 0 (l .permanent) (l .protection)))))
 
 unfoldable pub pageFault : List ℕ → ℕ → Fault
-pageFault l n = orElse (recordFault "PG" l (2 + n) (pagePlace n) 258) (unless (eqb (numberIn l n) n) (faultOf What.PageNumber (2 + n) (numberIn l n) n))
+pageFault l n = orElse (recordFault (number (ascii "PG")) l (2 + n) (pagePlace n) 258) (unless (eqb (numberIn l n) n) (faultOf What.PageNumber (2 + n) (numberIn l n) n))
 
 -- the first of k in a row, from n on
 unfoldable pub firstFrom : (ℕ → Fault) → ℕ → ℕ → Fault
@@ -75,9 +74,9 @@ firstFrom f n (suc k) = orElse (f n) (firstFrom f (n + 1) k)
 unfoldable pub firstFault : List ℕ → Fault
 firstFault l =
     orElse (unless (eqb (length l) fileSize) (faultOf What.Length 0 (length l) fileSize))
-    (orElse (recordFault "RG" l 0 0 14)
-    (orElse (registersFault l)
-    (orElse (recordFault "SI" l 1 securityPlace 2_048)
+    (orElse (recordFault (number (ascii "RG")) l 0 0 14)
+    (orElse (registersFault (flagsByteIn l) (burstByteIn l) (locksIn l))
+    (orElse (recordFault (number (ascii "SI")) l 1 securityPlace 2_048)
     (firstFrom (pageFault l) 0 8_192))))
 
 -- nothing is wrong exactly of a right file

@@ -1,22 +1,20 @@
 -- Bytes put into a file one after the other, and a record around a body. Assumes nothing.
-use Prim.Native.Nat.{ℕ, suc, _+_, _*_, _-_, _/_, _%_, _≤_, _<_}
+use Prim.Native.Nat.{ℕ, _+_, _*_, _/_, _%_, _≤_, _<_}
 use Prim.Native.String.{String}
 use mathlib.Core.Path.{_≡_, refl, sym, ap, _∙_}
-use mathlib.Core.List.{List, [], _∷_, _++_, append-nil, append-assoc}
+use mathlib.Core.List.{List, [], _∷_, _++_, append-assoc}
 use native.Mathlib.Omega.{arith}
-use lib.ListN.{length, getD, take, drop, length-append, length-drop, take-append-drop}
-use lib.Seq.{paste, take-paste, take-all, take-add, ext-getD, getD-take, getD-drop, length-take-le}
+use lib.ListN.{length, take, drop, length-append}
+use lib.Seq.{paste, take-paste, take-all}
 use Rattle.rules.specs.declared.Rest.{Rest}
 use Rattle.rules.specs.Texts.{ascii}
 use Rattle.rules.specs.Blocks.{securitySize}
 use Rattle.rules.specs.Bursts.{burstByte, lastBurst}
 use Rattle.rules.specs.Fields.{flagsNumber, flagsBound}
 use Rattle.rules.proofs.Fields.{flags-back, burst-back}
-use Rattle.memory.specs.Patched.{Patched}
-use Rattle.image.specs.Form.{highFirst, sum, recordOf, registers, joined, fileSize}
-use Rattle.image.specs.Files.{part, bodyIn, pagePlace}
+use Rattle.image.specs.Form.{highFirst, sum, recordOf, registers, fileSize}
+use Rattle.image.specs.Files.{bodyIn}
 use Rattle.image.proofs.Bytes.{length-high}
-use Rattle.image.proofs.Parts.{length-part}
 use Rattle.image.proofs.Laws.{length-front, length-middle}
 use Rattle.image_records.proofs.Laws.{paste-before, paste-behind, paste-there, paste-over}
 
@@ -30,40 +28,6 @@ paste-next l xs ys at n m e d fits =
     ∙ (λ i. take at l ++ take-all n xs (omega arith) i ++ ys ++ drop (j i) l)
     ∙ (λ i. append-assoc (take at l) xs ys i ++ drop (at + (n + m)) l)
     ∙ (λ i. take at l ++ sym (take-all (n + m) (xs ++ ys) (omega arith)) i ++ drop (at + (n + m)) l)
-
--- a copy
-pub paste-patched : (l l₀ src : List ℕ) (at n from : ℕ) → at + n ≤ length l₀ → from + n ≤ length src → Patched l l₀ at n (λ i. getD src (from + i) 0)
-    → l ≡ paste l₀ at (part src from n) n
-paste-patched l l₀ src at n from fits long p =
-    sym (take-append-drop (at + n) l)
-    ∙ (λ i. take-add at n l i ++ drop (at + n) l)
-    ∙ (λ i. front i ++ inside i ++ behind i)
-    ∙ (λ i. take at l₀ ++ sym (take-all n (part src from n) (let s = length-part src from n long in omega arith)) i ++ drop (at + n) l₀)
-  where
-    size : length l ≡ length l₀
-    size = p .size
-
-    front : take at l ≡ take at l₀
-    front =
-        let s = size in
-        let a = length-take-le at l (omega arith) in
-        let b = length-take-le at l₀ (omega arith) in
-        ext-getD 0 (take at l) (take at l₀) (a ∙ sym b)
-        (λ i h. let k : i < at = omega arith in getD-take at l i 0 k ∙ p .before i k ∙ sym (getD-take at l₀ i 0 k))
-
-    inside : take n (drop at l) ≡ part src from n
-    inside =
-        let s = size in
-        let a = length-part l at n (omega arith) in
-        let b = length-part src from n long in
-        ext-getD 0 (take n (drop at l)) (part src from n) (a ∙ sym b)
-        (λ i h. let k : i < n = omega arith in getD-take n (drop at l) i 0 k ∙ getD-drop at l i 0 ∙ p .inside i k ∙ sym (getD-drop from src i 0) ∙ sym (getD-take n (drop from src) i 0 k))
-
-    behind : drop (at + n) l ≡ drop (at + n) l₀
-    behind =
-        let s = size in
-        ext-getD 0 (drop (at + n) l) (drop (at + n) l₀) (length-drop (at + n) l ∙ ap (λ k. k - (at + n)) s ∙ sym (length-drop (at + n) l₀))
-        (λ i h. getD-drop (at + n) l i 0 ∙ p .after (at + n + i) (omega arith) ∙ sym (getD-drop (at + n) l₀ i 0))
 
 -- mark and sum around a body that was put behind the mark's place
 pub record-put : (mark : String) (x : ℕ) (l body : List ℕ) (at n : ℕ) → highFirst 2 x ≡ ascii mark → length body ≡ n → at + (n + 4) ≤ length l
@@ -129,23 +93,6 @@ put-registers l r h =
     let both : length (highFirst 6 (r .locks .protection) ++ highFirst 6 (r .locks .permanent)) ≡ 12 = rw (length-append, p, q) in
     (λ i. paste (paste-next l (highFirst 6 (r .locks .protection)) (highFirst 6 (r .locks .permanent)) 2 6 6 p q (omega arith) i) 14 (last-two (flagsNumber (r .flags)) (burstByte (r .burst)) (s .0) (s .1) i) 2)
     ∙ paste-next l (highFirst 6 (r .locks .protection) ++ highFirst 6 (r .locks .permanent)) (flagsNumber (r .flags) ∷ burstByte (r .burst) ∷ []) 2 12 2 both refl (omega arith)
-
--- ---- the pages in a row
-
-pub pages-none : (l : List ℕ) (f : ℕ → List ℕ) → take (pagePlace 0) l ≡ take 2070 l ++ joined f 0
-unfolding joined
-pages-none l f = sym (append-nil (take 2070 l))
-
-pub pages-more : (l l₀ : List ℕ) (f : ℕ → List ℕ) (n : ℕ) → pagePlace n ≤ length l → length (f n) ≡ 262 → take (pagePlace n) l ≡ take 2070 l₀ ++ joined f n
-    → take (pagePlace (n + 1)) (paste l (pagePlace n) (f n) 262) ≡ take 2070 l₀ ++ joined f (n + 1)
-unfolding joined
-pages-more l l₀ f n fits size e =
-    let j : pagePlace (n + 1) ≡ pagePlace n + 262 = omega arith in
-    let k : n + 1 ≡ suc n = omega arith in
-    rw j (take-paste l (pagePlace n) (f n) 262 fits (omega arith))
-    ∙ (λ i. e i ++ take-all 262 (f n) (omega arith) i)
-    ∙ append-assoc (take 2070 l₀) (joined f n) (f n)
-    ∙ (λ i. take 2070 l₀ ++ joined f (sym k i))
 
 -- the two records in front of them
 pub front : (l : List ℕ) (r : Rest) (security : List ℕ) → length l ≡ fileSize → length security ≡ securitySize

@@ -100,13 +100,7 @@ fn is_idle(r: Rest) -> bool
 }
 
 // The record as a buffer and the rest.
-pub fn write_turn(
-    r: Rest,
-    page: &[u8],
-    array: &[u8],
-    security: &[u8],
-    file: &mut [u8],
-) -> Posted
+pub fn write_turn(r: Rest, page: &[u8], array: &[u8], security: &[u8], file: &mut [u8]) -> Posted
     requires { ⌜ length (now page) ≡ 256 ⌝ }
     ensures { λ p. ⌜ WritePromise (chipOf (now (page .entry)) r) (now (array .entry)) (now (security .entry)) (now (file .entry)) p (now (file .exit)) ⌝ }
 {

@@ -41,7 +41,7 @@ returns c = let s₂ = c .before .before in
     s₂ .put-two2 .ensures
     ∙ ap (λ r. paste r (a .at + 2 + a .n) (highFirst 2 (m .sum .result)) 2) e
     ∙ sealed (a .l .now) (a .at) (a .n) (a .mark) (m .sum .result) (b .pre)
-      (m .sum .ensures ∙ ap (λ r. sum (part r (a .at + 2) (a .at + 2 + a .n - (a .at + 2)))) e)
+    (m .sum .ensures ∙ ap (λ r. sum (part r (a .at + 2) (a .at + 2 + a .n - (a .at + 2)))) e)
 
 pub seal-spec : {M : Type 1} → statement M
 seal-spec =

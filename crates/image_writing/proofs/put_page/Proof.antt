@@ -8,7 +8,8 @@ use Rattle.image.specs.Form.{highFirst, sum, pageOf}
 use Rattle.image.specs.Files.{bodyIn, pagePlace}
 use Rattle.image.proofs.Bytes.{length-high}
 use Rattle.image.proofs.Laws.{length-page, length-body}
-use Rattle.image_writing.proofs.Puts.{paste-next, paste-patched, record-put}
+use Rattle.image_records.proofs.Laws.{paste-patched}
+use Rattle.image_writing.proofs.Puts.{paste-next, record-put}
 use borrow.Author.Needs.{needs}
 use Rattle.image_writing.proofs.put_page.Statement.{statement}
 use Rattle.image_writing.proofs.put_page.Tie as tie
@@ -63,10 +64,10 @@ returns c = let s₃ = c .before .before in
     let e₁ : s₁ .put-two .last .0 ≡ paste l (at + 2) (highFirst 2 n) 2 = s₁ .put-two .ensures in
     let long = length-paste l (at + 2) (highFirst 2 n) 2 (omega arith) (omega arith) in
     let e₂ : s₂ .copy .last .0 ≡ paste (s₁ .put-two .last .0) (at + 4) (pageOf array n) 256 =
-        paste-patched _ _ array (at + 4) 256 (n * 256) (rw e₁ (omega arith)) (omega arith) (s₂ .copy .ensures) in
+    paste-patched _ _ array (at + 4) 256 (n * 256) (rw e₁ (omega arith)) (omega arith) (s₂ .copy .ensures) in
     let e : s₂ .copy .last .0 ≡ paste l (at + 2) (highFirst 2 n ++ pageOf array n) 258 =
-        e₂ ∙ ap (λ z. paste z (at + 4) (pageOf array n) 256) e₁ ∙ (λ i. paste (paste l (at + 2) (highFirst 2 n) 2) (sym j i) (pageOf array n) 256)
-        ∙ paste-next l (highFirst 2 n) (pageOf array n) (at + 2) 2 256 h k (omega arith) in
+    e₂ ∙ ap (λ z. paste z (at + 4) (pageOf array n) 256) e₁ ∙ (λ i. paste (paste l (at + 2) (highFirst 2 n) 2) (sym j i) (pageOf array n) 256)
+    ∙ paste-next l (highFirst 2 n) (pageOf array n) (at + 2) 2 256 h k (omega arith) in
     s₃ .seal .ensures
     ∙ ap (λ z. paste z at (highFirst 2 0x5047 ++ bodyIn z at 258 ++ highFirst 2 (sum (bodyIn z at 258))) 262) e
     ∙ record-put "PG" 0x5047 l (highFirst 2 n ++ pageOf array n) at 258 mark (length-body array full n below) (omega arith)

@@ -9,7 +9,7 @@ use Rattle.rules.specs.Blocks.{arraySize}
 use Rattle.image.specs.Form.{pageRecord, joined, fileSize}
 use Rattle.image.specs.Files.{pagePlace}
 use Rattle.image.proofs.Laws.{length-pages}
-use Rattle.image_writing.proofs.Puts.{pages-none, pages-more}
+use Rattle.image_records.proofs.Laws.{pieces-none, pieces-more}
 use Rattle.image_writing.proofs.put_pages.Statement.{statement}
 use Rattle.image_writing.proofs.put_pages.Tie as tie
 
@@ -21,7 +21,7 @@ abbrev μ-loop : tie.MeasureT-loop
 
 loop-holds : tie.Need-loop-holds Inv-loop μ-loop
 loop-holds c = let b = c .before .before in
-    record { low = omega arith; full = b .pre .1; start = b .pre .0; size = refl; is = pages-none (b .args .file .now) (pageRecord (b .args .array .now)) }
+    record { low = omega arith; full = b .pre .1; start = b .pre .0; size = refl; is = pieces-none (b .args .file .now) (pageRecord (b .args .array .now)) 2070 262 }
 
 put-page-requires : tie.Need-put-page-requires Inv-loop μ-loop
 put-page-requires c κs = search needs
@@ -47,7 +47,7 @@ loop-again c = let s = c .before .before in
       full = i .full;
       start = i .start;
       size = ap length e ∙ length-paste (l .file) (pagePlace (l .n)) (pageRecord (a .array .now) (l .n)) 262 (omega arith) (omega arith) ∙ i .size;
-      is = ap (take (pagePlace (l .n + 1))) e ∙ pages-more (l .file) (a .file .now) (pageRecord (a .array .now)) (l .n) (omega arith) long (i .is);
+      is = ap (take (pagePlace (l .n + 1))) e ∙ pieces-more (l .file) (a .file .now) (pageRecord (a .array .now)) 2070 262 (l .n) (omega arith) long (i .is);
     }
 
 same-length : tie.Need-same-length Inv-loop μ-loop

@@ -60,11 +60,11 @@ returns c = let s₄ = c .before .before in
     let r = b .args .r in
     let long = b .pre in
     let x : pair .paired .result ≡ flagsNumber (r .flags) * 256 + burstByte (r .burst) =
-        pair .paired .ensures ∙ (λ i. flags .flags-number .ensures i * 256 + code .burst-byte .ensures i) in
+    pair .paired .ensures ∙ (λ i. flags .flags-number .ensures i * 256 + code .burst-byte .ensures i) in
     let e : s₃ .put-two .last .0 ≡ paste l 2 (registers r) 14 =
-        s₃ .put-two .ensures
-        ∙ (λ i. paste ((s₂ .put-six2 .ensures ∙ ap (λ z. paste z 8 (highFirst 6 (r .locks .permanent)) 6) (s₁ .put-six .ensures)) i) 14 (highFirst 2 (x i)) 2)
-        ∙ put-registers l r long in
+    s₃ .put-two .ensures
+    ∙ (λ i. paste ((s₂ .put-six2 .ensures ∙ ap (λ z. paste z 8 (highFirst 6 (r .locks .permanent)) 6) (s₁ .put-six .ensures)) i) 14 (highFirst 2 (x i)) 2)
+    ∙ put-registers l r long in
     s₄ .seal .ensures
     ∙ ap (λ z. paste z 0 (highFirst 2 0x5247 ++ bodyIn z 0 14 ++ highFirst 2 (sum (bodyIn z 0 14))) 18) e
     ∙ record-put "RG" 0x5247 l (registers r) 0 14 mark (length-registers r) (omega arith)

@@ -5,7 +5,8 @@ use lib.Seq.{paste, take-all}
 use Rattle.rules.specs.Texts.{ascii}
 use Rattle.image.specs.Form.{highFirst, sum}
 use Rattle.image.specs.Files.{part, bodyIn}
-use Rattle.image_writing.proofs.Puts.{paste-patched, record-put}
+use Rattle.image_records.proofs.Laws.{paste-patched}
+use Rattle.image_writing.proofs.Puts.{record-put}
 use borrow.Author.Needs.{needs}
 use Rattle.image_writing.proofs.put_security.Statement.{statement}
 use Rattle.image_writing.proofs.put_security.Tie as tie

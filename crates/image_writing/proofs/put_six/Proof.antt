@@ -34,7 +34,7 @@ returns c = let s₃ = c .before .before in
     let a = b .args in
     s₃ .put-two3 .ensures
     ∙ ap (λ z. paste z (a .at + 4) (highFirst 2 (a .x)) 2)
-      (s₂ .put-two2 .ensures ∙ ap (λ z. paste z (a .at + 2) (highFirst 2 (a .x / 0x1_0000)) 2) (s₁ .put-two .ensures))
+    (s₂ .put-two2 .ensures ∙ ap (λ z. paste z (a .at + 2) (highFirst 2 (a .x / 0x1_0000)) 2) (s₁ .put-two .ensures))
     ∙ put-six (a .file .now) (a .at) (a .x) (b .pre)
 
 pub put-six-spec : {M : Type 1} → statement M
