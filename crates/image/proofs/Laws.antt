@@ -202,7 +202,7 @@ length-blank : length blank ≡ 256
 unfolding blank
 length-blank = refl
 
-idles-both : (r : Rest) → idle r ≡ true → (r .works .running ≡ Work.Nothing) × (r .works .suspended ≡ Work.Nothing)
+pub idles-both : (r : Rest) → idle r ≡ true → (r .works .running ≡ Work.Nothing) × (r .works .suspended ≡ Work.Nothing)
 unfolding idle
 idles-both r e = let t = and-split (isNothing (r .works .running)) (isNothing (r .works .suspended)) e in (nothing _ (t .0), nothing _ (t .1))
 
@@ -298,17 +298,17 @@ reading-gives-back c array security w =
 -- ---- writing what was read gives the same bytes
 
 -- a right file, test by test
-record Right (l : List ℕ) : Type 0 where
-  size : length l ≡ 2148374
-  front : recordRight "RG" l 0 14 ≡ true
-  flags : flagsByteIn l < flagsBound
-  burst : burstByteIn l ≤ lastBurst
-  locks : locksRight (locksIn l) ≡ true
-  middle : recordRight "SI" l 18 2048 ≡ true
-  page : (n : ℕ) → n < 8192 → recordRight "PG" l (pagePlace n) 258 ≡ true
-  number-is : (n : ℕ) → n < 8192 → numberIn l n ≡ n
+pub record Right (l : List ℕ) : Type 0 where
+  pub size : length l ≡ 2148374
+  pub front : recordRight "RG" l 0 14 ≡ true
+  pub flags : flagsByteIn l < flagsBound
+  pub burst : burstByteIn l ≤ lastBurst
+  pub locks : locksRight (locksIn l) ≡ true
+  pub middle : recordRight "SI" l 18 2048 ≡ true
+  pub page : (n : ℕ) → n < 8192 → recordRight "PG" l (pagePlace n) 258 ≡ true
+  pub number-is : (n : ℕ) → n < 8192 → numberIn l n ≡ n
 
-right-of : (l : List ℕ) → right l ≡ true → Right l
+pub right-of : (l : List ℕ) → right l ≡ true → Right l
 unfolding right registersRight pageRight
 right-of l e =
     let h₄ = and-split _ (firstHold (pageRight l) 8192) e in

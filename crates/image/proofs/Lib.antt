@@ -5,3 +5,6 @@ pub mod Parts
 pub mod Records
 pub mod Laws
 pub mod Faults
+pub mod Given
+pub mod Trips
+pub mod Cases

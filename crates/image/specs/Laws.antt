@@ -7,9 +7,11 @@ use lib.ListN.{length, getD}
 use Rattle.rules.specs.declared.Chip.{Chip}
 use Rattle.rules.specs.Blocks.{arraySize, securitySize}
 use Rattle.rules.specs.WellFormed.{wellFormed}
+use Rattle.image.specs.declared.Posted.{Posted}
+use Rattle.image.specs.declared.Received.{Received}
 use Rattle.image.specs.Form.{fileOf, fileSize}
 use Rattle.image.specs.Files.{right, chipIn, arrayIn, securityIn}
-use Rattle.image.specs.Promises.{idle}
+use Rattle.image.specs.Promises.{idle, postedNumber, WritePromise, ReadPromise}
 
 -- what the type of a lent byte says
 abbrev pub OfBytes : List ℕ → Type 0
@@ -49,3 +51,21 @@ WritingGivesTheSame = (l : List ℕ) → OfBytes l → right l ≡ true → Writ
 
 abbrev pub ExactlyOneChip : Type 0
 ExactlyOneChip = (l : List ℕ) → OfBytes l → right l ≡ true → FileOfOne l
+
+-- ---- the same of what the two functions guarantee
+
+-- what was written is read into any memories of the right sizes, in place of any record
+abbrev pub WrittenThenRead : Type 0
+WrittenThenRead =
+    (c d : Chip) (array security file file′ : List ℕ) (r : Posted) (array₀ security₀ array′ security′ : List ℕ) (s : Received)
+    → length (c .buffer) ≡ 256 → WritePromise c array security file r file′ → postedNumber r ≡ 0
+    → length array₀ ≡ arraySize → length security₀ ≡ securitySize → ReadPromise d file′ array₀ security₀ s array′ security′
+    → (postedNumber (s .answer) ≡ 0) × ((s .chip ≡ c) × ((array′ ≡ array) × (security′ ≡ security)))
+
+-- what was read is written into any buffer of the file's size
+abbrev pub ReadThenWritten : Type 0
+ReadThenWritten =
+    (c : Chip) (file array security array′ security′ : List ℕ) (r : Received) (buffer buffer′ : List ℕ) (s : Posted)
+    → OfBytes file → ReadPromise c file array security r array′ security′ → postedNumber (r .answer) ≡ 0
+    → length buffer ≡ fileSize → WritePromise (r .chip) array′ security′ buffer s buffer′
+    → (postedNumber s ≡ 0) × (buffer′ ≡ file)

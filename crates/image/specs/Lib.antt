@@ -5,3 +5,4 @@ pub mod Promises
 pub mod Given
 pub mod Laws
 pub mod Faults
+pub mod Cases
