@@ -14,6 +14,7 @@ use rules::Work;
 use rules::Works;
 ghost use mathlib.Core.Path.{_≡_};
 ghost use lib.ListN.{length};
+ghost use Rattle.rules.specs.Words.{pick};
 ghost use Rattle.rules.specs.Blocks.{arraySize, securitySize};
 ghost use Rattle.rules.specs.Bursts.{burstOf};
 ghost use Rattle.image.specs.Form.{fileSize};
@@ -37,6 +38,18 @@ fn fill_security(file: &[u8], security: &mut [u8])
     ensures { λ _. ⌜ now (security .exit) ≡ securityIn (now (file .entry)) ⌝ }
 {
     memory::copy(security, 0, 2048, file, 20);
+}
+
+// Both memories, where the file is right.
+fn store(right: bool, file: &[u8], array: &mut [u8], security: &mut [u8])
+    requires { ⌜ (length (now file) ≡ fileSize) × ((length (now array) ≡ arraySize) × (length (now security) ≡ securitySize)) ⌝ }
+    ensures array { λ _. ⌜ now (array .exit) ≡ pick right (arrayIn (now (file .entry))) (now (array .entry)) ⌝ }
+    ensures security { λ _. ⌜ now (security .exit) ≡ pick right (securityIn (now (file .entry))) (now (security .entry)) ⌝ }
+{
+    if right {
+        fill_array(file, array);
+        fill_security(file, security);
+    }
 }
 
 fn burst_of(x: u8) -> Burst
@@ -75,14 +88,14 @@ pub fn read(c: Chip, file: &[u8], array: &mut [u8], security: &mut [u8]) -> Rece
         };
     }
     let f = fault(file);
-    if !is_none(f) {
+    let right = is_none(f);
+    store(right, file, array, security);
+    if !right {
         return Received {
             answer: Posted::WrongFile,
             chip: c,
         };
     }
-    fill_array(file, array);
-    fill_security(file, security);
     let rest = rest_in(file);
     let chip = Chip {
         buffer: [255; 256],

@@ -57,13 +57,21 @@ fn put_security(file: &mut [u8], security: &[u8])
     seal(file, 18, 2048, 0x5349);
 }
 
+// The number that page n's record says: they count from 0.
+fn page_number(n: usize) -> u64
+    requires { ⌜ n < 8192 ⌝ }
+    ensures { λ r. ⌜ r ≡ n ⌝ }
+{
+    n as u64
+}
+
 // PG of page n.
 fn put_page(file: &mut [u8], array: &[u8], n: usize)
     requires { ⌜ (n < 8192) × ((length (now file) ≡ fileSize) × (length (now array) ≡ arraySize)) ⌝ }
     ensures { λ _. ⌜ now (file .exit) ≡ paste (now (file .entry)) (pagePlace n) (pageRecord (now (array .entry)) n) 262 ⌝ }
 {
     let at = 2070 + n * 262;
-    put_two(file, at + 2, n as u64);
+    put_two(file, at + 2, page_number(n));
     memory::copy(file, at + 4, 256, array, n * 256);
     seal(file, at, 258, 0x5047);
 }

@@ -23,6 +23,9 @@ add-at c = search needs
 add-put-two : tie.Need-add-put-two
 add-put-two c = search needs
 
+page-number-requires : tie.Need-page-number-requires
+page-number-requires c κs = search needs
+
 put-two-requires : tie.Need-put-two-requires
 put-two-requires c κs = search needs
 
@@ -50,7 +53,8 @@ returns : tie.Need-returns
 returns c = let s₃ = c .before .before in
     let s₂ = s₃ .before .before .before .before in
     let s₁ = s₂ .before .before .before .before in
-    let b = s₁ .before .before .before .before in
+    let number = s₁ .before in
+    let b = number .before .before .before .before in
     let l = b .args .file .now in
     let array = b .args .array .now in
     let n = b .args .n in
@@ -61,7 +65,7 @@ returns c = let s₃ = c .before .before in
     let h = length-high 2 n in
     let k = length-page array full n below in
     let j : at + 2 + 2 ≡ at + 4 = omega arith in
-    let e₁ : s₁ .put-two .last .0 ≡ paste l (at + 2) (highFirst 2 n) 2 = s₁ .put-two .ensures in
+    let e₁ : s₁ .put-two .last .0 ≡ paste l (at + 2) (highFirst 2 n) 2 = s₁ .put-two .ensures ∙ ap (λ x. paste l (at + 2) (highFirst 2 x) 2) (number .page-number .ensures) in
     let long = length-paste l (at + 2) (highFirst 2 n) 2 (omega arith) (omega arith) in
     let e₂ : s₂ .copy .last .0 ≡ paste (s₁ .put-two .last .0) (at + 4) (pageOf array n) 256 =
     paste-patched _ _ array (at + 4) 256 (n * 256) (rw e₁ (omega arith)) (omega arith) (s₂ .copy .ensures) in
@@ -79,6 +83,7 @@ put-page-spec =
     mul-at
     add-at
     add-put-two
+    page-number-requires
     put-two-requires
     add-copy
     mul-copy
