@@ -42,7 +42,7 @@ none-fails =
     refl next refl next refl next refl next refl next refl next refl next refl next
     refl next refl next refl next refl next refl next refl next refl next refl next
     refl next refl next refl next refl next refl next refl next refl next refl next
-    refl next refl next refl next refl next refl next refl next refl next end
+    refl next refl next refl next refl next refl next refl next refl next refl next end
 
 holds : (c : Case) → failing c ≡ [] → c .gives ≡ c .must
 unfolding failing

@@ -11,8 +11,10 @@ use Rattle.rules.specs.declared.Work.the-variants.{Nothing}
 use Rattle.rules.specs.Words.{Each, pick}
 use Rattle.rules.specs.Fields.{locksOf, worksOf, flagsOf, restOf}
 use Rattle.rules.specs.Commands.{newChip}
+use Rattle.image.specs.declared.Posted.{Posted}
 use Rattle.image.specs.Form.{highFirst, sum, recordOf, registers}
 use Rattle.image.specs.Files.{pagePlace, recordRight, registersRight, pageRight}
+use Rattle.image.specs.Promises.{postedNumber}
 
 -- a sentence, what the definitions give, and what they must give
 pub record Case : Type 0 where
@@ -86,6 +88,7 @@ cases =
     ∷ case "a permanent bit set in the protection register" (rightWith 0x5555_FFFF_FFFF 1 0 0) (1 ∷ [])
     ∷ case "a permanent bit that is not" (rightWith 0x5555_FFFF_FFFE 1 0 0) (0 ∷ [])
     ∷ case "a permanent read lock" (rightWith 0xFFFF_FFFF_FFFF 0x0002_0000_0000 0 0) (0 ∷ [])
+    ∷ case "done, and the refusals: 1, 14, 15" (postedNumber Posted.Done ∷ postedNumber Posted.Malformed ∷ postedNumber Posted.AtWork ∷ postedNumber Posted.WrongFile ∷ []) (0 ∷ 1 ∷ 14 ∷ 15 ∷ [])
     ∷ []
 
 abbrev pub CasesHold : Type 0
