@@ -1,6 +1,7 @@
-// A bench chip, the SST26WF016B, written from the rules of the bench chip (document 01), the request for burst reads (W-201)
-// and the part's data sheet (002). One flat state, and three events over it: a frame, a completion, a power cut. The text goes
-// through document 01 in its order; the words in quotation marks are its own, or the request's where a comment says W-201.
+// A bench chip, the SST26WF016B, written from the rules of the bench chip (document 01), the requests for burst reads (W-201)
+// and for chips sent by post (W-203), and the part's data sheet (002). One flat state, and three events over it: a frame, a
+// completion, a power cut; beside them a chip is written to a file and read from one. The text goes through document 01 in its
+// order; the words in quotation marks are its own, or a request's where a comment or the section's title says so.
 // Every function is proved to be safe and to end, and says nothing more than that.
 ghost use Prim.Native.Nat.{_≤_, _<_};
 
@@ -367,12 +368,14 @@ fn security_address(sent: &[u8]) -> usize {
     (high * 256 + low) % SECURITY_BYTES
 }
 
-// "It travels as six bytes, highest first."
-fn six_bytes(sent: &[u8]) -> u64 {
+// "It travels as six bytes, highest first." The first of them stands at the place given.
+fn six_bytes(from: &[u8], first: usize) -> u64
+    requires { ⌜ first ≤ 65536 ⌝ }
+{
     let mut value: u64 = 0;
-    let mut i = 1;
-    while i < 7 {
-        value = value % 0x10000000000 * 256 + number_at(sent, i) as u64;
+    let mut i = 0;
+    while i < 6 {
+        value = value % 0x10000000000 * 256 + number_at(from, first + i) as u64;
         i += 1;
     }
     value
@@ -588,7 +591,7 @@ fn work_number(opcode: u8, sent: &[u8]) -> u64 {
         0x02 | 0x32 => (array_address(sent) / 256) as u64,
         0xA5 => (security_address(sent) / 256) as u64,
         0x01 => configuration_number(sent),
-        0xE8 => six_bytes(sent),
+        0xE8 => six_bytes(sent, 1),
         _ => 0,
     }
 }
@@ -616,7 +619,7 @@ fn started(s: Flat, opcode: u8, sent: &[u8]) -> Flat {
 // "All others act at once; 42, 8D and 98 then set WEL to 0."
 fn protection_written(s: Flat, sent: &[u8]) -> Flat {
     let mut next = s;
-    next.protection = six_bytes(sent) | s.permanent;
+    next.protection = six_bytes(sent, 1) | s.permanent;
     next.wel = false;
     next
 }
@@ -1231,5 +1234,341 @@ pub fn power_cut(s: Flat, array: &mut [u8], security: &mut [u8], k: u64) -> Step
     }
     let finished = finish_registers(s);
     let next = powered_up(finished);
+    given(0, next)
+}
+
+// ---- W-203: chips sent by post ----
+
+// The words in quotation marks are W-203's from here on. A place counts the bytes of a file from 0.
+
+// "That is 2,148,374 bytes, written into a lent buffer of exactly that length."
+const FILE_BYTES: usize = 2148374;
+
+// "Each record has a two-byte ASCII mark, a fixed body and a 16-bit sum". "In order: RG, 14 bytes", so 18 with mark and sum;
+// "SI, 2,048 bytes", so 2,052; "then 8,192 times PG, 258 bytes", so 262 each. Where SI and the first PG start, and how
+// many bytes a PG has.
+const SI_START: usize = 18;
+
+const PG_START: usize = 2070;
+
+const PG_BYTES: usize = 262;
+
+// What RG's body holds: "protection 6, permanent 6, flags 1, burst code 1".
+struct Head {
+    protection: u64,
+    permanent: u64,
+    flags: u8,
+    burst: u8,
+}
+
+// What stands at a place of a file.
+struct Spot {
+    // the record: 0 for RG, 1 for SI, 2 for a PG
+    record: u8,
+    // for a PG: how many PGs come before it
+    page: usize,
+    // the part of the record: 0 for the mark, 1 for the body, 2 for the sum
+    part: u8,
+    // the byte of that part, from 0
+    index: usize,
+}
+
+// "a fixed body": how many bytes it has.
+fn body_bytes(record: u8) -> usize {
+    match record {
+        0 => 14,
+        1 => 2048,
+        _ => 258,
+    }
+}
+
+// What stands in a record after so many of its bytes: the mark, then the body, then the sum.
+fn spot_in(record: u8, page: usize, before: usize) -> Spot {
+    let body = body_bytes(record);
+    if before < 2 {
+        return Spot {
+            record,
+            page,
+            part: 0,
+            index: before,
+        };
+    }
+    let index = before - 2;
+    if index < body {
+        return Spot {
+            record,
+            page,
+            part: 1,
+            index,
+        };
+    }
+    Spot {
+        record,
+        page,
+        part: 2,
+        index: index - body,
+    }
+}
+
+fn spot_at(place: usize) -> Spot {
+    if place < SI_START {
+        return spot_in(0, 0, place);
+    }
+    if place < PG_START {
+        return spot_in(1, 0, place - SI_START);
+    }
+    let on = place - PG_START;
+    spot_in(2, on / PG_BYTES, on % PG_BYTES)
+}
+
+fn one_of(index: usize, first: u8, second: u8) -> u8 {
+    if index == 0 { first } else { second }
+}
+
+// "a two-byte ASCII mark": "RG", "SI", "PG".
+fn mark_byte(record: u8, index: usize) -> u8 {
+    match record {
+        0 => one_of(index, b'R', b'G'),
+        1 => one_of(index, b'S', b'I'),
+        _ => one_of(index, b'P', b'G'),
+    }
+}
+
+// "high byte first", of a sum and of a page number.
+fn two_bytes(value: usize, index: usize) -> u8 {
+    let high = (value / 256 % 256) as u8;
+    let low = (value % 256) as u8;
+    one_of(index, high, low)
+}
+
+// "a 16-bit sum of the body's bytes that wraps at 65,536": the total after a byte of a file. Each mark begins it anew.
+fn total_after(total: usize, part: u8, value: u8) -> usize {
+    match part {
+        0 => 0,
+        1 => (total % 65536 + value as usize) % 65536,
+        _ => total,
+    }
+}
+
+// The place in the array of a byte of a page.
+fn page_place(page: usize, index: usize) -> usize {
+    page % 8192 * 256 + index % 256
+}
+
+// "Flags from bit 0: SQI, WEL, IOC, WPEN, WPLD, SEC, reset enable, 0."
+fn flags_of(s: Flat) -> u8 {
+    let low = flag(s.sqi, 1) | flag(s.wel, 2) | flag(s.ioc, 4) | flag(s.wpen, 8);
+    low | flag(s.wpld, 16) | flag(s.sec, 32) | flag(s.enable, 64)
+}
+
+fn head_of(s: Flat) -> Head {
+    Head {
+        protection: s.protection,
+        permanent: s.permanent,
+        flags: flags_of(s),
+        burst: s.burst,
+    }
+}
+
+// A byte of RG's body; a register's six bytes go as document 01 has them, "highest first".
+fn head_byte(head: Head, index: usize) -> u8 {
+    if index < 6 {
+        return protection_byte(head.protection, index);
+    }
+    if index < 12 {
+        return protection_byte(head.permanent, index - 6);
+    }
+    if index == 12 {
+        return head.flags;
+    }
+    head.burst
+}
+
+// A byte of a PG's body: "page number from 0 up, high byte first, then the page". "A file shows locked bytes": the page goes as
+// it is stored.
+fn page_byte(array: &[u8], page: usize, index: usize) -> u8 {
+    if index < 2 {
+        return two_bytes(page, index);
+    }
+    byte_at(array, page_place(page, index - 2))
+}
+
+fn body_byte(head: Head, array: &[u8], security: &[u8], at: Spot) -> u8 {
+    let record = at.record;
+    match record {
+        0 => head_byte(head, at.index),
+        1 => byte_at(security, at.index),
+        _ => page_byte(array, at.page, at.index),
+    }
+}
+
+// A byte of the file; total is the sum of its body so far.
+fn file_byte(head: Head, array: &[u8], security: &[u8], at: Spot, total: usize) -> u8 {
+    let part = at.part;
+    match part {
+        0 => mark_byte(at.record, at.index),
+        1 => body_byte(head, array, security, at),
+        _ => two_bytes(total, at.index),
+    }
+}
+
+fn write_bytes(head: Head, array: &[u8], security: &[u8], file: &mut [u8]) {
+    let mut total = 0;
+    let mut place = 0;
+    while place < FILE_BYTES {
+        let at = spot_at(place);
+        let value = file_byte(head, array, security, at, total);
+        put(file, place, value);
+        total = total_after(total, at.part, value);
+        place += 1;
+    }
+}
+
+// A byte of a body that has to be one value: that of a page number, "from 0 up".
+fn body_fits(at: Spot, value: u8) -> bool {
+    if at.record != 2 {
+        return true;
+    }
+    if 1 < at.index {
+        return true;
+    }
+    value == two_bytes(at.page, at.index)
+}
+
+// Not "a wrong mark, sum, page number"; total is the sum of the body so far.
+fn byte_fits(at: Spot, total: usize, value: u8) -> bool {
+    let part = at.part;
+    match part {
+        0 => value == mark_byte(at.record, at.index),
+        1 => body_fits(at, value),
+        _ => value == two_bytes(total, at.index),
+    }
+}
+
+fn records_fit(file: &[u8]) -> bool {
+    let mut total = 0;
+    let mut place = 0;
+    while place < FILE_BYTES {
+        let at = spot_at(place);
+        let value = byte_at(file, place);
+        if !byte_fits(at, total, value) {
+            return false;
+        }
+        total = total_after(total, at.part, value);
+        place += 1;
+    }
+    true
+}
+
+// RG's body stands at places 2 to 15.
+fn head_in(file: &[u8]) -> Head {
+    Head {
+        protection: six_bytes(file, 2),
+        permanent: six_bytes(file, 8),
+        flags: byte_at(file, 14),
+        burst: byte_at(file, 15),
+    }
+}
+
+// "a whole idle chip": nothing runs and nothing is suspended, and so the buffer is all FF.
+fn idle_chip(head: Head) -> Flat {
+    let flags = head.flags as u64;
+    Flat {
+        buffer: [255u8; 256],
+        protection: head.protection,
+        permanent: head.permanent,
+        run_kind: 0,
+        run_number: 0,
+        sus_kind: 0,
+        sus_number: 0,
+        sqi: has_bit(flags, 0),
+        wel: has_bit(flags, 1),
+        ioc: has_bit(flags, 2),
+        wpen: has_bit(flags, 3),
+        wpld: has_bit(flags, 4),
+        sec: has_bit(flags, 5),
+        enable: has_bit(flags, 6),
+        burst: head.burst,
+    }
+}
+
+// Not "a wrong mark, sum, page number, code, flag bit 7 or register that breaks the well-formed rules".
+fn file_fits(file: &[u8]) -> bool {
+    if !records_fit(file) {
+        return false;
+    }
+    let head = head_in(file);
+    // "flag bit 7"
+    if 127 < head.flags {
+        return false;
+    }
+    // the code and the registers: all else of an idle chip is well-formed
+    well_formed(idle_chip(head))
+}
+
+// A byte of the file goes to the Security ID, to the array, or to neither.
+fn store_byte(at: Spot, value: u8, array: &mut [u8], security: &mut [u8]) {
+    if at.part != 1 {
+        return;
+    }
+    if at.record == 1 {
+        put(security, at.index, value);
+        return;
+    }
+    if at.record == 0 {
+        return;
+    }
+    if at.index < 2 {
+        return;
+    }
+    put(array, page_place(at.page, at.index - 2), value);
+}
+
+fn store_bytes(file: &[u8], array: &mut [u8], security: &mut [u8]) {
+    let mut place = 0;
+    while place < FILE_BYTES {
+        let at = spot_at(place);
+        let value = byte_at(file, place);
+        store_byte(at, value, array, security);
+        place += 1;
+    }
+}
+
+// A chip is written to a file. The number: 0 for done.
+pub fn image_write(f: Flat, array: &[u8], security: &[u8], file: &mut [u8]) -> u8 {
+    // "A refusal leaves chip and buffer unchanged."
+    // "1 for wrong lengths or, writing, a broken record"
+    if file.len() != FILE_BYTES {
+        return 1;
+    }
+    if !admitted(f, array.len(), security.len()) {
+        return 1;
+    }
+    // "14 for a busy or suspended chip"
+    if f.run_kind != 0 {
+        return 14;
+    }
+    if f.sus_kind != 0 {
+        return 14;
+    }
+    write_bytes(head_of(f), array, security, file);
+    0
+}
+
+// A chip is read from a file, in the place of the one lent. The number, and the record read; after a refusal the record lent.
+pub fn image_read(f: Flat, file: &[u8], array: &mut [u8], security: &mut [u8]) -> Step {
+    // "1 for wrong lengths"
+    if file.len() != FILE_BYTES {
+        return given(1, f);
+    }
+    if !memories_sized(array.len(), security.len()) {
+        return given(1, f);
+    }
+    // 15, before the first byte is stored
+    if !file_fits(file) {
+        return given(15, f);
+    }
+    store_bytes(file, array, security);
+    let next = idle_chip(head_in(file));
     given(0, next)
 }

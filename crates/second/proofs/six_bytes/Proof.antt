@@ -1,20 +1,23 @@
--- The index stays at most 7, and what is left to 7 falls.
+-- The index stays at most 6, and what is left to 6 falls.
 use Prim.Native.Nat.{_-_, _≤_}
 use borrow.Author.Needs.{needs}
 use Rattle.second.proofs.six_bytes.Statement.{statement}
 use Rattle.second.proofs.six_bytes.Tie as tie
 
 abbrev Inv-loop : tie.InvT-loop
-Inv-loop sent value₀ i₀ value i = i ≤ 7
+Inv-loop from first value₀ i₀ value i = i ≤ 6
 
 abbrev μ-loop : tie.MeasureT-loop
-μ-loop sent value₀ i₀ value i = 7 - i
+μ-loop from first value₀ i₀ value i = 6 - i
 
 loop-holds : tie.Need-loop-holds Inv-loop μ-loop
 loop-holds c = search needs
 
 mul-value : tie.Need-mul-value Inv-loop μ-loop
 mul-value c = search needs
+
+add-number-at : tie.Need-add-number-at Inv-loop μ-loop
+add-number-at c = search needs
 
 number-at-requires : tie.Need-number-at-requires Inv-loop μ-loop
 number-at-requires c κs = search needs
@@ -42,6 +45,7 @@ six-bytes-spec =
     μ-loop
     loop-holds
     mul-value
+    add-number-at
     number-at-requires
     add-value
     add-i
