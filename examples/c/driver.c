@@ -1,11 +1,12 @@
 /* A small firmware-like driver: it writes a record across a page's end, as firmware written for a plain memory would, and shows what the
- * chip really did. The data wrap to the start of the page. */
+ * chip really did. The data wrap to the start of the page. Then the whole chip goes into an image file and comes back. */
 #include "fulkibono.h"
 #include <stdio.h>
 #include <string.h>
 
 static uint8_t array[FULKIBONO_ARRAY];
 static uint8_t security[FULKIBONO_SECURITY];
+static uint8_t file[FULKIBONO_IMAGE], again[FULKIBONO_IMAGE];
 static fulkibono_record chip;
 
 /* One transfer on the bus. The bench's number is what no real chip tells: why a command was ignored. */
@@ -75,5 +76,16 @@ int main(void)
     transfer("03 read 000100, 1 byte", read_page, sizeof read_page, byte, 1);
     printf("  000100: %02X\n", byte[0]);
     wrong += expect("33 wrapped to the page start", byte[0] == 0x33);
+
+    /* the chip as a file; a driver that fails; the chip again as it was */
+    wrong += expect("an image written", fulkibono_write_image(&chip, array, security, file) == FULKIBONO_DONE);
+    memset(array, 0x00, 4096);
+    fulkibono_make(&chip);
+    wrong += expect("the image read again", fulkibono_read_image(file, &chip, array, security) == FULKIBONO_DONE);
+    wrong += expect("0001FE is 11 again", array[0x1FE] == 0x11 && array[0x100] == 0x33);
+    wrong += expect("and its image is the same",
+                    fulkibono_write_image(&chip, array, security, again) == FULKIBONO_DONE && memcmp(file, again, sizeof file) == 0);
+    file[2331]++; /* the low byte of the first page's sum */
+    wrong += expect("a wrong sum is refused", fulkibono_read_image(file, &chip, array, security) == FULKIBONO_WRONG_FILE);
     return wrong;
 }

@@ -282,6 +282,38 @@ static void cut_limit(void)
     __asm__ volatile("" : : "r"(array) : "memory");
 }
 
+/* an image file written and read; the limit: a memcpy of as many bytes, and one pass that sums them */
+static uint8_t image[FULKIBONO_IMAGE], copied[FULKIBONO_IMAGE];
+static void image_write_ours(void) { must(fulkibono_write_image(&chip, array, security, image) == 0, "image not written"); }
+static void image_read_ours(void) { must(fulkibono_read_image(image, &chip, array, security) == 0, "image not read"); }
+static void image_limit(void)
+{
+    uint16_t s = 0;
+    memcpy(copied, image, FULKIBONO_IMAGE);
+    __asm__ volatile("" : : "r"(copied) : "memory");
+    for (size_t i = 0; i < FULKIBONO_IMAGE; i++)
+        s = (uint16_t)(s + image[i]);
+    sink += s;
+}
+
+/* the same with a pass that the C compiler makes wide too, as the library's is: no bar, but what the image really costs beside its memory */
+#if defined(__GNUC__) && !defined(__clang__)
+__attribute__((optimize("O3")))
+#endif
+static uint16_t wide_sum(void)
+{
+    uint16_t s = 0;
+    for (size_t i = 0; i < FULKIBONO_IMAGE; i++)
+        s = (uint16_t)(s + image[i]);
+    return s;
+}
+static void image_wide_limit(void)
+{
+    memcpy(copied, image, FULKIBONO_IMAGE);
+    __asm__ volatile("" : : "r"(copied) : "memory");
+    sink += wide_sum();
+}
+
 static void measure(struct row *r)
 {
     double x[3][REPEATS] = { { 0 } }, to_plain[REPEATS], to_limit[REPEATS];
@@ -449,6 +481,16 @@ int main(void)
     struct row c1 = { "power cut in the middle of a chip erase", cut_ours, NULL, cut_limit, 800, 0, 0 };
     measure(&c1);
 
+    fresh();
+    struct row i1 = { "image written (limit: memcpy, a sum)", image_write_ours, NULL, image_limit, 500, 0, 0 };
+    measure(&i1);
+    struct row w1 = { "  the same (limit: the sum made wide)", image_write_ours, NULL, image_wide_limit, 500, 0, 0 };
+    measure(&w1);
+    struct row i2 = { "image read (limit: memcpy, a sum)", image_read_ours, NULL, image_limit, 500, 0, 0 };
+    measure(&i2);
+    struct row w2 = { "  the same (limit: the sum made wide)", image_read_ours, NULL, image_wide_limit, 500, 0, 0 };
+    measure(&w2);
+
     {
         double first[REPEATS], last[REPEATS], growth[REPEATS];
         for (int i = 0; i < REPEATS; i++) {
@@ -475,6 +517,8 @@ int main(void)
         bar("64-byte burst of 64 against a plain read of 64 bytes", burst_ratio, 1, 1.3);
         bar("  from the middle of a group", middle_ratio, 1, 1.3);
         bar("65,536-byte reply of an 8-byte burst against the limit", long_ratio, 1, 8);
+        bar("image written (2,148,374 bytes) against memcpy plus one sum", i1.to_limit, 1, 4);
+        bar("image read against the same", i2.to_limit, 1, 4);
         bar("mixed events: last tenth against the first", median(growth), 1, 1.1);
     }
     printf("%d missed\n", missed);

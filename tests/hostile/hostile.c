@@ -1,4 +1,4 @@
-/* Hostile arguments at the boundary: lengths off by one, huge frames, random record bytes, every number. Each lent part stands between two
+/* Hostile arguments at the boundary: lengths off by one, huge frames, random record bytes, changed image files, every number. Each lent part stands between two
  * pages that cannot be touched, now against the one and now against the other, so that a byte read or written outside it stops the program. */
 #define _DEFAULT_SOURCE
 #include "fulkibono.h"
@@ -145,11 +145,11 @@ static void taken_again(void)
         must(answer[i] == (uint8_t)(fulkibono_protection(&c) >> 8 * (5 - i)), "the protection register of a record");
 }
 
-static long counts[14];
+static long counts[16];
 
 static void after(uint8_t number, int frame, const uint8_t *array_before)
 {
-    must(number <= 13, "a number above 13");
+    must(number <= 13, "an event's number above 13");
     counts[number]++;
     if (number == 1 || number == 12)
         must(same(&record) && same(&security) && memcmp(array_before, array.lent, array.n) == 0, "refusal 1 or 12 changed something");
@@ -170,6 +170,179 @@ static void after(uint8_t number, int frame, const uint8_t *array_before)
     }
 }
 
+/* ---- image files. file_right is written from document 02, so that the library's tests are compared with others. */
+
+#define PG(n) (2070 + (size_t)(n) * 262)
+
+static struct room file;
+static uint8_t *image; /* the last file that was right */
+static int have;
+
+static uint32_t two(const uint8_t *p) { return (uint32_t)p[0] << 8 | p[1]; }
+static uint32_t sum_of(const uint8_t *p, size_t n)
+{
+    uint32_t s = 0;
+    for (size_t i = 0; i < n; i++)
+        s += p[i];
+    return s % 65536;
+}
+static int record_right(const uint8_t *p, const char *mark, size_t n)
+{
+    return p[0] == mark[0] && p[1] == mark[1] && two(p + 2 + n) == sum_of(p + 2, n);
+}
+static void seal(uint8_t *p, size_t n)
+{
+    uint32_t s = sum_of(p + 2, n);
+    p[2 + n] = (uint8_t)(s >> 8);
+    p[3 + n] = (uint8_t)s;
+}
+static int file_right(const uint8_t *f)
+{
+    uint64_t protection = 0, permanent = 0;
+    for (int i = 0; i < 6; i++) {
+        protection = protection << 8 | f[2 + i];
+        permanent = permanent << 8 | f[8 + i];
+    }
+    if (!record_right(f, "RG", 14) || f[14] > 127 || f[15] > 3 || (permanent & 0xAAAA00000000u) != 0 || (permanent & ~protection) != 0)
+        return 0;
+    if (!record_right(f + 18, "SI", 2048))
+        return 0;
+    for (size_t n = 0; n < 8192; n++)
+        if (!record_right(f + PG(n), "PG", 258) || two(f + PG(n) + 2) != n)
+            return 0;
+    return 1;
+}
+static int same_pages(const uint8_t *f)
+{
+    for (size_t n = 0; n < 8192; n++)
+        if (memcmp(array.lent + n * 256, f + PG(n) + 4, 256) != 0)
+            return 0;
+    return memcmp(security.lent, f + 20, FULKIBONO_SECURITY) == 0;
+}
+
+/* what the file holds is changed: 1 if not at all */
+static int some_change(void)
+{
+    size_t at = file.n ? below(file.n) : 0, n = below(8192);
+    if (file.n != FULKIBONO_IMAGE)
+        return 0;
+    switch (below(12)) {
+    case 0: /* a byte */
+    case 1:
+        file.lent[at] = (uint8_t)(file.lent[at] + 1 + below(255));
+        return 0;
+    case 2: /* a bit */
+        file.lent[at] ^= (uint8_t)(1u << below(8));
+        return 0;
+    case 3: /* a mark, a sum or a page's number */
+        at = below(3) ? PG(n) + (below(2) ? below(4) : 260 + below(2)) : below(2) ? below(20) : 2068 + below(2);
+        file.lent[at] ^= (uint8_t)(1u << below(8));
+        return 0;
+    case 4: /* two bytes of a page, the sum the same */
+        file.lent[PG(n) + 4]++;
+        file.lent[PG(n) + 5]--;
+        return 0;
+    case 5: /* a page's number, with a right sum */
+        file.lent[PG(n) + 2 + below(2)] ^= (uint8_t)(1u << below(8));
+        seal(file.lent + PG(n), 258);
+        return 0;
+    case 6: /* flags or burst, with a right sum */
+        file.lent[14 + below(2)] = (uint8_t)(below(2) ? any() : 1u << below(8));
+        seal(file.lent, 14);
+        return 0;
+    case 7: /* the registers, with a right sum */
+        for (int i = 0; i < 6; i++)
+            file.lent[2 + i] = (uint8_t)any(), file.lent[8 + i] = below(4) ? file.lent[2 + i] & 0x55 : (uint8_t)any();
+        seal(file.lent, 14);
+        return 0;
+    case 8: /* two pages change places */
+        memcpy(file.lent + PG(n), image + PG(8191 - n), 262);
+        return 0;
+    case 9: /* noise */
+        for (size_t i = 0; i < file.n; i++)
+            file.lent[i] = (uint8_t)any();
+        return 0;
+    default:
+        return 1;
+    }
+}
+
+/* a chip at work, or with work aside */
+static void at_work(void)
+{
+    static const uint8_t run[][4] = { { 0x06 }, { 0x98 }, { 0x06 }, { 0x20, 0, 0x10, 0 }, { 0xB0 } };
+    static const size_t n[] = { 1, 1, 1, 4, 1 };
+    fulkibono_record c;
+    fulkibono_make(&c);
+    for (size_t i = 0, steps = 4 + below(2); i < steps; i++)
+        must(fulkibono_send(&c, array.open, security.open, run[i], n[i], NULL, NULL, 0) == 0, "a chip at work");
+    memcpy(kept, c.bytes, sizeof c.bytes);
+}
+
+static void image_round(uint8_t *before)
+{
+    uint8_t number, wrote[FULKIBONO_RECORD_SIZE];
+    int written = 0;
+
+    /* writing */
+    if (below(4) == 0)
+        at_work();
+    some_record();
+    some_memory();
+    memcpy(before, array.lent, array.n);
+    lend(&file, near(FULKIBONO_IMAGE));
+    memset(file.lent, 0xAB, file.n);
+    keep(&file);
+    number = fulkibono_image_write(record.lent, record.n, array.lent, array.n, security.lent, security.n, file.lent, file.n);
+    must(number == 0 || number == 1 || number == 14, "the number of an image written");
+    must(same(&record) && same(&security) && memcmp(before, array.lent, array.n) == 0, "writing an image changed the chip");
+    must(number == 0 || same(&file), "a refused image was written");
+    counts[number]++;
+    if (number != 1) {
+        must(record.n == FULKIBONO_RECORD_SIZE && array.n == FULKIBONO_ARRAY && security.n == FULKIBONO_SECURITY && file.n == FULKIBONO_IMAGE,
+             "a wrong length was taken");
+        must((number == 14) == (record.lent[FULKIBONO_PLACE_RUNNING_KIND] != 0 || record.lent[FULKIBONO_PLACE_SUSPENDED_KIND] != 0), "refusal 14");
+    }
+    if (number == 0) {
+        must(file_right(file.lent) && same_pages(file.lent), "an image that is wrong");
+        memcpy(image, file.lent, FULKIBONO_IMAGE);
+        memcpy(wrote, record.lent, FULKIBONO_RECORD_SIZE);
+        have = written = 1;
+    }
+    if (!have)
+        return;
+
+    /* reading, into a record of any bytes */
+    lend(&file, near(FULKIBONO_IMAGE));
+    for (size_t i = 0; i < file.n; i++)
+        file.lent[i] = i < FULKIBONO_IMAGE ? image[i] : 0;
+    int unchanged = some_change();
+    keep(&file);
+    lend(&record, near(FULKIBONO_RECORD_SIZE));
+    for (size_t i = 0; i < record.n; i++)
+        record.lent[i] = (uint8_t)any();
+    keep(&record);
+    some_memory();
+    for (size_t i = below(FULKIBONO_ARRAY), k = 0; k < 4096 && i < array.n; i++, k++)
+        array.lent[i] = (uint8_t)any();
+    memcpy(before, array.lent, array.n);
+    number = fulkibono_image_read(file.lent, file.n, record.lent, record.n, array.lent, array.n, security.lent, security.n);
+    must(number == (record.n != FULKIBONO_RECORD_SIZE || array.n != FULKIBONO_ARRAY || security.n != FULKIBONO_SECURITY || file.n != FULKIBONO_IMAGE ? 1
+                    : file_right(file.lent) ? 0 : 15), "the number of an image read");
+    must(same(&file), "reading an image changed it");
+    counts[number]++;
+    if (number != 0) {
+        must(same(&record) && same(&security) && memcmp(before, array.lent, array.n) == 0, "a refused image was read");
+        return;
+    }
+    must(same_pages(file.lent), "the memories of an image");
+    must(!(unchanged && written) || memcmp(wrote, record.lent, FULKIBONO_RECORD_SIZE) == 0, "the record of an image");
+    memcpy(kept, record.lent, FULKIBONO_RECORD_SIZE);
+    taken_again();
+    must(fulkibono_image_write(record.lent, record.n, array.lent, array.n, security.lent, security.n, image, FULKIBONO_IMAGE) == 0
+         && memcmp(image, file.lent, FULKIBONO_IMAGE) == 0, "what was read and written again");
+}
+
 int main(int argc, char **argv)
 {
     long rounds = argc > 1 ? atol(argv[1]) : 20000;
@@ -181,6 +354,9 @@ int main(int argc, char **argv)
     reply = room_of(MOST);
     marks = room_of(MOST + 1);
     text = room_of(100);
+    file = room_of(FULKIBONO_IMAGE + 1);
+    image = malloc(FULKIBONO_IMAGE);
+    must(image != NULL, "no memory");
     before = malloc(array.size);
     must(before != NULL, "no memory");
     memset(array.open, 0xFF, array.size);
@@ -204,7 +380,7 @@ int main(int argc, char **argv)
             lend(&text, n);
             memset(text.lent, 0xAB, n);
             size_t whole = fulkibono_meaning((uint8_t)number, text.lent, n);
-            must((number <= 13) == (whole > 0) && whole <= FULKIBONO_MEANING_MOST, "a text's length");
+            must((number <= 15) == (whole > 0) && whole <= FULKIBONO_MEANING_MOST, "a text's length");
             for (size_t i = 0; i < n; i++)
                 must(i < whole ? text.lent[i] >= 0x20 && text.lent[i] < 0x7F : text.lent[i] == 0xAB, "a text's bytes");
         }
@@ -219,6 +395,11 @@ int main(int argc, char **argv)
         array.n = FULKIBONO_ARRAY;
         security.lent = security.open;
         fulkibono_make(&c);
+        must(fulkibono_image_write(NULL, 0, NULL, 0, NULL, 0, NULL, 0) == 1 && fulkibono_image_read(NULL, 0, NULL, 0, NULL, 0, NULL, 0) == 1, "NULL images");
+        must(fulkibono_image_read(NULL, 0, c.bytes, sizeof c.bytes, array.lent, FULKIBONO_ARRAY, security.lent, FULKIBONO_SECURITY) == 1, "NULL file");
+        /* sums that wrap: 255 times 256, and the two bytes of the page's number */
+        must(fulkibono_write_image(&c, array.lent, security.lent, image) == 0 && file_right(image), "the image of a new chip");
+        must(two(image + PG(0x1FFF) + 260) == 0x001E && two(image + PG(0x01FF) + 260) == 0x0000, "sums of blank pages");
         must(fulkibono_send(&c, array.lent, security.lent, NULL, 0, NULL, NULL, 0) == FULKIBONO_EMPTY, "empty frame");
         const uint8_t wren = 0x06;
         must(fulkibono_send(&c, array.lent, security.lent, &wren, 1, NULL, NULL, 0) == FULKIBONO_DONE, "no reply");
@@ -229,6 +410,8 @@ int main(int argc, char **argv)
     memcpy(before, array.open + array.size - FULKIBONO_ARRAY - 1, FULKIBONO_ARRAY + 1);
     for (long i = 0; i < rounds; i++) {
         uint8_t number;
+        if (i % 50 == 0)
+            image_round(before);
         some_record();
         some_memory();
         memcpy(before, array.lent, array.n);
@@ -265,9 +448,10 @@ int main(int argc, char **argv)
         }
     }
     printf("hostile: %ld rounds, no finding; numbers given:", rounds);
-    for (int i = 0; i <= 13; i++)
+    for (int i = 0; i <= 15; i++)
         printf(" %d:%ld", i, counts[i]);
     printf("\n");
     free(before);
+    free(image);
     return 0;
 }

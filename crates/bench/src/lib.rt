@@ -1,12 +1,24 @@
-// The boundary to other languages: the chip's functions over lent bytes. specs/Boundary.antt says what each gives back and leaves.
+// The boundary to other languages: the chip's functions over lent bytes. specs/Boundary.antt says what each gives back and leaves; specs/Images.antt of files.
 // The caller lends all memory; nothing is kept between calls. The page buffer is changed where it lies, in the record's first 256 bytes.
 use chip::Event;
+use image::Posted;
+use rules::Rest;
+use rules::plain::smaller;
+ghost use mathlib.Core.Path.{_≡_};
+ghost use mathlib.Core.Bool.{_&&_};
 ghost use mathlib.Core.List.{[]};
+ghost use Prim.Native.Nat.{_≤_};
+ghost use lib.ListN.{length, take, drop};
+ghost use Rattle.rules.specs.WellFormed.{wellFormed};
 ghost use Rattle.rules.specs.Promises.{carriedOf};
 ghost use Rattle.rules.specs.Demands.{frameCall, completionCall, cutCall};
 ghost use Rattle.chip.specs.Turns.{callOf, LentFor};
 ghost use Rattle.meanings.specs.Meanings.{MeaningBytes};
+ghost use Rattle.image.specs.Form.{fileSize};
+ghost use Rattle.image.specs.Promises.{postedNumber};
+ghost use Rattle.record_code.specs.Layout.{recordSize, code, decode};
 ghost use Rattle.bench.specs.Boundary.{lentBenchOf, cameOf, CallPromise, NewPromise};
+ghost use Rattle.bench.specs.Images.{idleOf, imageReadOf, WriteImagePromise, ReadImagePromise};
 
 // ---- the chip
 
@@ -95,9 +107,122 @@ pub extern "C" fn fulkibono_power_cut(
     event(Event::Cut(k), bytes, array, security, b"", &mut [], &mut [])
 }
 
+// ---- a chip as a file
+
+fn image_number(p: Posted) -> u8
+    ensures { λ r. ⌜ r ≡ postedNumber p ⌝ }
+{
+    match p {
+        Posted::Done => 0,
+        Posted::Malformed => 1,
+        Posted::AtWork => 14,
+        Posted::WrongFile => 15,
+    }
+}
+
+// An empty frame, with the buffer in the array's place: 1 or 2, and nothing changes but what is lent for it.
+fn empty_frame(coded: &mut [u8], file: &mut [u8], id: &mut [u8]) -> u8
+    requires { ⌜ 2097152 ≤ length (now file) ⌝ }
+    ensures number { λ r. ⌜ CallPromise (lentBenchOf (now (coded .entry)) (take 2097152 (now (file .entry))) (now (id .entry))) (frameCall (carriedOf [] [] [])) (cameOf r (now (coded .exit)) (take 2097152 (now (file .exit))) (now (id .exit)) [] []) ⌝ }
+    ensures behind { λ _. ⌜ drop 2097152 (now (file .exit)) ≡ drop 2097152 (now (file .entry)) ⌝ }
+{
+    let n = smaller(2097152, file.len());
+    event(
+        Event::Frame,
+        coded,
+        &mut file[..n],
+        id,
+        b"",
+        &mut [],
+        &mut [],
+    )
+}
+
+// The bytes are the code of a well-formed record. A copy goes through `event`, so that all that judges a record stays a part of it: with a second caller it would be
+// called at every event.
+fn is_record_by(bytes: &[u8], coded: &mut [u8; 320], id: &mut [u8; 2048], file: &mut [u8]) -> bool
+    requires { ⌜ length (now file) ≡ fileSize ⌝ }
+    ensures value { λ r. ⌜ r ≡ (decode (now (bytes .entry)) .known && wellFormed (decode (now (bytes .entry)) .chip)) ⌝ }
+    ensures kept { λ _. ⌜ now (file .exit) ≡ now (file .entry) ⌝ }
+{
+    if bytes.len() != 320 {
+        return false;
+    }
+    memory::copy(coded, 0, 320, bytes, 0);
+    empty_frame(coded, file, id) == 2
+}
+
+fn is_record(bytes: &[u8], file: &mut [u8]) -> bool
+    requires { ⌜ length (now file) ≡ fileSize ⌝ }
+    ensures value { λ r. ⌜ r ≡ (decode (now (bytes .entry)) .known && wellFormed (decode (now (bytes .entry)) .chip)) ⌝ }
+    ensures kept { λ _. ⌜ now (file .exit) ≡ now (file .entry) ⌝ }
+{
+    let mut coded = [0u8; 320];
+    let mut id = [0u8; 2048];
+    is_record_by(bytes, &mut coded, &mut id, file)
+}
+
+// A whole idle chip as a file, into a lent buffer.
+#[no_mangle]
+pub extern "C" fn fulkibono_image_write(
+    bytes: &[u8],
+    array: &[u8],
+    security: &[u8],
+    file: &mut [u8],
+) -> u8
+    ensures { λ r. ⌜ WriteImagePromise (now (bytes .entry)) (now (array .entry)) (now (security .entry)) (now (file .entry)) r (now (file .exit)) ⌝ }
+{
+    if !image_records::sizes_right(array.len(), security.len(), file.len()) {
+        return 1;
+    }
+    if !is_record(bytes, file) {
+        return 1;
+    }
+    if !record_code::is_idle(bytes) {
+        return 14;
+    }
+    let r = record_code::idle_in(bytes);
+    image_writing::put_file(file, r, array, security);
+    0
+}
+
+// The code of an idle record with a blank page. Its own function of record_code, so that put_rest is called from the events alone and stays a part of them.
+fn put_idle(bytes: &mut [u8], r: Rest)
+    requires { ⌜ length (now bytes) ≡ recordSize ⌝ }
+    ensures { λ _. ⌜ now (bytes .exit) ≡ code (idleOf r) ⌝ }
+{
+    memory::blank_page(&mut bytes[..256]);
+    record_code::put_idle(bytes, r);
+}
+
+// The chip in a file, in place of another. What is replaced is not judged: any bytes, as many as a record has.
+#[no_mangle]
+pub extern "C" fn fulkibono_image_read(
+    file: &[u8],
+    bytes: &mut [u8],
+    array: &mut [u8],
+    security: &mut [u8],
+) -> u8
+    ensures { λ r. ⌜ ReadImagePromise (now (file .entry)) (now (bytes .entry)) (now (array .entry)) (now (security .entry)) (imageReadOf r (now (bytes .exit)) (now (array .exit)) (now (security .exit))) ⌝ }
+{
+    if bytes.len() != 320 {
+        return 1;
+    }
+    let came = image_reading::read(chip::new(), file, array, security);
+    let answer = came.answer;
+    let n = image_number(answer);
+    if n != 0 {
+        return n;
+    }
+    let c = came.chip;
+    let rest = c.rest;
+    put_idle(bytes, rest);
+    0
+}
+
 // ---- what a number means
 
-// The text of a number; a number above 13 has none.
+// The text of a number; a number above 15 has none.
 #[no_mangle]
 pub extern "C" fn fulkibono_meaning(number: u8, text: &mut [u8]) -> usize
     ensures { λ r. ⌜ MeaningBytes number (now (text .entry)) r (now (text .exit)) ⌝ }

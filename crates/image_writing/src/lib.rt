@@ -88,7 +88,8 @@ fn put_pages(file: &mut [u8], array: &[u8])
     }
 }
 
-fn put_file(file: &mut [u8], r: Rest, array: &[u8], security: &[u8])
+// The file of an idle record and its memories.
+pub fn put_file(file: &mut [u8], r: Rest, array: &[u8], security: &[u8])
     requires { ⌜ (length (now file) ≡ fileSize) × ((length (now array) ≡ arraySize) × (length (now security) ≡ securitySize)) ⌝ }
     ensures { λ _. ⌜ now (file .exit) ≡ recordOf "RG" (registers r) ++ recordOf "SI" (now (security .entry)) ++ joined (pageRecord (now (array .entry))) 8192 ⌝ }
 {
@@ -108,7 +109,7 @@ fn is_idle(r: Rest) -> bool
 }
 
 // The record as a buffer and the rest.
-pub fn write_turn(r: Rest, page: &[u8], array: &[u8], security: &[u8], file: &mut [u8]) -> Posted
+fn write_turn(r: Rest, page: &[u8], array: &[u8], security: &[u8], file: &mut [u8]) -> Posted
     requires { ⌜ length (now page) ≡ 256 ⌝ }
     ensures { λ p. ⌜ WritePromise (chipOf (now (page .entry)) r) (now (array .entry)) (now (security .entry)) (now (file .entry)) p (now (file .exit)) ⌝ }
 {

@@ -6,8 +6,8 @@
  * The caller lends all memory: the library has no heap and no data of its own, keeps no pointer after a call, and two chips can be
  * used by two threads at once. No two lent parts of one call may overlap.
  *
- * Each function is proved to do exactly what crates/bench/specs/Boundary.antt says, for every input of every length: there is no
- * undefined case on the library's side. The caller's side is C's usual one: a pointer must point to as many bytes as its length says.
+ * Each function is proved to do exactly what crates/bench/specs/Boundary.antt and Images.antt say, for every input of every length: there is
+ * no undefined case on the library's side. The caller's side is C's usual one: a pointer must point to as many bytes as its length says.
  *
  *     static uint8_t array[FULKIBONO_ARRAY], security[FULKIBONO_SECURITY];
  *     fulkibono_record chip;
@@ -30,8 +30,9 @@
 extern "C" {
 #endif
 
-/* Rises with what this header declares. 1 had records of 297 bytes; 2 had no burst reads, and its records are the same chips here. */
-#define FULKIBONO_VERSION 3
+/* Rises with what this header declares. 1 had records of 297 bytes; 2 had no burst reads, and its records are the same chips here; 3 had no
+ * image files (fulkibono_image_write, fulkibono_image_read, numbers 14 and 15), and its records are the same. */
+#define FULKIBONO_VERSION 4
 
 /* ---- sizes, in bytes */
 
@@ -40,6 +41,7 @@ extern "C" {
 #define FULKIBONO_SECURITY 2048      /* the Security ID: 8 pages of 256 */
 #define FULKIBONO_FRAME_MOST 65536   /* the longest frame, and the longest reply */
 #define FULKIBONO_MEANING_MOST 64    /* room for every text of fulkibono_meaning */
+#define FULKIBONO_IMAGE 2148374      /* an image file: a whole idle chip */
 
 /* ---- the numbers that each call gives back; if several apply, the lowest is given */
 
@@ -57,15 +59,17 @@ enum fulkibono_number {
     FULKIBONO_CLOSED = 10,       /* 42 or 98 with WPLD 1; A5 or 85 with SEC 1; A5 that sends a byte to places 0 to 7 */
     FULKIBONO_WRITE_LOCKED = 11, /* 20, D8, 02, 32 in a write-locked block; C7 with a write lock set */
     FULKIBONO_NOTHING_RUNS = 12, /* completion with nothing running */
-    FULKIBONO_NO_SUCH_BURST = 13 /* a C0 byte above 03 */
+    FULKIBONO_NO_SUCH_BURST = 13, /* a C0 byte above 03 */
+    FULKIBONO_AT_WORK = 14,      /* writing an image: a busy or suspended chip */
+    FULKIBONO_WRONG_FILE = 15    /* reading one: a wrong mark, sum, page number, code, flag bit 7 or register that breaks the well-formed rules */
 };
 
 /* What each refusal leaves:
- *     1, 12        nothing at all changes
- *     2            the reply is filled with FF and the marks with 0; nothing else changes
- *     3 to 11, 13  the same, and the reset enable is used up: the record's FULKIBONO_FLAG_RESET_ENABLE is 0
- * A byte that does not change may still be stored again, with the value it has. So all lent memory but `sent` must be writable, and no
- * other thread may look at it during a call, also where the call is refused.
+ *     1, 12, 14, 15  nothing at all changes
+ *     2              the reply is filled with FF and the marks with 0; nothing else changes
+ *     3 to 11, 13    the same, and the reset enable is used up: the record's FULKIBONO_FLAG_RESET_ENABLE is 0
+ * A byte that does not change may still be stored again, with the value it has. So all lent memory that is not const
+ * must be writable, and no other thread may look at it during a call, also where the call is refused.
  */
 
 /* ---- the places of a chip record; numbers stand low byte first */
@@ -141,8 +145,24 @@ uint8_t fulkibono_completion(uint8_t *record, size_t record_len, uint8_t *array,
 uint8_t fulkibono_power_cut(uint8_t *record, size_t record_len, uint8_t *array, size_t array_len, uint8_t *security, size_t security_len,
                             uint64_t k);
 
+/* A whole idle chip as a file, for the post: FULKIBONO_IMAGE bytes into `file`. Gives 0, 1 or 14; 1 where a length is another, the bytes are no
+ * record's code or the record is not well-formed; 14 where something runs or is suspended.
+ * The file is records in a row, each a mark of two letters, a body, and the sum of the body's bytes in two bytes, which wraps at 65,536:
+ *     RG, 14 bytes       the protection register (6), the permanent register (6), the flags as in a record (1), the burst's byte (1)
+ *     SI, 2,048 bytes    the Security ID
+ *     PG, 258 bytes      8,192 times, from 0 up: the page's number (2), the page
+ * Numbers stand high byte first. A file shows read-locked bytes too: the lock is on frames. */
+uint8_t fulkibono_image_write(const uint8_t *record, size_t record_len, const uint8_t *array, size_t array_len, const uint8_t *security,
+                              size_t security_len, uint8_t *file, size_t file_len);
+
+/* The chip in a file, in place of another. Gives 0, 1 or 15; 1 where a length is another, 15 where the file is wrong: all of it is tested before a
+ * byte is stored. The record that is replaced is not judged: any FULKIBONO_RECORD_SIZE bytes do.
+ * Reading gives back the chip that was written, every byte of record, array and Security ID; writing what was read gives the same file. */
+uint8_t fulkibono_image_read(const uint8_t *file, size_t file_len, uint8_t *record, size_t record_len, uint8_t *array, size_t array_len,
+                             uint8_t *security, size_t security_len);
+
 /* What a number means, in ASCII, with no zero at the end: as many bytes as fit are written, and the text's whole length is given back.
- * A number above 13 has no text: 0, and nothing is written. */
+ * A number above 15 has no text: 0, and nothing is written. */
 size_t fulkibono_meaning(uint8_t number, uint8_t *text, size_t text_len);
 
 /* ---- the same with the sizes filled in
@@ -181,6 +201,17 @@ FULKIBONO_INLINE uint8_t fulkibono_complete(fulkibono_record *chip, uint8_t *arr
 FULKIBONO_INLINE uint8_t fulkibono_cut(fulkibono_record *chip, uint8_t *array, uint8_t *security, uint64_t k)
 {
     return fulkibono_power_cut(chip->bytes, FULKIBONO_RECORD_SIZE, array, FULKIBONO_ARRAY, security, FULKIBONO_SECURITY, k);
+}
+
+/* `file` has FULKIBONO_IMAGE bytes. */
+FULKIBONO_INLINE uint8_t fulkibono_write_image(const fulkibono_record *chip, const uint8_t *array, const uint8_t *security, uint8_t *file)
+{
+    return fulkibono_image_write(chip->bytes, FULKIBONO_RECORD_SIZE, array, FULKIBONO_ARRAY, security, FULKIBONO_SECURITY, file, FULKIBONO_IMAGE);
+}
+
+FULKIBONO_INLINE uint8_t fulkibono_read_image(const uint8_t *file, fulkibono_record *chip, uint8_t *array, uint8_t *security)
+{
+    return fulkibono_image_read(file, FULKIBONO_IMAGE, chip->bytes, FULKIBONO_RECORD_SIZE, array, FULKIBONO_ARRAY, security, FULKIBONO_SECURITY);
 }
 
 /* The text with a zero behind it, in room for FULKIBONO_MEANING_MOST + 1 bytes. */

@@ -1,6 +1,7 @@
-//! The bytes of a chip record, as `include/fulkibono.h` names them: places, flags, kinds of work. Numbers stand low byte first.
+//! The bytes of a chip record, as `include/fulkibono.h` names them: places, flags, kinds of work. Numbers stand low byte first. And the length of an image file.
 
 pub const RECORD_SIZE: usize = 320;
+pub const IMAGE: usize = 2148374;
 
 pub const PLACE_PAGE: usize = 0;
 pub const PLACE_PROTECTION: usize = 256;

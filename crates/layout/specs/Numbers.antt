@@ -1,4 +1,4 @@
--- The numbers of the record's layout that C and Rust have names for, in the order in which they are looked for.
+-- The numbers of the record's layout that C and Rust have names for, in the order in which they are looked for; then an image file's length.
 use Prim.Native.Nat.{ℕ}
 use mathlib.Core.Bool.{Bool, true, false}
 use mathlib.Core.List.{List, [], _∷_}
@@ -8,6 +8,7 @@ use Rattle.rules.specs.Fields.{withSqi, withWel, withIoc, withWpen, withWpld, w
 use Rattle.rules.specs.Commands.{newChip}
 use Rattle.numbering.specs.Numbering.{kindOf}
 use Rattle.record_code.specs.Layout.{recordSize, placeOf}
+use Rattle.image.specs.Form.{fileSize}
 
 -- the flags' byte where a new chip's record has one flag set
 abbrev pub flagBy : (Bool → Rest → Rest) → ℕ
@@ -42,4 +43,5 @@ numbers =
     ∷ flagBy withWpld
     ∷ flagBy withSec
     ∷ flagBy withEnable
+    ∷ fileSize
     ∷ []

@@ -1,4 +1,4 @@
-// The record's numbers and the names that C and Rust have for them.
+// The record's numbers, an image file's length, and the names that C and Rust have for them.
 use writing::Row;
 ghost use mathlib.Core.Path.{_≡_};
 ghost use lib.ListN.{getD};
@@ -10,7 +10,7 @@ const KINDS: usize = 9;
 
 const FLAGS: usize = 7;
 
-pub const COUNT: usize = 27;
+pub const COUNT: usize = 28;
 
 const NUMBERS: [usize; COUNT] = [
     320,
@@ -40,6 +40,7 @@ const NUMBERS: [usize; COUNT] = [
     16,
     32,
     64,
+    2148374,
 ];
 
 // Those of the layout, in the order of specs/Numbers.antt.
@@ -95,7 +96,8 @@ fn flag_named(r: Row, i: usize) -> Row {
         23 => writing::text(r, b"FLAG_WPEN"),
         24 => writing::text(r, b"FLAG_WPLD"),
         25 => writing::text(r, b"FLAG_SEC"),
-        _ => writing::text(r, b"FLAG_RESET_ENABLE"),
+        26 => writing::text(r, b"FLAG_RESET_ENABLE"),
+        _ => writing::text(r, b"IMAGE"),
     }
 }
 
@@ -109,9 +111,9 @@ pub fn named(r: Row, i: usize) -> Row {
     flag_named(r, i)
 }
 
-// In Rust a place is a usize, a kind or a flag one byte.
+// In Rust a place or a length is a usize, a kind or a flag one byte.
 pub fn typed(r: Row, i: usize) -> Row {
-    if i < 11 {
+    if (i < 11) | (i == 27) {
         return writing::text(r, b": usize = ");
     }
     writing::text(r, b": u8 = ")

@@ -45,7 +45,26 @@ fn text_below_8(number: u8, text: &mut [u8]) -> usize
     }
 }
 
-// The text of a number; a number above 13 has none.
+// The texts of 8 to 11.
+fn text_below_12(number: u8, text: &mut [u8]) -> usize
+    requires { ⌜ (7 < number) × (number < 12) ⌝ }
+    ensures { λ r. ⌜ MeaningBytes number (now (text .entry)) r (now (text .exit)) ⌝ }
+{
+    match number {
+        8 => put_text(text, b"suspension rule"),
+        9 => put_text(text, b"WEL needed and 0"),
+        10 => put_text(
+            text,
+            b"42 or 98 with WPLD 1; A5 or 85 with SEC 1; A5 to places 0 to 7",
+        ),
+        _ => put_text(
+            text,
+            b"20, D8, 02, 32 in a write-locked block; C7 with a write lock set",
+        ),
+    }
+}
+
+// The text of a number; a number above 15 has none.
 pub fn meaning(number: u8, text: &mut [u8]) -> usize
     ensures { λ r. ⌜ MeaningBytes number (now (text .entry)) r (now (text .exit)) ⌝ }
 {
@@ -55,19 +74,17 @@ pub fn meaning(number: u8, text: &mut [u8]) -> usize
     if number < 8 {
         return text_below_8(number, text);
     }
+    if number < 12 {
+        return text_below_12(number, text);
+    }
     match number {
-        8 => put_text(text, b"suspension rule"),
-        9 => put_text(text, b"WEL needed and 0"),
-        10 => put_text(
-            text,
-            b"42 or 98 with WPLD 1; A5 or 85 with SEC 1; A5 to places 0 to 7",
-        ),
-        11 => put_text(
-            text,
-            b"20, D8, 02, 32 in a write-locked block; C7 with a write lock set",
-        ),
         12 => put_text(text, b"completion with nothing running"),
         13 => put_text(text, b"a C0 byte above 03"),
+        14 => put_text(text, b"a busy or suspended chip"),
+        15 => put_text(
+            text,
+            b"a wrong mark, sum, page number, code, flag bit 7 or register",
+        ),
         _ => 0,
     }
 }

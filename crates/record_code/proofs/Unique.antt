@@ -10,6 +10,9 @@ use Rattle.record_code.proofs.is_code.Reads as is-code
 use Rattle.record_code.proofs.rest_in.Reads as rest-in
 use Rattle.record_code.proofs.put_new.Reads as put-new
 use Rattle.record_code.proofs.put_rest.Reads as put-rest
+use Rattle.record_code.proofs.put_idle.Reads as put-idle
+use Rattle.record_code.proofs.is_idle.Reads as is-idle
+use Rattle.record_code.proofs.idle_in.Reads as idle-in
 
 pub is-code-one : (κ : List ℕ × Unit {0}) (a x y : RefT (List ℕ) × Unit {0}) (r r′ : Bool) → is-code.Post κ a r x → is-code.Post κ a r′ y → r ≡ r′
 is-code-one κ a x y r r′ p q = p ∙ sym q
@@ -22,3 +25,12 @@ put-new-one κ a x y p q = p ∙ sym q
 
 pub put-rest-one : (κ : List ℕ × Unit {0}) (a x y : RefT (List ℕ) × (Rest × Unit {0})) → put-rest.Post κ a tt x → put-rest.Post κ a tt y → x .0 .now ≡ y .0 .now
 put-rest-one κ a x y p q = p ∙ sym q
+
+pub put-idle-one : (κ : List ℕ × Unit {0}) (a x y : RefT (List ℕ) × (Rest × Unit {0})) → put-idle.Post κ a tt x → put-idle.Post κ a tt y → x .0 .now ≡ y .0 .now
+put-idle-one κ a x y p q = p ∙ sym q
+
+pub is-idle-one : (κ : List ℕ × Unit {0}) (a x y : RefT (List ℕ) × Unit {0}) (r r′ : Bool) → is-idle.Post κ a r x → is-idle.Post κ a r′ y → r ≡ r′
+is-idle-one κ a x y r r′ p q = p ∙ sym q
+
+pub idle-in-one : (κ : List ℕ × Unit {0}) (a x y : RefT (List ℕ) × Unit {0}) (r r′ : Rest) → idle-in.Post κ a r x → idle-in.Post κ a r′ y → r ≡ r′
+idle-in-one κ a x y r r′ p q = p ∙ sym q

@@ -12,14 +12,17 @@ use rules::Rest;
 use rules::Work;
 use rules::Works;
 ghost use mathlib.Core.Path.{_≡_};
+ghost use mathlib.Core.Bool.{_&&_};
 ghost use mathlib.Core.List.{_++_};
 ghost use Prim.Native.Nat.{_+_, _*_, _≤_};
 ghost use lib.Dec.{eqb, leb};
 ghost use lib.ListN.{length, take, drop};
 ghost use Rattle.rules.specs.Bursts.{lastBurst, burstOf};
 ghost use Rattle.rules.specs.Commands.{newChip};
+ghost use Rattle.rules.specs.Fields.{worksOf, restOf};
+ghost use Rattle.rules.specs.declared.Work.the-variants.{Nothing};
 ghost use Rattle.numbering.specs.Numbering.{workRight, workOf};
-ghost use Rattle.record_code.specs.Layout.{bytes, numberAt, word, restCode, restIn, isCode, NothingReserved};
+ghost use Rattle.record_code.specs.Layout.{bytes, numberAt, word, fieldIn, restCode, restIn, isCode, NothingReserved};
 
 // ---- from a record to bytes
 
@@ -69,6 +72,22 @@ pub fn put_rest(coded: &mut [u8], r: Rest)
     put_number(coded, 289, 1, suspended_kind);
     put_number(coded, 290, 1, flags);
     put_number(coded, 291, 1, burst);
+}
+
+// The same of a record at which nothing runs and nothing is suspended, whatever stood in the reserved bytes.
+pub fn put_idle(coded: &mut [u8], r: Rest)
+    requires { ⌜ length (now coded) ≡ 320 ⌝ }
+    ensures { λ _. ⌜ now (coded .exit) ≡ take 256 (now (coded .entry)) ++ restCode (restOf (r .locks) (worksOf Nothing Nothing) (r .flags) (r .burst)) ⌝ }
+{
+    let flags = flags_number(r.flags);
+    let set = r.burst;
+    let burst = burst_byte(set);
+    put_number(coded, 256, 8, r.locks.protection);
+    put_number(coded, 264, 8, r.locks.permanent);
+    put_number(coded, 272, 18, 0);
+    put_number(coded, 290, 1, flags);
+    put_number(coded, 291, 1, burst);
+    put_number(coded, 292, 28, 0);
 }
 
 // ---- from bytes to a record
@@ -176,6 +195,37 @@ pub fn rest_in(coded: &[u8]) -> Rest
             permanent,
         },
         works: Works { running, suspended },
+        flags,
+        burst,
+    }
+}
+
+// Both kinds are 0: nothing runs, and nothing is suspended.
+pub fn is_idle(coded: &[u8]) -> bool
+    requires { ⌜ length (now coded) ≡ 320 ⌝ }
+    ensures { λ r. ⌜ r ≡ (eqb (fieldIn (now (coded .entry)) "running kind") 0 && eqb (fieldIn (now (coded .entry)) "suspended kind") 0) ⌝ }
+{
+    (coded[288] == 0) & (coded[289] == 0)
+}
+
+// What the record of the bytes holds behind its page, with nothing that runs or is suspended.
+pub fn idle_in(coded: &[u8]) -> Rest
+    requires { ⌜ length (now coded) ≡ 320 ⌝ }
+    ensures { λ r. ⌜ r ≡ restOf (restIn (now (coded .entry)) .locks) (worksOf Nothing Nothing) (restIn (now (coded .entry)) .flags) (restIn (now (coded .entry)) .burst) ⌝ }
+{
+    let protection = get_word(coded, 256);
+    let permanent = get_word(coded, 264);
+    let flags = flags_of(coded[290]);
+    let burst = burst_of(coded[291]);
+    Rest {
+        locks: Locks {
+            protection,
+            permanent,
+        },
+        works: Works {
+            running: Work::Nothing,
+            suspended: Work::Nothing,
+        },
         flags,
         burst,
     }

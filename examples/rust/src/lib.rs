@@ -47,11 +47,31 @@ mod library {
             security_len: usize,
             k: u64,
         ) -> u8;
+        pub fn fulkibono_image_write(
+            record: *const u8,
+            record_len: usize,
+            array: *const u8,
+            array_len: usize,
+            security: *const u8,
+            security_len: usize,
+            file: *mut u8,
+            file_len: usize,
+        ) -> u8;
+        pub fn fulkibono_image_read(
+            file: *const u8,
+            file_len: usize,
+            record: *mut u8,
+            record_len: usize,
+            array: *mut u8,
+            array_len: usize,
+            security: *mut u8,
+            security_len: usize,
+        ) -> u8;
         pub fn fulkibono_meaning(number: u8, text: *mut u8, text_len: usize) -> usize;
     }
 }
 
-/// Why an event was refused: a number from 1 to 13.
+/// Why an event or an image was refused: a number from 1 to 15.
 #[repr(transparent)]
 #[derive(Clone, Copy, PartialEq, Eq, Debug)]
 pub struct Refusal(NonZeroU8);
@@ -272,5 +292,55 @@ impl Record {
                 k,
             )
         })
+    }
+
+    /// The whole idle chip as an image file, into lent bytes. Refused with 1 where they are not `IMAGE` bytes or the record is not well-formed, with
+    /// 14 where something runs or is suspended; then the bytes are as they were.
+    pub fn write_image(&self, array: &Array, security: &Security, file: &mut [u8]) -> Result<(), Refusal> {
+        // Safety: each part is lent with its own length, and only the file is written, which no other reference holds.
+        answer(unsafe {
+            library::fulkibono_image_write(
+                self.0.as_ptr(),
+                RECORD_SIZE,
+                array.0.as_ptr(),
+                ARRAY,
+                security.0.as_ptr(),
+                SECURITY,
+                file.as_mut_ptr(),
+                file.len(),
+            )
+        })
+    }
+
+    /// The same in bytes of its own.
+    pub fn image(&self, array: &Array, security: &Security) -> Result<Vec<u8>, Refusal> {
+        let mut file = vec![0; IMAGE];
+        self.write_image(array, security, &mut file)?;
+        Ok(file)
+    }
+
+    /// The chip in an image file, in place of this one, which may be any record's bytes. Refused with 1 where the file has another length, with 15
+    /// where it is wrong; then record, array and Security ID are as they were.
+    pub fn read_image(&mut self, file: &[u8], array: &mut Array, security: &mut Security) -> Result<(), Refusal> {
+        // Safety: as in `frame`.
+        answer(unsafe {
+            library::fulkibono_image_read(
+                file.as_ptr(),
+                file.len(),
+                self.0.as_mut_ptr(),
+                RECORD_SIZE,
+                array.0.as_mut_ptr(),
+                ARRAY,
+                security.0.as_mut_ptr(),
+                SECURITY,
+            )
+        })
+    }
+
+    /// The same as a new record.
+    pub fn from_image(file: &[u8], array: &mut Array, security: &mut Security) -> Result<Record, Refusal> {
+        let mut chip = Record([0; RECORD_SIZE]);
+        chip.read_image(file, array, security)?;
+        Ok(chip)
     }
 }

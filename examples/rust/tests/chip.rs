@@ -19,6 +19,18 @@ impl Bench {
         (number, reply, marks)
     }
 
+    fn image(&mut self) -> Result<Vec<u8>, u8> {
+        let array = Array::of(&mut self.array).unwrap();
+        let security = Security::of(&mut self.security).unwrap();
+        self.chip.image(array, security).map_err(|r| r.number())
+    }
+
+    fn read_image(&mut self, file: &[u8]) -> u8 {
+        let array = Array::of(&mut self.array).unwrap();
+        let security = Security::of(&mut self.security).unwrap();
+        self.chip.read_image(file, array, security).err().map_or(0, |r| r.number())
+    }
+
     fn complete(&mut self) -> u8 {
         let array = Array::of(&mut self.array).unwrap();
         let security = Security::of(&mut self.security).unwrap();
@@ -148,4 +160,60 @@ fn sizes_are_held() {
     let refused = b.chip.frame(array, security, &[0x05], &mut [0; 2], &mut [0; 1]).unwrap_err();
     assert_eq!(refused.number(), 1);
     assert_eq!(refused.to_string(), "record not well-formed, or a length outside \"Sizes\"");
+}
+
+#[test]
+fn an_image_gives_the_chip_back() {
+    let mut b = Bench::new();
+    b.send(&[0x06], 0);
+    b.send(&[0x98], 0);
+    b.send(&[0x06], 0);
+    b.array[0x12345] = 0x5A;
+    b.security[9] = 0xA5;
+    let file = b.image().unwrap();
+    assert_eq!(file.len(), IMAGE);
+    assert_eq!(file[..18], [b'R', b'G', 0x00, 0x00, 0x00, 0x00, 0x00, 0x00, 0, 0, 0, 0, 0, 0, 0x02, 0x00, 0x00, 0x02]);
+    assert_eq!((&file[18..20], file[29]), (&b"SI"[..], 0xA5));
+    // the last page, blank: its sum wraps
+    assert_eq!(file[IMAGE - 262..IMAGE - 258], [b'P', b'G', 0x1F, 0xFF]);
+    assert_eq!(file[IMAGE - 2..], [0x00, 0x1E]);
+    let mut other = Bench::new();
+    other.chip = Record::from_bytes([0xEE; RECORD_SIZE]);
+    assert_eq!(other.read_image(&file), 0);
+    assert!(other.chip == b.chip && other.array == b.array && other.security == b.security);
+    assert!(other.image().unwrap() == file);
+    let array = Array::of(&mut other.array).unwrap();
+    let security = Security::of(&mut other.security).unwrap();
+    assert!(Record::from_image(&file, array, security).unwrap() == b.chip);
+}
+
+#[test]
+fn a_refused_image_changes_nothing() {
+    let mut b = Bench::new();
+    let file = b.image().unwrap();
+    b.send(&[0x06], 0);
+    b.array[7] = 7;
+    let (chip, array) = (b.chip.clone(), b.array.clone());
+    // mark, flag bit 7, burst code, sum of RG; mark of SI; number, page and sum of PG
+    for at in [0, 14, 15, 16, 18, 2072, 2074, 2331, IMAGE - 1] {
+        let mut wrong = file.clone();
+        wrong[at] ^= 0x80;
+        assert_eq!(b.read_image(&wrong), 15);
+        assert!(b.chip == chip && b.array == array);
+    }
+    assert_eq!((b.read_image(&file[1..]), b.read_image(&[])), (1, 1));
+    let refused = Record::from_image(&[], Array::of(&mut b.array).unwrap(), Security::of(&mut b.security).unwrap()).err().unwrap();
+    assert_eq!(refused.number(), 1);
+    b.send(&[0x98], 0);
+    b.send(&[0x06], 0);
+    b.send(&[0x20, 0, 0, 0], 0);
+    assert_eq!(b.image(), Err(14));
+    b.send(&[0xB0], 0);
+    assert_eq!(b.image(), Err(14));
+    b.send(&[0x30], 0);
+    assert_eq!(b.complete(), 0);
+    assert!(b.image().is_ok());
+    let mut short = [0xAB; 5];
+    assert!(b.chip.write_image(Array::of(&mut b.array).unwrap(), Security::of(&mut b.security).unwrap(), &mut short).is_err());
+    assert_eq!(short, [0xAB; 5]);
 }

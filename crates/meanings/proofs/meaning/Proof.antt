@@ -1,4 +1,4 @@
--- Each number has its text, and a number above 13 has none. Assumes nothing.
+-- Each number has its text, and a number above 15 has none. Assumes nothing.
 use mathlib.Core.Path.{refl}
 use native.Mathlib.Omega.{arith}
 use Rattle.meanings.specs.Meanings.{meaning}
@@ -6,32 +6,24 @@ use Rattle.meanings.proofs.Texts.{put, none}
 use Rattle.meanings.proofs.meaning.Statement.{statement}
 use Rattle.meanings.proofs.meaning.Tie as tie
 
-returns-3 : tie.Need-returns-3
-unfolding meaning
-returns-3 c = let m = c .before .before .before .before .before in put (m .before .before .before .before .args .number) 8 _ _ _ _ (m .match .keys1) refl (c .before .before .put-text .ensures)
-
 returns-4 : tie.Need-returns-4
 unfolding meaning
-returns-4 c = let m = c .before .before .before .before .before in put (m .before .before .before .before .args .number) 9 _ _ _ _ (m .match .keys2) refl (c .before .before .put-text2 .ensures)
+returns-4 c = let m = c .before .before .before .before .before in put (m .before .before .before .before .before .args .number) 12 _ _ _ _ (m .match .keys1) refl (c .before .before .put-text .ensures)
 
 returns-5 : tie.Need-returns-5
 unfolding meaning
-returns-5 c = let m = c .before .before .before .before .before in put (m .before .before .before .before .args .number) 10 _ _ _ _ (m .match .keys3) refl (c .before .before .put-text3 .ensures)
+returns-5 c = let m = c .before .before .before .before .before in put (m .before .before .before .before .before .args .number) 13 _ _ _ _ (m .match .keys2) refl (c .before .before .put-text2 .ensures)
 
 returns-6 : tie.Need-returns-6
 unfolding meaning
-returns-6 c = let m = c .before .before .before .before .before in put (m .before .before .before .before .args .number) 11 _ _ _ _ (m .match .keys4) refl (c .before .before .put-text4 .ensures)
+returns-6 c = let m = c .before .before .before .before .before in put (m .before .before .before .before .before .args .number) 14 _ _ _ _ (m .match .keys3) refl (c .before .before .put-text3 .ensures)
 
 returns-7 : tie.Need-returns-7
 unfolding meaning
-returns-7 c = let m = c .before .before .before .before .before in put (m .before .before .before .before .args .number) 12 _ _ _ _ (m .match .keys5) refl (c .before .before .put-text5 .ensures)
+returns-7 c = let m = c .before .before .before .before .before in put (m .before .before .before .before .before .args .number) 15 _ _ _ _ (m .match .keys4) refl (c .before .before .put-text4 .ensures)
 
 returns-8 : tie.Need-returns-8
-unfolding meaning
-returns-8 c = let m = c .before .before .before .before .before in put (m .before .before .before .before .args .number) 13 _ _ _ _ (m .match .keys6) refl (c .before .before .put-text6 .ensures)
-
-returns-9 : tie.Need-returns-9
-returns-9 c = none (c .before .before .before .before .args .number) _ (omega arith)
+returns-8 c = none (c .before .before .before .before .before .args .number) _ (omega arith)
 
 pub meaning-spec : {M : Type 1} → statement M
 meaning-spec =
@@ -43,10 +35,9 @@ meaning-spec =
     (λ c κs. (omega arith, omega arith))
     (λ c. c .before .before .text-below-8 .kept .1 .0)
     (λ c. c .before .before .text-below-8 .ensures)
-    (λ c. refl)
-    (λ c κs. tt)
-    (λ c. refl)
-    (λ c κs. tt)
+    (λ c κs. (omega arith, omega arith))
+    (λ c. c .before .before .text-below-12 .kept .1 .0)
+    (λ c. c .before .before .text-below-12 .ensures)
     (λ c. refl)
     (λ c κs. tt)
     (λ c. refl)
@@ -56,15 +47,11 @@ meaning-spec =
     (λ c. refl)
     (λ c κs. tt)
     (λ c. c .before .before .put-text .kept .0)
-    returns-3
-    (λ c. c .before .before .put-text2 .kept .0)
     returns-4
-    (λ c. c .before .before .put-text3 .kept .0)
+    (λ c. c .before .before .put-text2 .kept .0)
     returns-5
-    (λ c. c .before .before .put-text4 .kept .0)
+    (λ c. c .before .before .put-text3 .kept .0)
     returns-6
-    (λ c. c .before .before .put-text5 .kept .0)
+    (λ c. c .before .before .put-text4 .kept .0)
     returns-7
-    (λ c. c .before .before .put-text6 .kept .0)
-    returns-8
-    returns-9)
+    returns-8)
