@@ -1,7 +1,7 @@
 // The second model beside the first: the same line, with memories of its own, and in what the two differ. A part of the program trial, apart so that it is
 // proved beside other crates; like it safe and ending, with no contract: that each comparison is made is shown by differences planted for it.
 pub mod bytes;
-mod mapping;
+pub mod mapping;
 
 use bytes::same;
 use bytes::same_front;
@@ -101,6 +101,10 @@ pub fn played(
             state: f,
         },
         Deed::Question(_) => Step {
+            number: p.number,
+            state: f,
+        },
+        Deed::Post(_) => Step {
             number: p.number,
             state: f,
         },

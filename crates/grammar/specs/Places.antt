@@ -1,5 +1,7 @@
 -- The places of a line: what the words so far leave to come.
 use Prim.Native.Nat.{ℕ}
+use mathlib.Core.Bool.{Bool, _&&_}
+use lib.Dec.{ltb}
 
 -- the line's first word
 abbrev pub lineStart : ℕ
@@ -192,3 +194,29 @@ afterAnswerAnyTimes = 46
 -- after burst in the fields
 abbrev pub afterBurst : ℕ
 afterBurst = 47
+
+-- ---- places of a file's name
+
+-- after save
+abbrev pub afterSave : ℕ
+afterSave = 48
+
+-- after load
+abbrev pub afterLoad : ℕ
+afterLoad = 49
+
+-- after save raw or load raw
+abbrev pub afterRaw : ℕ
+afterRaw = 50
+
+-- after compare
+abbrev pub afterCompare : ℕ
+afterCompare = 51
+
+-- after compare raw
+abbrev pub afterCompareRaw : ℕ
+afterCompareRaw = 52
+
+-- a word is a name there: only a blank or the line's end ends it
+abbrev pub takesName : ℕ → Bool
+takesName p = ltb afterBurst p && ltb p 53

@@ -2,7 +2,7 @@
 -- comes next, what the word stores, and what it writes into the slots.
 use Prim.Native.Nat.{ℕ, _+_, _-_, _/_, min, zero, suc}
 use Prim.Native.String.{String}
-use mathlib.Core.Bool.{Bool, not, _&&_}
+use mathlib.Core.Bool.{Bool, true, not, _&&_}
 use mathlib.Core.List.{List, [], _∷_, map}
 use lib.Dec.{eqb, ltb, leb}
 use lib.ListN.{length, getD, drop, set}
@@ -11,7 +11,7 @@ use Rattle.rules.specs.Texts.{ascii}
 use Rattle.spelling.specs.declared.Word.{Word}
 use Rattle.grammar.specs.declared.Entry.{Entry}
 use Rattle.spelling.specs.Words.{key, keyWith}
-use Rattle.grammar.specs.Places.{lineStart, afterByte, afterByteStar, afterBytes, afterReply, afterReplyCount, afterSlash, afterMarkCount, afterEqual, afterExpected, afterTilde, afterExpectedStar, afterExpectedTimes, afterRefuse, lineDone, afterEvent, afterCut, afterQuestion, afterAsked, afterAnswer, afterAnswerTilde, afterAnswerStar, afterAnswerTimes, afterDump, afterDumpId, afterDumpPlace, afterFill, afterFillId, afterFillPlace, afterFillCount, afterLend, afterLendArray, inFields, afterProtect, afterPerm, afterRun, afterAside, afterRunKind, afterAsideKind, afterNoReply, afterNoReplySlash, afterAny, afterAnyStar, afterAnyTimes, afterAnswerAny, afterAnswerAnyStar, afterAnswerAnyTimes, afterBurst}
+use Rattle.grammar.specs.Places.{lineStart, afterByte, afterByteStar, afterBytes, afterReply, afterReplyCount, afterSlash, afterMarkCount, afterEqual, afterExpected, afterTilde, afterExpectedStar, afterExpectedTimes, afterRefuse, lineDone, afterEvent, afterCut, afterQuestion, afterAsked, afterAnswer, afterAnswerTilde, afterAnswerStar, afterAnswerTimes, afterDump, afterDumpId, afterDumpPlace, afterFill, afterFillId, afterFillPlace, afterFillCount, afterLend, afterLendArray, inFields, afterProtect, afterPerm, afterRun, afterAside, afterRunKind, afterAsideKind, afterNoReply, afterNoReplySlash, afterAny, afterAnyStar, afterAnyTimes, afterAnswerAny, afterAnswerAnyStar, afterAnswerAnyTimes, afterBurst, afterSave, afterLoad, afterRaw, afterCompare, afterCompareRaw}
 use Rattle.grammar.specs.Slots.{verb, wanted, marksGiven, marks, expecting, judged, refused, from, size, filling, burst, ofId, protection, permanent, runKind, runNumber, asideKind, asideNumber, sqi, wel, ioc, wpen, wpld, sec, enable}
 use Rattle.grammar.specs.Verbs as verbs
 
@@ -22,7 +22,8 @@ wordList =
     ">" ∷ "=" ∷ "!" ∷ "/" ∷ "*" ∷ "~" ∷ "??" ∷ "kept" ∷ "done" ∷ "cut" ∷ "status" ∷ "work" ∷ "locks" ∷ "dump"
     ∷ "id" ∷ "new" ∷ "fill" ∷ "buffer" ∷ "pattern" ∷ "lend" ∷ "record" ∷ "is" ∷ "full" ∷ "short" ∷ "strict" ∷
     "protect" ∷ "perm" ∷ "run" ∷ "aside" ∷ "sqi" ∷ "wel" ∷ "ioc" ∷ "wpen" ∷ "wpld" ∷ "sec" ∷ "enable" ∷
-    "sector" ∷ "block" ∷ "array" ∷ "page" ∷ "lock" ∷ "config" ∷ "bits" ∷ "burst" ∷ "8" ∷ "16" ∷ "32" ∷ "64" ∷ []
+    "sector" ∷ "block" ∷ "array" ∷ "page" ∷ "lock" ∷ "config" ∷ "bits" ∷ "burst" ∷ "8" ∷ "16" ∷ "32" ∷ "64" ∷
+    "save" ∷ "load" ∷ "compare" ∷ "raw" ∷ []
 
 unfoldable pub keys : List ℕ
 keys = map (λ (s : String). key (ascii s)) wordList
@@ -46,7 +47,7 @@ number = 1
 abbrev pub times : ℕ
 times = 2
 
--- a decimal number at most 13
+-- a decimal number at most 15
 abbrev pub refusal : ℕ
 refusal = 3
 
@@ -57,6 +58,10 @@ address = 4
 -- one to sixteen hex digits
 abbrev pub hex : ℕ
 hex = 5
+
+-- any word: a file's name
+abbrev pub name : ℕ
+name = 6
 
 -- one of the words: the first has class 16
 abbrev pub word : String → ℕ
@@ -72,10 +77,11 @@ hasClass c w n =
     pick (eqb c byte) (w .hexadecimal && eqb (w .length) 2)
     (pick (eqb c number) (w .decimal)
     (pick (eqb c times) (w .decimal && ltb 0 (w .number))
-    (pick (eqb c refusal) (w .decimal && leb (w .number) 13)
+    (pick (eqb c refusal) (w .decimal && leb (w .number) 15)
     (pick (eqb c address) (w .hexadecimal && leb (w .length) 6)
     (pick (eqb c hex) (w .hexadecimal && leb (w .length) 16)
-    (eqb c n))))))
+    (pick (eqb c name) true
+    (eqb c n)))))))
 
 -- ---- what a word stores
 
@@ -105,6 +111,10 @@ expectsUnknown = 5
 -- the last expected byte, so many times in all
 abbrev pub expectsAgain : ℕ
 expectsAgain = 6
+
+-- what was stored of the frame is forgotten: the word was no name
+abbrev pub forgets : ℕ
+forgets = 7
 
 -- ---- what a word writes
 
@@ -284,6 +294,17 @@ table =
     ∷ row lineStart (word "full") lineDone no (says verb verbs.full)
     ∷ row lineStart (word "short") lineDone no (says verb verbs.short)
     ∷ row lineStart (word "strict") lineDone no (says verb verbs.strict)
+    -- files: the bytes of a name are stored as they come
+    ∷ row lineStart (word "save") afterSave no (says verb verbs.save)
+    ∷ row lineStart (word "load") afterLoad no (says verb verbs.load)
+    ∷ row lineStart (word "compare") afterCompare no (says verb verbs.compareRaw)
+    ∷ row afterSave (word "raw") afterRaw forgets (says verb verbs.saveRaw)
+    ∷ row afterSave name afterEvent no nothing
+    ∷ row afterLoad (word "raw") afterRaw forgets (says verb verbs.loadRaw)
+    ∷ row afterLoad name afterEvent no nothing
+    ∷ row afterRaw name afterEvent no nothing
+    ∷ row afterCompare (word "raw") afterCompareRaw forgets nothing
+    ∷ row afterCompareRaw name lineDone no nothing
     ∷ []
 
 -- the places where a line may end

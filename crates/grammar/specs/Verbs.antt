@@ -56,6 +56,21 @@ is = 16
 abbrev pub pattern : ℕ
 pattern = 17
 
+abbrev pub save : ℕ
+save = 18
+
+abbrev pub load : ℕ
+load = 19
+
+abbrev pub saveRaw : ℕ
+saveRaw = 20
+
+abbrev pub loadRaw : ℕ
+loadRaw = 21
+
+abbrev pub compareRaw : ℕ
+compareRaw = 22
+
 -- a mistake was met, or the line ended too early
 abbrev pub wrong : ℕ
 wrong = 31

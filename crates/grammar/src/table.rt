@@ -8,6 +8,7 @@ ghost use lib.Dec.{eqb};
 ghost use lib.ListN.{getD};
 ghost use Rattle.rules.specs.Words.{pick, oneOf};
 ghost use Rattle.spelling.specs.Words.{keyWith};
+ghost use Rattle.grammar.specs.Places.{takesName};
 ghost use Rattle.grammar.specs.Table.{position, keysFrom, called, hasClass, firstOf, rowsIn, numbersIn, nextOf, canEnd, valueOf, slotsWith};
 
 // ---- the words
@@ -54,7 +55,8 @@ fn called(w: Word) -> u8
         position(
             b"> = ! / * ~ ?? kept done cut status work locks dump id new fill buffer pattern \
             lend record is full short strict protect perm run aside sqi wel ioc wpen wpld \
-            sec enable sector block array page lock config bits burst 8 16 32 64 ",
+            sec enable sector block array page lock config bits burst 8 16 32 64 \
+            save load compare raw ",
             w.key,
         )
     } else {
@@ -71,9 +73,10 @@ fn has_class(class: u8, w: Word, name: u8) -> bool
         0 => w.hexadecimal & (w.length == 2),
         1 => w.decimal,
         2 => w.decimal & (0 < w.number),
-        3 => w.decimal & (w.number <= 13),
+        3 => w.decimal & (w.number <= 15),
         4 => w.hexadecimal & (w.length <= 6),
         5 => w.hexadecimal & (w.length <= 16),
+        6 => true,
         _ => class == name,
     }
 }
@@ -142,7 +145,8 @@ pub fn follows(place: u8, w: Word) -> Entry
         R5P0<2_lP093_mP094_nP095_oP096\
         SdU0=4SeU0=5SfP0=6SgU0=7SNU0=8ShP0=9SiU0=:SjU0=;U5P0>2\
         TdV0?4TeV0?5TfP0?6TgV0?7TNV0?8ThP0?9TiV0?:TjV0?;V5P0@2\
-        0V>00<0W>00=0X>00>",
+        0V>00<0W>00=0X>00>\
+        0p`00E0qa00F0rc00I`sb70G`6?000asb70Ha6?000b6?000csd700d6>000",
         place,
         w,
         name,
@@ -160,6 +164,13 @@ fn listed(text: &[u8], x: u8) -> bool
         i += 1;
     }
     false
+}
+
+// A word is a name here.
+pub fn takes_name(place: u8) -> bool
+    ensures { λ r. ⌜ r ≡ takesName place ⌝ }
+{
+    (47 < place) & (place < 53)
 }
 
 // The line may end here.

@@ -40,6 +40,7 @@ pub fn first(
         Deed::Event(e) => events::row(line, e, slots, number, ran, sent, reply, marks),
         Deed::Setting(s) => settings::row(line, s, slots),
         Deed::Question(q) => questions::row(line, q, slots, number, rest),
+        Deed::Post(_) => rows::empty(),
         Deed::Wrong => rows::wrong(line, &word, l.length, l.column),
     }
 }

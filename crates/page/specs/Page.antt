@@ -243,7 +243,7 @@ page =
     ++ ascii "a byte\n"  -- 232
     ++ ascii "how often, from 1\n"  -- 233
     ++ ascii "a byte, ??, ~ a byte, ! a number, # remark\n"  -- 234
-    ++ ascii "a number from 0 (done) to 13\n"  -- 235
+    ++ ascii "a number from 0 (done) to 15\n"  -- 235
     ++ ascii "nothing more, or # remark\n"  -- 236
     ++ ascii "! a number, # remark\n"  -- 237
     ++ ascii "a count of bytes, in decimal\n"  -- 238
@@ -278,6 +278,48 @@ page =
     ++ ascii "how often, from 1\n"  -- 267
     ++ ascii "a byte, ~ a byte, ??: ?? alone expects nothing\n"  -- 268
     ++ ascii "8, 16, 32 or 64\n"  -- 269
+    ++ ascii "raw, or the name of a file\n"  -- 270
+    ++ ascii "raw, or the name of a file\n"  -- 271
+    ++ ascii "the name of a file\n"  -- 272
+    ++ ascii "raw\n"  -- 273
+    ++ ascii "the name of a file\n"  -- 274
+    ++ (meaning 14 ++ ascii "\n")  -- 275
+    ++ (meaning 15 ++ ascii "\n")  -- 276
+    ++ ascii "save \n"  -- 277
+    ++ ascii "load \n"  -- 278
+    ++ ascii "save raw \n"  -- 279
+    ++ ascii "load raw \n"  -- 280
+    ++ ascii "compare raw \n"  -- 281
+    ++ ascii "saved, %n bytes\n"  -- 282
+    ++ ascii "loaded, %n bytes\n"  -- 283
+    ++ ascii "same, %n bytes\n"  -- 284
+    ++ ascii "differs in %n byte%s\n"  -- 285
+    ++ ascii "cannot be opened, there is no such file\n"  -- 286
+    ++ ascii "cannot be opened, that is not permitted\n"  -- 287
+    ++ ascii "cannot be opened\n"  -- 288
+    ++ ascii "cannot be read to its end\n"  -- 289
+    ++ ascii "cannot be written, there is no such folder\n"  -- 290
+    ++ ascii "cannot be written, that is not permitted\n"  -- 291
+    ++ ascii "cannot be written\n"  -- 292
+    ++ ascii "cannot be written, the name with .part is taken\n"  -- 293
+    ++ ascii "the file has %n byte%s, an image has 2148374\n"  -- 294
+    ++ ascii "the file is longer than an image, which has 2148374 bytes\n"  -- 295
+    ++ ascii "the file has %n byte%s, the array has 2097152\n"  -- 296
+    ++ ascii "the file is longer than the array, which has 2097152 bytes\n"  -- 297
+    ++ ascii "first difference at %a: the file has %b, the array %b\n"  -- 298
+    ++ ascii "record RG: \n"  -- 299
+    ++ ascii "record SI: \n"  -- 300
+    ++ ascii "record PG %n: \n"  -- 301
+    ++ ascii "mark is %b %b\n"  -- 302
+    ++ ascii "sum is %b %b\n"  -- 303
+    ++ ascii "page number is %b %b\n"  -- 304
+    ++ ascii ", it must be %b %b\n"  -- 305
+    ++ ascii ", the body's is %b %b\n"  -- 306
+    ++ ascii "flag bit 7 is set, the flags are %b\n"  -- 307
+    ++ ascii "burst code is %b, 03 is the last\n"  -- 308
+    ++ ascii "permanent %r has a read lock\n"  -- 309
+    ++ ascii "permanent %r is not within protection %r\n"  -- 310
+    ++ ascii " is suspended\n"  -- 311
 
 -- form n with three numbers, behind a row
 unfoldable pub form : ℕ → ℕ → ℕ → ℕ → Row → Row

@@ -244,7 +244,7 @@ a byte, ??, ~ a byte, * how often, ! a number, # remark\n\
 a byte\n\
 how often, from 1\n\
 a byte, ??, ~ a byte, ! a number, # remark\n\
-a number from 0 (done) to 13\n\
+a number from 0 (done) to 15\n\
 nothing more, or # remark\n\
 ! a number, # remark\n\
 a count of bytes, in decimal\n\
@@ -278,7 +278,49 @@ a byte, ~ a byte, ??: ?? alone expects nothing\n\
 a byte, ~ a byte, ??, * how often: ?? alone expects nothing\n\
 how often, from 1\n\
 a byte, ~ a byte, ??: ?? alone expects nothing\n\
-8, 16, 32 or 64\n",
+8, 16, 32 or 64\n\
+raw, or the name of a file\n\
+raw, or the name of a file\n\
+the name of a file\n\
+raw\n\
+the name of a file\n\
+a busy or suspended chip\n\
+a wrong mark, sum, page number, code, flag bit 7 or register\n\
+save \n\
+load \n\
+save raw \n\
+load raw \n\
+compare raw \n\
+saved, %n bytes\n\
+loaded, %n bytes\n\
+same, %n bytes\n\
+differs in %n byte%s\n\
+cannot be opened, there is no such file\n\
+cannot be opened, that is not permitted\n\
+cannot be opened\n\
+cannot be read to its end\n\
+cannot be written, there is no such folder\n\
+cannot be written, that is not permitted\n\
+cannot be written\n\
+cannot be written, the name with .part is taken\n\
+the file has %n byte%s, an image has 2148374\n\
+the file is longer than an image, which has 2148374 bytes\n\
+the file has %n byte%s, the array has 2097152\n\
+the file is longer than the array, which has 2097152 bytes\n\
+first difference at %a: the file has %b, the array %b\n\
+record RG: \n\
+record SI: \n\
+record PG %n: \n\
+mark is %b %b\n\
+sum is %b %b\n\
+page number is %b %b\n\
+, it must be %b %b\n\
+, the body's is %b %b\n\
+flag bit 7 is set, the flags are %b\n\
+burst code is %b, 03 is the last\n\
+permanent %r has a read lock\n\
+permanent %r is not within protection %r\n\
+\x20is suspended\n",
         r,
         n,
         a,

@@ -1,6 +1,8 @@
 // Scripts from files and from standard input: each on a new chip, with counts of its own.
 use crate::parts::within;
+use crate::posts::carried;
 use ordering::Place;
+use posting::Report;
 use standing::Playing;
 use tallies::Tally;
 use telling::Argument;
@@ -60,9 +62,10 @@ fn byte_at(input: &[u8; 65536], i: usize) -> u8 {
     b'\n'
 }
 
-// A script half played: what came of it, what of that is told, and how much of the input is taken.
+// A script half played: what came of it and of a file, what of that is told, and how much of the input is taken.
 struct Desk {
     now: Playing,
+    report: Report,
     at: Place,
     taken: usize,
     came: usize,
@@ -102,6 +105,7 @@ fn turn(
             security,
         );
         told(r);
+        told(post_rows::row(now, d.report, at, frame));
         next.at = ordering::next(now, at);
         return next;
     }
@@ -119,8 +123,12 @@ fn turn(
             reply,
             marks,
         );
-        next.now = now;
-        next.at = ordering::begun(now);
+        let c = carried(now, array, security, frame);
+        let playing = c.playing;
+        let report = c.report;
+        next.now = playing;
+        next.report = report;
+        next.at = ordering::begun(playing);
         next.taken = std::num::wrapping_add_usize(d.taken, 1);
         return next;
     }
@@ -136,10 +144,13 @@ fn turn(
 }
 
 fn begun(strict: bool) -> Desk {
-    let now = standing::start(strict);
+    let c = posting::nothing(standing::start(strict));
+    let now = c.playing;
+    let report = c.report;
     let at = ordering::nothing();
     Desk {
         now,
+        report,
         at,
         taken: 0,
         came: 0,

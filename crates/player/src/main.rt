@@ -2,6 +2,7 @@
 // and starts it. The program only carries: it reads bytes, has each taken by crate playing, and writes the rows that crate telling gives.
 mod files;
 mod parts;
+mod posts;
 
 fn main() {
     files::all_played();

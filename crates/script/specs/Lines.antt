@@ -8,10 +8,11 @@ use lib.ListN.{getD, set, replicate}
 use Rattle.rules.specs.Words.{pick}
 use Rattle.grammar.specs.declared.Entry.{Entry}
 use Rattle.spelling.specs.Words.{blank, lineEnd, endsWords, oneMore, noWord, wordWith, isSign, byteOf}
-use Rattle.grammar.specs.Places.{lineStart}
+use Rattle.spelling.specs.declared.Word.{Word}
+use Rattle.grammar.specs.Places.{lineStart, takesName}
 use Rattle.grammar.specs.Slots.{verb}
 use Rattle.grammar.specs.Verbs as verbs
-use Rattle.grammar.specs.Table.{sends, sendsAgain, expects, expectsAny, expectsUnknown, expectsAgain, nextOf, canEnd, slotsWith}
+use Rattle.grammar.specs.Table.{sends, sendsAgain, expects, expectsAny, expectsUnknown, expectsAgain, forgets, nextOf, canEnd, slotsWith}
 use Rattle.script.specs.declared.Reading.{Reading}
 use Rattle.script.specs.declared.Line.{Line}
 
@@ -37,8 +38,8 @@ unfoldable pub countAfter : ℕ → Bool → Bool → ℕ → ℕ
 countAfter at one again n = pick (not one && not again) at (pick one (min (at + 1) 65537) (min (at + (n - 1)) 65537))
 
 -- the frame's bytes after a word, by what its row stores and its number
-abbrev pub sentAfter : ℕ → ℕ → ℕ → ℕ
-sentAfter at s n = countAfter at (eqb s sends) (eqb s sendsAgain) n
+unfoldable pub sentAfter : ℕ → ℕ → ℕ → ℕ
+sentAfter at s n = pick (eqb s forgets) 0 (countAfter at (eqb s sends) (eqb s sendsAgain) n)
 
 -- the expected bytes after a word
 abbrev pub expectedAfter : ℕ → ℕ → ℕ → ℕ
@@ -78,17 +79,25 @@ remarkFrom r m =
 abbrev pub shownWith : List ℕ → ℕ → ℕ → List ℕ
 shownWith l n b = pick (ltb n 24) (set l n b) l
 
--- the word goes on, or begins
+-- the byte that is stored last: one of a name, or what it was
+unfoldable pub lastAfter : Bool → ℕ → ℕ → ℕ
+lastAfter named b last = pick named b last
+
+-- the word goes on, or begins; a byte of a name is stored as it comes
 abbrev pub goesOn : Reading → ℕ → ℕ → Reading
 goesOn r b m =
-    record { mode = r .mode; place = r .place; read = oneMore (r .read); shown = shownWith (r .shown) (r .word .length) b; word = wordWith (r .word) b (oneMore (r .read)); sent = r .sent; expected = r .expected; last = r .last; kind = r .kind; remark = r .remark; slots = r .slots; ended = r .ended; cr = r .cr; mark = m }
+    record { mode = r .mode; place = r .place; read = oneMore (r .read); shown = shownWith (r .shown) (r .word .length) b; word = wordWith (r .word) b (oneMore (r .read)); sent = countAfter (r .sent) (takesName (r .place)) false 0; expected = r .expected; last = lastAfter (takesName (r .place)) b (r .last); kind = r .kind; remark = r .remark; slots = r .slots; ended = r .ended; cr = r .cr; mark = m }
 
 unfoldable pub markAfter : ℕ → ℕ → ℕ
 markAfter m b = pick (eqb m 0 && eqb b 0xEF) 1 (pick (eqb m 1 && eqb b 0xBB) 2 3)
 
+-- # begins a remark, but not inside a name
+abbrev pub beginsRemark : Reading → ℕ → Bool
+beginsRemark r b = eqb b 0x23 && not (takesName (r .place) && not (eqb (r .word .length) 0))
+
 -- while the line is open: # or a blank, where no word is, or a byte of a word
 unfoldable pub takenOpen : Reading → ℕ → ℕ → Reading
-takenOpen r b m = pick (eqb b 0x23) (remarkFrom r m) (pick (blank b) (passedBy r m) (goesOn r b m))
+takenOpen r b m = pick (beginsRemark r b) (remarkFrom r m) (pick (blank b) (passedBy r m) (goesOn r b m))
 
 unfoldable pub taken : Reading → ℕ → ℕ → Reading
 taken r b m = pick (eqb (r .mode) inWords) (takenOpen r b m) (pick (eqb (r .mode) inRemark) (remarked r m) (passedBy r m))
@@ -108,9 +117,13 @@ wentTo r e =
 unfoldable pub went : Reading → Entry → Reading
 went r e = pick (eqb (e .class) 255) (mistaken r) (wentTo r e)
 
--- a word stands before the byte b, and is over: b ends words, or that word is a sign, which any byte ends
+-- the word w at the place p is over before the byte b: a name before a blank or the line's end; any other where b ends words, and a sign before any byte
+unfoldable pub wordEnds : ℕ → Word → ℕ → Bool
+wordEnds p w b = pick (takesName p) (blank b || lineEnd b) (endsWords b || isSign w)
+
+-- a word stands before the byte b, and is over
 abbrev pub overAt : Reading → ℕ → Bool
-overAt r b = (eqb (r .mode) inWords && not (eqb (r .word .length) 0)) && (endsWords b || isSign (r .word))
+overAt r b = (eqb (r .mode) inWords && not (eqb (r .word .length) 0)) && wordEnds (r .place) (r .word) b
 
 -- the line before the byte b: after a line's end a line begins
 unfoldable pub closed : Reading → ℕ → Reading

@@ -6,7 +6,7 @@ use mathlib.Core.List.{List, [], _∷_}
 use lib.ListN.{replicate, set, take}
 use Rattle.rules.specs.Words.{pick}
 use Rattle.rules.specs.Texts.{ascii}
-use Rattle.grammar.specs.Places.{lineStart, afterByte, afterByteStar, afterBytes, afterReply, afterReplyCount, afterSlash, afterMarkCount, afterEqual, afterExpected, afterTilde, afterExpectedStar, afterExpectedTimes, afterRefuse, lineDone, afterEvent, afterCut, afterQuestion, afterAsked, afterAnswer, afterAnswerTilde, afterAnswerStar, afterAnswerTimes, afterDump, afterDumpId, afterDumpPlace, afterFill, afterFillId, afterFillPlace, afterFillCount, afterLend, afterLendArray, inFields, afterProtect, afterPerm, afterRun, afterAside, afterRunKind, afterAsideKind, afterNoReply, afterNoReplySlash, afterAny, afterAnyStar, afterAnyTimes, afterAnswerAny, afterAnswerAnyStar, afterAnswerAnyTimes, afterBurst}
+use Rattle.grammar.specs.Places.{lineStart, afterByte, afterByteStar, afterBytes, afterReply, afterReplyCount, afterSlash, afterMarkCount, afterEqual, afterExpected, afterTilde, afterExpectedStar, afterExpectedTimes, afterRefuse, lineDone, afterEvent, afterCut, afterQuestion, afterAsked, afterAnswer, afterAnswerTilde, afterAnswerStar, afterAnswerTimes, afterDump, afterDumpId, afterDumpPlace, afterFill, afterFillId, afterFillPlace, afterFillCount, afterLend, afterLendArray, inFields, afterProtect, afterPerm, afterRun, afterAside, afterRunKind, afterAsideKind, afterNoReply, afterNoReplySlash, afterAny, afterAnyStar, afterAnyTimes, afterAnswerAny, afterAnswerAnyStar, afterAnswerAnyTimes, afterBurst, afterSave, afterLoad, afterRaw, afterCompare, afterCompareRaw}
 use Rattle.grammar.specs.Slots.{verb, wanted, marksGiven, marks, expecting, judged, refused, from, size, filling, burst, ofId, protection, permanent, runKind, runNumber, asideKind, asideNumber, sqi, wel, ioc, wpen, wpld, sec, enable}
 use Rattle.grammar.specs.Verbs as verbs
 use Rattle.script.specs.declared.Line.{Line}
@@ -171,6 +171,13 @@ lines =
     ∷ plain "short" verbs.short alone
     ∷ plain "strict" verbs.strict alone
     ∷ plain "cut 000000000000000000000000000007" verbs.cut (with from 7)
+    ∷ row "save a/b#2!=" verbs.save alone (ascii "a/b#2!=") [] []
+    ∷ row "save/x # a remark" verbs.save alone (ascii "/x") [] []
+    ∷ row "save ./raw" verbs.save alone (ascii "./raw") [] []
+    ∷ row "save raw raw" verbs.saveRaw alone (ascii "raw") [] []
+    ∷ row "load x.img ! 15" verbs.load (λ l. with judged 1 (with refused 15 l)) (ascii "x.img") [] []
+    ∷ row "load raw >!0 !1" verbs.loadRaw (λ l. with judged 1 (with refused 1 l)) (ascii ">!0") [] []
+    ∷ row "compare raw 06" verbs.compareRaw alone (ascii "06") [] []
     ∷ plain "cut 99999999999999999999" verbs.cut (with from 0xFFFF_FFFF_FFFF_FFFF)
     ∷ record { text = 0xEF ∷ 0xBB ∷ 0xBF ∷ ascii "full"; is = record { verbs = verbs.full; slots = says verbs.full; frame = []; expected = []; known = [] } }
     ∷ []
@@ -209,7 +216,7 @@ wrongLines =
     ∷ wrong "03 > 4 = ??*4" afterAnyTimes "" 0 14
     ∷ wrong "03 > 1 = 11*2*" afterExpectedTimes "*" 1 14
     ∷ wrong "05 > 1 != 00" afterRefuse "=" 1 9
-    ∷ wrong "02 ! 14" afterRefuse "14" 2 6
+    ∷ wrong "02 ! 16" afterRefuse "16" 2 6
     ∷ wrong "new  a chip" lineDone "a" 1 6
     ∷ wrong "new ! 0" lineDone "!" 1 5
     ∷ wrong "done 5" afterEvent "5" 1 6
@@ -243,6 +250,14 @@ wrongLines =
     ∷ wrong "is aside id x" afterAsideKind "x" 1 13
     ∷ wrong "is burst" afterBurst "" 0 9
     ∷ wrong "record burst 24" afterBurst "24" 2 14
+    ∷ wrong "save" afterSave "" 0 5
+    ∷ wrong "save # x" afterSave "" 0 6
+    ∷ wrong "save a b" afterEvent "b" 1 8
+    ∷ wrong "load" afterLoad "" 0 5
+    ∷ wrong "load raw" afterRaw "" 0 9
+    ∷ wrong "compare x/y.bin" afterCompare "x/y.bin" 7 9
+    ∷ wrong "compare raw" afterCompareRaw "" 0 12
+    ∷ wrong "compare raw x ! 1" lineDone "!" 1 15
     ∷ wrong "??" lineStart "??" 2 1
     ∷ wrong "  a remark needs its # where a line begins" lineStart "a" 1 3
     ∷ wrong "a-word-of-more-than-24-bytes-is-shown-by-its-first" lineStart "a-word-of-more-than-24-b" 25 1
@@ -264,6 +279,7 @@ hints =
     ∷ hinted "Done" lowerCase
     ∷ hinted "STATUS" lowerCase
     ∷ hinted "record WEL" lowerCase
+    ∷ hinted "compare RAW x" lowerCase
     ∷ hinted "Finish" noHint
     ∷ hinted "0G" noHint
     ∷ hinted "=" noHint

@@ -3,11 +3,12 @@ use crate::Line;
 use crate::Reading;
 use grammar::Entry;
 use grammar::table;
+use spelling::Word;
 ghost use mathlib.Core.Path.{_≡_};
 ghost use Prim.Native.Nat.{_%_};
 ghost use Rattle.rules.specs.Words.{pick};
 ghost use Rattle.spelling.specs.Words.{oneMore};
-ghost use Rattle.script.specs.Lines.{countAfter, byteAfter, kindAfter, fresh, shownWith, markAfter, taken, went, closed, advanced, lineOf};
+ghost use Rattle.script.specs.Lines.{countAfter, sentAfter, byteAfter, kindAfter, lastAfter, fresh, shownWith, wordEnds, markAfter, taken, went, closed, advanced, lineOf};
 
 // ---- counts, and the byte that is stored
 
@@ -32,6 +33,22 @@ fn count_after(at: usize, one: bool, again: bool, n: u64) -> usize
     } else {
         65537
     }
+}
+
+// The frame's bytes after a word; what was no name is forgotten.
+fn sent_after(at: usize, store: u8, n: u64) -> usize
+    ensures { λ q. ⌜ q ≡ sentAfter at store n ⌝ }
+{
+    if store == 7 {
+        return 0;
+    }
+    count_after(at, store == 1, store == 2, n)
+}
+
+fn last_after(named: bool, b: u8, last: u8) -> u8
+    ensures { λ q. ⌜ q ≡ lastAfter named b last ⌝ }
+{
+    if named { b } else { last }
 }
 
 fn byte_after(store: u8, own: u8, last: u8) -> u8
@@ -98,7 +115,10 @@ fn taken(r: Reading, b: u8, mark: u8) -> Reading
     q.read = read;
     q.mark = mark;
     if r.mode == 0 {
-        if b == 35 {
+        let shown = r.shown;
+        let word = r.word;
+        let named = table::takes_name(r.place);
+        if (b == 35) & !(named & (word.length != 0)) {
             let none = spelling::none(read);
             q.mode = 1;
             q.word = none;
@@ -107,12 +127,12 @@ fn taken(r: Reading, b: u8, mark: u8) -> Reading
         if spelling::is_blank(b) {
             return q;
         }
-        let shown = r.shown;
-        let word = r.word;
         let more = shown_with(shown, word.length, b);
         let longer = spelling::longer(word, b, read);
         q.shown = more;
         q.word = longer;
+        q.sent = count_after(r.sent, named, false, 0);
+        q.last = last_after(named, b, r.last);
         return q;
     }
     if r.mode == 1 {
@@ -149,7 +169,7 @@ fn went(r: Reading, e: Entry) -> Reading
     q.place = e.next;
     q.shown = [0; 24];
     q.word = none;
-    q.sent = count_after(r.sent, e.store == 1, e.store == 2, word.number);
+    q.sent = sent_after(r.sent, e.store, word.number);
     q.expected = count_after(
         r.expected,
         (2 < e.store) & (e.store < 6),
@@ -162,6 +182,16 @@ fn went(r: Reading, e: Entry) -> Reading
     q
 }
 
+// The word is over before the byte b: a name goes on to a blank or the line's end, any other word also to a sign or #.
+fn word_ends(place: u8, word: Word, b: u8) -> bool
+    ensures { λ q. ⌜ q ≡ wordEnds place word b ⌝ }
+{
+    if table::takes_name(place) {
+        return spelling::is_blank(b) | spelling::ends_line(b);
+    }
+    spelling::ends_words(b) | spelling::sign(word)
+}
+
 // The line before the byte b, its last word closed.
 fn closed(r: Reading, b: u8) -> Reading
     ensures { λ q. ⌜ q ≡ closed r b ⌝ }
@@ -170,7 +200,7 @@ fn closed(r: Reading, b: u8) -> Reading
         return fresh(3);
     }
     let word = r.word;
-    if ((r.mode == 0) & (word.length != 0)) & (spelling::ends_words(b) | spelling::sign(word)) {
+    if ((r.mode == 0) & (word.length != 0)) & word_ends(r.place, word, b) {
         return went(r, table::follows(r.place, word));
     }
     r

@@ -5,6 +5,7 @@ use Rattle.rules.specs.Words.{pick}
 use Rattle.grammar.specs.Verbs as verbs
 use Rattle.standing.specs.declared.Deed.{Deed}
 use Rattle.standing.specs.declared.Event.{Event}
+use Rattle.standing.specs.declared.Post.{Post}
 use Rattle.standing.specs.declared.Question.{Question}
 use Rattle.standing.specs.declared.Setting.{Setting}
 
@@ -28,4 +29,9 @@ deedOf v =
     (pick (eqb v verbs.records) (Deed.Setting Setting.Record)
     (pick (eqb v verbs.is) (Deed.Question Question.Is)
     (pick (eqb v verbs.pattern) (Deed.Setting Setting.Pattern)
-    Deed.Wrong)))))))))))))))))
+    (pick (eqb v verbs.save) (Deed.Post Post.Save)
+    (pick (eqb v verbs.load) (Deed.Post Post.Load)
+    (pick (eqb v verbs.saveRaw) (Deed.Post Post.SaveRaw)
+    (pick (eqb v verbs.loadRaw) (Deed.Post Post.LoadRaw)
+    (pick (eqb v verbs.compareRaw) (Deed.Post Post.CompareRaw)
+    Deed.Wrong))))))))))))))))))))))

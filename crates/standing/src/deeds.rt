@@ -1,6 +1,7 @@
 // What a line asks for, by its verb: crate grammar, specs/Verbs.
 use crate::Deed;
 use crate::Event;
+use crate::Post;
 use crate::Question;
 use crate::Setting;
 ghost use mathlib.Core.Path.{_≡_};
@@ -28,6 +29,11 @@ pub fn deed_of(verb: u8) -> Deed
         15 => Deed::Setting(Setting::Record),
         16 => Deed::Question(Question::Is),
         17 => Deed::Setting(Setting::Pattern),
+        18 => Deed::Post(Post::Save),
+        19 => Deed::Post(Post::Load),
+        20 => Deed::Post(Post::SaveRaw),
+        21 => Deed::Post(Post::LoadRaw),
+        22 => Deed::Post(Post::CompareRaw),
         _ => Deed::Wrong,
     }
 }

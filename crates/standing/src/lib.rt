@@ -15,6 +15,7 @@ pub enum Deed {
     Event(Event),
     Setting(Setting),
     Question(Question),
+    Post(Post),
     Wrong,
 }
 
@@ -42,6 +43,15 @@ pub enum Question {
     Locks,
     Dump,
     Is,
+}
+
+// What is done with a file.
+pub enum Post {
+    Save,
+    Load,
+    SaveRaw,
+    LoadRaw,
+    CompareRaw,
 }
 
 // The bench between two lines.

@@ -33,6 +33,12 @@ row-requires-3 c κs = search needs
 enum-told-2 : tie.Need-enum-told-2
 enum-told-2 c = search needs
 
+empty-requires-2 : tie.Need-empty-requires-2
+empty-requires-2 c κs = search needs
+
+enum-told-3 : tie.Need-enum-told-3
+enum-told-3 c = search needs
+
 wrong-requires : tie.Need-wrong-requires
 wrong-requires c κs = search needs
 
@@ -49,7 +55,10 @@ returns-4 : tie.Need-returns-4
 returns-4 c = rw (← c .before .before .before .before .deed-of .ensures, c .before .before .deed3 .given .1) (c .row3 .ensures)
 
 returns-5 : tie.Need-returns-5
-returns-5 c = rw (← c .before .before .before .before .deed-of .ensures, c .before .before .enum-told2 .given .1) (c .wrong .ensures)
+returns-5 c = rw (← c .before .before .before .deed-of .ensures, c .before .enum-told2 .given .1) (c .empty2 .ensures)
+
+returns-6 : tie.Need-returns-6
+returns-6 c = rw (← c .before .before .before .before .deed-of .ensures, c .before .before .enum-told3 .given .1) (c .wrong .ensures)
 
 pub first-spec : {M : Type 1} → statement M
-first-spec = tie.close (tie.spec deed-of-requires enum-told empty-requires enum-known-deed row-requires enum-known-deed-2 row-requires-2 enum-known-deed-3 row-requires-3 enum-told-2 wrong-requires returns returns-2 returns-3 returns-4 returns-5)
+first-spec = tie.close (tie.spec deed-of-requires enum-told empty-requires enum-known-deed row-requires enum-known-deed-2 row-requires-2 enum-known-deed-3 row-requires-3 enum-told-2 empty-requires-2 enum-told-3 wrong-requires returns returns-2 returns-3 returns-4 returns-5 returns-6)

@@ -36,6 +36,9 @@ played-requires-3 c κs = search needs
 enum-told-2 : tie.Need-enum-told-2
 enum-told-2 c = search needs
 
+enum-told-3 : tie.Need-enum-told-3
+enum-told-3 c = search needs
+
 wrong-requires : tie.Need-wrong-requires
 wrong-requires c κs = search needs
 
@@ -76,7 +79,10 @@ returns-4 : tie.Need-returns-4
 returns-4 c = rw (← c .before .before .before .before .before .before .deed-of .ensures, c .before .before .before .before .deed3 .given .1, ← c .before .before .before .before .before .before .before .before .next-line .ensures) (c .played3 .ensures, untouched _ _ _ _)
 
 returns-5 : tie.Need-returns-5
-returns-5 c = rw (← c .before .before .before .deed-of .ensures, c .before .enum-told2 .given .1) (c .wrong .ensures ∙ ap wrongCounted (c .before .before .before .before .before .next-line .ensures), untouched _ _ _ _)
+returns-5 c = rw (← c .before .before .deed-of .ensures, c .enum-told2 .given .1, ← c .before .before .before .before .next-line .ensures) (refl, untouched _ _ _ _)
+
+returns-6 : tie.Need-returns-6
+returns-6 c = rw (← c .before .before .before .deed-of .ensures, c .before .enum-told3 .given .1) (c .wrong .ensures ∙ ap wrongCounted (c .before .before .before .before .before .next-line .ensures), untouched _ _ _ _)
 
 pub play-spec : {M : Type 1} → statement M
 play-spec =
@@ -92,6 +98,7 @@ play-spec =
     enum-known-deed-3
     played-requires-3
     enum-told-2
+    enum-told-3
     wrong-requires
     returns
     same-length
@@ -105,4 +112,5 @@ play-spec =
     same-length-7
     same-length-8
     returns-4
-    returns-5)
+    returns-5
+    returns-6)

@@ -2,7 +2,7 @@
 use Rattle.script.specs.Lines.{went, closed}
 use Rattle.grammar.proofs.Picks.{picked, passed-over}
 use mathlib.Core.Path.{refl, ap, _∙_}
-use mathlib.Core.Bool.{not, _&&_, _||_}
+use mathlib.Core.Bool.{not, _&&_}
 use lib.Dec.{eqb}
 use borrow.Author.Needs.{needs}
 use Rattle.script.proofs.lines.closed.Statement.{statement}
@@ -15,11 +15,8 @@ returns : tie.Need-returns
 unfolding closed
 returns c = c .fresh .ensures ∙ picked _ _ refl (c .before .if1 .taken)
 
-ends-words-requires : tie.Need-ends-words-requires
-ends-words-requires c κs = search needs
-
-sign-requires : tie.Need-sign-requires
-sign-requires c κs = search needs
+word-ends-requires : tie.Need-word-ends-requires
+word-ends-requires c κs = search needs
 
 follows-requires : tie.Need-follows-requires
 follows-requires c κs = search needs
@@ -29,16 +26,16 @@ went-requires c κs = search needs
 
 returns-2 : tie.Need-returns-2
 unfolding closed
-returns-2 c = let a = c .before .before .before .before .before .before .before .before .before .args .r in
+returns-2 c = let a = c .before .before .before .before .before .before .before .before .args .r in
     c .went .ensures
     ∙ ap (went a) (c .before .follows .ensures)
-    ∙ picked _ a (λ i. (eqb (a .mode) 0 && not (eqb (a .word .length) 0)) && (c .before .before .before .before .ends-words .ensures i || c .before .before .before .sign .ensures i)) (c .before .before .if2 .taken)
-    ∙ passed-over _ _ refl (c .before .before .before .before .before .before .before .before .if1 .left)
+    ∙ picked _ a (λ i. (eqb (a .mode) 0 && not (eqb (a .word .length) 0)) && c .before .before .before .word-ends .ensures i) (c .before .before .if2 .taken)
+    ∙ passed-over _ _ refl (c .before .before .before .before .before .before .before .if1 .left)
 
 returns-3 : tie.Need-returns-3
 unfolding closed
-returns-3 c = let a = c .before .before .before .before .before .before .before .args .r in
-    passed-over _ a (λ i. (eqb (a .mode) 0 && not (eqb (a .word .length) 0)) && (c .before .before .ends-words .ensures i || c .before .sign .ensures i)) (c .if2 .left) ∙ passed-over _ _ refl (c .before .before .before .before .before .before .if1 .left)
+returns-3 c = let a = c .before .before .before .before .before .before .args .r in
+    passed-over _ a (λ i. (eqb (a .mode) 0 && not (eqb (a .word .length) 0)) && c .before .word-ends .ensures i) (c .if2 .left) ∙ passed-over _ _ refl (c .before .before .before .before .before .if1 .left)
 
 pub closed-spec : {M : Type 1} → statement M
 closed-spec =
@@ -46,8 +43,7 @@ closed-spec =
     (tie.spec
     fresh-requires
     returns
-    ends-words-requires
-    sign-requires
+    word-ends-requires
     follows-requires
     went-requires
     returns-2

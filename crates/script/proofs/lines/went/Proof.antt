@@ -15,11 +15,11 @@ none-requires c κs = search needs
 heard-requires : tie.Need-heard-requires
 heard-requires c κs = search needs
 
+sent-after-requires : tie.Need-sent-after-requires
+sent-after-requires c κs = search needs
+
 count-after-requires : tie.Need-count-after-requires
 count-after-requires c κs = search needs
-
-count-after-requires-2 : tie.Need-count-after-requires-2
-count-after-requires-2 c κs = search needs
 
 byte-of-requires : tie.Need-byte-of-requires
 byte-of-requires c κs = search needs
@@ -32,7 +32,7 @@ kind-after-requires c κs = search needs
 
 returns-2 : tie.Need-returns-2
 unfolding went
-returns-2 c = rw (ne-eqb _ _ (c .before .before .before .before .before .before .before .before .before .before .before .before .before .before .before .if1 .left), c .kind-after .ensures, c .before .byte-after .ensures, c .before .before .byte-of .ensures, c .before .before .before .count-after2 .ensures, c .before .before .before .before .before .before .before .count-after .ensures, c .before .before .before .before .before .before .before .before .before .before .before .heard .ensures, c .before .before .before .before .before .before .before .before .before .before .before .before .none .ensures)
+returns-2 c = rw (ne-eqb _ _ (c .before .before .before .before .before .before .before .before .before .before .before .before .before .if1 .left), c .kind-after .ensures, c .before .byte-after .ensures, c .before .before .byte-of .ensures, c .before .before .before .count-after .ensures, c .before .before .before .before .before .before .before .sent-after .ensures, c .before .before .before .before .before .before .before .before .before .heard .ensures, c .before .before .before .before .before .before .before .before .before .before .none .ensures)
 
 pub went-spec : {M : Type 1} → statement M
 went-spec =
@@ -41,8 +41,8 @@ went-spec =
     returns
     none-requires
     heard-requires
+    sent-after-requires
     count-after-requires
-    count-after-requires-2
     byte-of-requires
     byte-after-requires
     kind-after-requires

@@ -78,26 +78,51 @@ returns-18 c = rw (c .match .keys18)
 
 returns-19 : tie.Need-returns-19
 unfolding deedOf
-returns-19 c = let r = c .match .rest in
+returns-19 c = rw (c .match .keys19)
+
+returns-20 : tie.Need-returns-20
+unfolding deedOf
+returns-20 c = rw (c .match .keys20)
+
+returns-21 : tie.Need-returns-21
+unfolding deedOf
+returns-21 c = rw (c .match .keys21)
+
+returns-22 : tie.Need-returns-22
+unfolding deedOf
+returns-22 c = rw (c .match .keys22)
+
+returns-23 : tie.Need-returns-23
+unfolding deedOf
+returns-23 c = rw (c .match .keys23)
+
+returns-24 : tie.Need-returns-24
+unfolding deedOf
+returns-24 c = let r = c .match .rest in
     rw (
-      ne-eqb (c .before .args .verb) 0 (r .0 .0 .0 .0 .0 .0 .0 .0 .0 .0 .0 .0 .0 .0 .0 .0 .0 .1),
-      ne-eqb (c .before .args .verb) 1 (r .0 .0 .0 .0 .0 .0 .0 .0 .0 .0 .0 .0 .0 .0 .0 .0 .1),
-      ne-eqb (c .before .args .verb) 2 (r .0 .0 .0 .0 .0 .0 .0 .0 .0 .0 .0 .0 .0 .0 .0 .1),
-      ne-eqb (c .before .args .verb) 3 (r .0 .0 .0 .0 .0 .0 .0 .0 .0 .0 .0 .0 .0 .0 .1),
-      ne-eqb (c .before .args .verb) 4 (r .0 .0 .0 .0 .0 .0 .0 .0 .0 .0 .0 .0 .0 .1),
-      ne-eqb (c .before .args .verb) 5 (r .0 .0 .0 .0 .0 .0 .0 .0 .0 .0 .0 .0 .1),
-      ne-eqb (c .before .args .verb) 6 (r .0 .0 .0 .0 .0 .0 .0 .0 .0 .0 .0 .1),
-      ne-eqb (c .before .args .verb) 7 (r .0 .0 .0 .0 .0 .0 .0 .0 .0 .0 .1),
-      ne-eqb (c .before .args .verb) 8 (r .0 .0 .0 .0 .0 .0 .0 .0 .0 .1),
-      ne-eqb (c .before .args .verb) 9 (r .0 .0 .0 .0 .0 .0 .0 .0 .1),
-      ne-eqb (c .before .args .verb) 10 (r .0 .0 .0 .0 .0 .0 .0 .1),
-      ne-eqb (c .before .args .verb) 11 (r .0 .0 .0 .0 .0 .0 .1),
-      ne-eqb (c .before .args .verb) 12 (r .0 .0 .0 .0 .0 .1),
-      ne-eqb (c .before .args .verb) 13 (r .0 .0 .0 .0 .1),
-      ne-eqb (c .before .args .verb) 14 (r .0 .0 .0 .1),
-      ne-eqb (c .before .args .verb) 15 (r .0 .0 .1),
-      ne-eqb (c .before .args .verb) 16 (r .0 .1),
-      ne-eqb (c .before .args .verb) 17 (r .1),
+      ne-eqb (c .before .args .verb) 0 (r .0 .0 .0 .0 .0 .0 .0 .0 .0 .0 .0 .0 .0 .0 .0 .0 .0 .0 .0 .0 .0 .0 .1),
+      ne-eqb (c .before .args .verb) 1 (r .0 .0 .0 .0 .0 .0 .0 .0 .0 .0 .0 .0 .0 .0 .0 .0 .0 .0 .0 .0 .0 .1),
+      ne-eqb (c .before .args .verb) 2 (r .0 .0 .0 .0 .0 .0 .0 .0 .0 .0 .0 .0 .0 .0 .0 .0 .0 .0 .0 .0 .1),
+      ne-eqb (c .before .args .verb) 3 (r .0 .0 .0 .0 .0 .0 .0 .0 .0 .0 .0 .0 .0 .0 .0 .0 .0 .0 .0 .1),
+      ne-eqb (c .before .args .verb) 4 (r .0 .0 .0 .0 .0 .0 .0 .0 .0 .0 .0 .0 .0 .0 .0 .0 .0 .0 .1),
+      ne-eqb (c .before .args .verb) 5 (r .0 .0 .0 .0 .0 .0 .0 .0 .0 .0 .0 .0 .0 .0 .0 .0 .0 .1),
+      ne-eqb (c .before .args .verb) 6 (r .0 .0 .0 .0 .0 .0 .0 .0 .0 .0 .0 .0 .0 .0 .0 .0 .1),
+      ne-eqb (c .before .args .verb) 7 (r .0 .0 .0 .0 .0 .0 .0 .0 .0 .0 .0 .0 .0 .0 .0 .1),
+      ne-eqb (c .before .args .verb) 8 (r .0 .0 .0 .0 .0 .0 .0 .0 .0 .0 .0 .0 .0 .0 .1),
+      ne-eqb (c .before .args .verb) 9 (r .0 .0 .0 .0 .0 .0 .0 .0 .0 .0 .0 .0 .0 .1),
+      ne-eqb (c .before .args .verb) 10 (r .0 .0 .0 .0 .0 .0 .0 .0 .0 .0 .0 .0 .1),
+      ne-eqb (c .before .args .verb) 11 (r .0 .0 .0 .0 .0 .0 .0 .0 .0 .0 .0 .1),
+      ne-eqb (c .before .args .verb) 12 (r .0 .0 .0 .0 .0 .0 .0 .0 .0 .0 .1),
+      ne-eqb (c .before .args .verb) 13 (r .0 .0 .0 .0 .0 .0 .0 .0 .0 .1),
+      ne-eqb (c .before .args .verb) 14 (r .0 .0 .0 .0 .0 .0 .0 .0 .1),
+      ne-eqb (c .before .args .verb) 15 (r .0 .0 .0 .0 .0 .0 .0 .1),
+      ne-eqb (c .before .args .verb) 16 (r .0 .0 .0 .0 .0 .0 .1),
+      ne-eqb (c .before .args .verb) 17 (r .0 .0 .0 .0 .0 .1),
+      ne-eqb (c .before .args .verb) 18 (r .0 .0 .0 .0 .1),
+      ne-eqb (c .before .args .verb) 19 (r .0 .0 .0 .1),
+      ne-eqb (c .before .args .verb) 20 (r .0 .0 .1),
+      ne-eqb (c .before .args .verb) 21 (r .0 .1),
+      ne-eqb (c .before .args .verb) 22 (r .1),
     )
 
 pub deed-of-spec : {M : Type 1} → statement M
@@ -122,4 +147,9 @@ deed-of-spec =
     returns-16
     returns-17
     returns-18
-    returns-19)
+    returns-19
+    returns-20
+    returns-21
+    returns-22
+    returns-23
+    returns-24)

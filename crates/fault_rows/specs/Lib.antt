@@ -1,0 +1,2 @@
+-- The rows of what is wrong with a file.
+pub mod Faults

@@ -1,0 +1,2 @@
+-- The array alone as a file.
+pub mod Raw
