@@ -4,18 +4,22 @@ use Prim.Native.Nat.{ℕ}
 use mathlib.Core.Path.{_≡_, ap}
 use mathlib.Core.List.{List}
 use denote.Ref.{RefT}
+use Rattle.rules.specs.Numbers.{State}
+use Rattle.rules.specs.Promises.{benchOf}
+use Rattle.rules.specs.Promises as promises
 use Rattle.rules.proofs.Promises.{one, lent-one}
-use Rattle.rules.proofs.Outcomes.{OneResult}
+use Rattle.rules.proofs.Outcomes.{OneResult, OneOutcome}
 use Rattle.operating.specs.declared.Bench.{Bench}
 use Rattle.operating.specs.Operations.{Operated, leaves}
-use Rattle.operating.proofs.new_bench.Reads as new-bench
+use Rattle.operating.proofs.bench_of.Reads as bench-of
+use Rattle.operating.proofs.at_end.Reads as at-end
 use Rattle.operating.proofs.due.Reads as due
 use Rattle.operating.proofs.reads_after.Reads as reads-after
 use Rattle.operating.proofs.operate.Reads as operate
 use Rattle.operating.proofs.answer_operation.Reads as answer-operation
 
-pub new-bench-one : OneResult new-bench.Post
-new-bench-one κ a x y r r′ p q = one p q
+pub bench-of-one : OneResult bench-of.Post
+bench-of-one κ a x y r r′ p q = one p q
 
 pub due-one : OneResult due.Post
 due-one κ a x y r r′ p q = one p q
@@ -57,3 +61,10 @@ operate-one κ a x y r r′ p q = same-by r r′ (x .1) (y .1) (one (p .outcome)
 
 pub answer-operation-one : OneOperation answer-operation.Post
 answer-operation-one κ a x y r r′ p q = same-by r r′ (x .1) (y .1) (one (p .outcome) (q .outcome))
+
+-- ---- the end
+
+pub at-end-one : OneOutcome {S = promises.Bench} at-end.Post (λ r x. benchOf r (x .1 .0 .now) (x .1 .1 .0 .now))
+at-end-one κ a x y r r′ p q =
+    let e = one (p .outcome) (q .outcome) in
+    λ i. benchOf (e i .chip) (lent-one (x .1 .0 .now) (y .1 .0 .now) (ap (λ (s : State). s .array) e) i) (lent-one (x .1 .1 .0 .now) (y .1 .1 .0 .now) (ap (λ (s : State). s .security) e) i)

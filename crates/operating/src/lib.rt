@@ -5,7 +5,6 @@ use serprog::show;
 ghost use mathlib.Core.Path.{_≡_};
 ghost use Rattle.rules.specs.Frames.{opcode};
 ghost use Rattle.rules.specs.Registers.{busy};
-ghost use Rattle.rules.specs.Commands.{newChip};
 ghost use Rattle.rules.specs.Promises.{benchOf};
 ghost use Rattle.operating.specs.Operations.{isDone, dueBefore, readsAfter, SettledPromise, OperationPromise, AnswerPromise};
 
@@ -16,11 +15,12 @@ pub struct Bench {
     pub disguise: bool,
 }
 
-pub fn new_bench(disguise: bool) -> Bench
-    ensures { λ r. ⌜ r ≡ record { chip = newChip; reads = 0; disguise = disguise } ⌝ }
+// Before the first operation on a chip.
+pub fn bench_of(c: Chip, disguise: bool) -> Bench
+    ensures { λ r. ⌜ r ≡ record { chip = c; reads = 0; disguise = disguise } ⌝ }
 {
     Bench {
-        chip: chip::new(),
+        chip: c,
         reads: 0,
         disguise,
     }
@@ -80,6 +80,15 @@ fn settled(c: Chip, ends: bool, array: &mut [u8], security: &mut [u8]) -> Chip
     } else {
         c
     }
+}
+
+// After the last operation: what runs ends, as with power kept on.
+pub fn at_end(b: Bench, array: &mut [u8], security: &mut [u8]) -> Chip
+    ensures { λ r. ⌜ SettledPromise (busy (b .chip .rest)) (benchOf (b .chip) (now (array .entry)) (now (security .entry))) (benchOf r (now (array .exit)) (now (security .exit))) ⌝ }
+{
+    let c = b.chip;
+    let ends = is_busy(c);
+    settled(c, ends, array, security)
 }
 
 // One operation: the bytes sent, and the reply with its marks.

@@ -1,12 +1,14 @@
 // A serprog programmer with the bench chip behind it: on standard input and output, or on recorded sessions, one after the other. What each byte is
 // answered with is decided by `serving`.
-mod desk;
-
 use check::same;
+use keeping::told;
 
-// What the words so far ask for.
+// What the words so far ask for: where the name of the chip's file stands among them (0: nowhere), and whether the next word is that name.
 struct Session {
     disguise: bool,
+    raw: bool,
+    file: usize,
+    naming: bool,
     served: bool,
     wrong: bool,
 }
@@ -19,17 +21,69 @@ fn descriptor_of(name: &[u8]) -> i32 {
     os::open_read(name)
 }
 
-fn is_option(word: &[u8]) -> bool {
-    if 1 < word.len() {
+fn starts_dashed(word: &[u8]) -> bool {
+    if 0 < word.len() {
         return word[0] == b'-';
     }
     false
 }
 
-fn told(text: &[u8], word: &[u8]) {
-    io::write_all(2, text);
-    io::write_all(2, word);
-    io::write_all(2, b"\n");
+fn is_option(word: &[u8]) -> bool {
+    (1 < word.len()) & starts_dashed(word)
+}
+
+fn is_name(word: &[u8]) -> bool {
+    (0 < word.len()) & !starts_dashed(word)
+}
+
+fn usage_told() {
+    io::write_all(2, b"usage: programmer [OPTION..] [SESSION..]\n");
+    io::write_all(
+        2,
+        b"  SESSION                     a file of what was sent, or - for standard input, which is served where none is named\n",
+    );
+    io::write_all(
+        2,
+        b"  --chip FILE                 the chip of the sessions behind it is in FILE, an image: read before each, saved behind each\n",
+    );
+    io::write_all(
+        2,
+        b"  --raw FILE                  the same with FILE the array alone, 2097152 bytes\n",
+    );
+    io::write_all(
+        2,
+        b"  --identity-of-sst26vf016b   the sessions behind it show the sibling's identity\n",
+    );
+}
+
+fn wrong_told(s: Session, word: &[u8], text: &[u8]) -> Session {
+    let mut next = s;
+    next.wrong = true;
+    told(word, text);
+    usage_told();
+    next
+}
+
+// On the chip of a file, or on a new one, all FF, where the file has no name; false where it cannot be read or saved.
+fn served(fd: i32, disguise: bool, raw: bool, name: &[u8]) -> bool {
+    let mut array = [255u8; 2097152];
+    let mut security = [255u8; 2048];
+    let came = keeping::load(raw, name, &mut array, &mut security);
+    if !came.right {
+        return false;
+    }
+    let old = came.chip;
+    let c = sessions::serve(fd, old, disguise, &mut array, &mut security);
+    keeping::save(raw, name, c, &array, &security)
+}
+
+fn descriptor_served(s: Session, fd: i32) -> bool {
+    if s.file == 0 {
+        return served(fd, s.disguise, s.raw, b"");
+    }
+    let mut name = io::buffer();
+    let n = os::arg(s.file, &mut name);
+    served(fd, s.disguise, s.raw, &name[..n])
 }
 
 fn session_served(s: Session, word: &[u8]) -> Session {
@@ -37,30 +91,48 @@ fn session_served(s: Session, word: &[u8]) -> Session {
     next.served = true;
     let fd = descriptor_of(word);
     if fd < 0 {
-        told(b"programmer: cannot open ", word);
+        told(word, b" cannot be opened");
         next.wrong = true;
         return next;
     }
-    desk::serve(fd, s.disguise);
+    next.wrong = !descriptor_served(s, fd);
     libc::close(fd);
     next
 }
 
-// An option, or a session.
-fn word_taken(s: Session, word: &[u8]) -> Session {
+// The name of the chip's file.
+fn file_named(s: Session, i: usize, word: &[u8]) -> Session {
+    if !is_name(word) {
+        return wrong_told(s, word, b" is no name of a chip's file");
+    }
     let mut next = s;
+    next.file = i;
+    next.naming = false;
+    next
+}
+
+// An option, or a session.
+fn word_taken(s: Session, i: usize, word: &[u8]) -> Session {
+    let mut next = s;
+    if s.naming {
+        return file_named(s, i, word);
+    }
     if same(word, b"--identity-of-sst26vf016b") {
         next.disguise = true;
         return next;
     }
-    if is_option(word) {
-        told(b"programmer: there is no option ", word);
-        io::write_all(
-            2,
-            b"usage: programmer [--identity-of-sst26vf016b] [SESSION..]\n",
-        );
-        next.wrong = true;
+    if same(word, b"--chip") {
+        next.raw = false;
+        next.naming = true;
         return next;
+    }
+    if same(word, b"--raw") {
+        next.raw = true;
+        next.naming = true;
+        return next;
+    }
+    if is_option(word) {
+        return wrong_told(s, word, b" is no option");
     }
     session_served(s, word)
 }
@@ -68,13 +140,16 @@ fn word_taken(s: Session, word: &[u8]) -> Session {
 fn argument_taken(s: Session, i: usize) -> Session {
     let mut word = io::buffer();
     let n = os::arg(i, &mut word);
-    word_taken(s, &word[..n])
+    word_taken(s, i, &word[..n])
 }
 
 // Up to the first word that is wrong.
 fn arguments_taken(n: usize) -> Session {
     let mut s = Session {
         disguise: false,
+        raw: false,
+        file: 0,
+        naming: false,
         served: false,
         wrong: false,
     };
@@ -90,7 +165,14 @@ fn arguments_taken(n: usize) -> Session {
 
 fn main() {
     let s = arguments_taken(os::arg_count());
-    if !s.served & !s.wrong {
+    if s.wrong {
+        return;
+    }
+    if s.naming {
+        wrong_told(s, b"--chip or --raw", b" lacks the name of a file");
+        return;
+    }
+    if !s.served {
         session_served(s, b"-");
     }
 }

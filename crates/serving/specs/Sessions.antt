@@ -4,7 +4,7 @@ use mathlib.Core.Path.{_≡_}
 use mathlib.Core.Bool.{Bool}
 use mathlib.Core.List.{List}
 use lib.ListN.{length, getD, take, drop}
-use Rattle.rules.specs.Commands.{newChip}
+use Rattle.rules.specs.declared.Chip.{Chip}
 use Rattle.memory.specs.Patched.{Patched}
 use Rattle.serprog.specs.declared.Answer.{Answer}
 use Rattle.serprog.specs.Commands.{answerOf, answerBytes, sendLength, receiveLength}
@@ -18,9 +18,9 @@ use Rattle.hearing.specs.Heard.{listening, heardWith, keptWith}
 abbrev pub serving : Bench → Heard → ℕ → Serving
 serving b h n = record { bench = b; heard = h; written = n }
 
--- a new chip; the tool is shown the sibling's identity where that is asked for
-abbrev pub begun : Bool → Serving
-begun disguise = serving (record { chip = newChip; reads = 0; disguise = disguise }) listening 0
+-- with a chip, new or from a file; the tool is shown the sibling's identity where that is asked for
+abbrev pub begun : Chip → Bool → Serving
+begun c disguise = serving (record { chip = c; reads = 0; disguise = disguise }) listening 0
 
 -- the answer to a command that is no operation, or to one that does not fit: so many of these bytes
 abbrev pub answerTo : Heard → Answer

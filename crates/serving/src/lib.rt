@@ -2,6 +2,7 @@
 use hearing::Due;
 use hearing::Heard;
 use operating::Bench;
+use rules::Chip;
 use rules::plain::smaller;
 ghost use mathlib.Core.Path.{_≡_};
 ghost use Prim.Native.Nat.{min};
@@ -16,11 +17,11 @@ pub struct Serving {
     pub written: usize,
 }
 
-// A new chip, and no command.
-pub fn start(disguise: bool) -> Serving
-    ensures { λ r. ⌜ r ≡ begun disguise ⌝ }
+// A chip, and no command.
+pub fn start(c: Chip, disguise: bool) -> Serving
+    ensures { λ r. ⌜ r ≡ begun c disguise ⌝ }
 {
-    let bench = operating::new_bench(disguise);
+    let bench = operating::bench_of(c, disguise);
     let heard = hearing::listening();
     Serving {
         bench,

@@ -1,7 +1,7 @@
 -- What is left of the turns falls.
 use borrow.Author.Needs.{needs}
-use Rattle.programmer.proofs.desk.turned.Statement.{statement}
-use Rattle.programmer.proofs.desk.turned.Tie as tie
+use Rattle.sessions.proofs.turned.Statement.{statement}
+use Rattle.sessions.proofs.turned.Tie as tie
 
 abbrev Inv-loop : tie.InvT-loop
 Inv-loop fd input₀ array₀ security₀ sent₀ answer₀ marks₀ d₀ turns₀ input array security sent answer marks d turns = Unit {0}

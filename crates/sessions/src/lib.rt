@@ -1,4 +1,7 @@
-// The bytes of a session: each is taken as it comes, and what is due then is written before the next one is read.
+// The bytes of a session: each is taken as it comes, and what is due then is written before the next one is read. A part of the program `programmer`, safe and
+// ending.
+use operating::Bench;
+use rules::Chip;
 use serving::Serving;
 
 // The session, how much of the input is taken, and whether it is over: no byte comes any more, or nobody takes an answer.
@@ -17,18 +20,11 @@ fn byte_at(input: &[u8; 65536], i: usize) -> u8 {
 }
 
 // In one write, since a socket may hold a second one back.
-fn front_written(answer: &[u8], n: usize) -> bool {
-    if n <= answer.len() {
-        return io::write_all(1, &answer[..n]);
-    }
-    io::write_all(1, answer)
-}
-
 fn written(answer: &[u8; 65537], n: usize) -> bool {
     if n == 0 {
         return true;
     }
-    front_written(answer, n)
+    filing::front_written(1, answer, n)
 }
 
 // A byte is taken, or more come.
@@ -59,8 +55,8 @@ fn turn(
     next
 }
 
-fn begun(disguise: bool) -> Desk {
-    let now = serving::start(disguise);
+fn begun(c: Chip, disguise: bool) -> Desk {
+    let now = serving::start(c, disguise);
     Desk {
         now,
         taken: 0,
@@ -79,32 +75,44 @@ fn turned(
     sent: &mut [u8; 65536],
     answer: &mut [u8; 65537],
     marks: &mut [u8; 65536],
-) {
+) -> Desk {
     let mut d = start;
     let mut turns = u64::MAX;
     while turns > 0 && !d.over {
         turns -= 1;
         d = turn(fd, d, input, array, security, sent, answer, marks);
     }
+    d
 }
 
-// A session on a new chip, all FF.
-pub fn serve(fd: i32, disguise: bool) {
+fn bench_left(d: Desk) -> Bench {
+    let now = d.now;
+    now.bench
+}
+
+// A session on a chip; the chip that it leaves, with what ran at its end done.
+pub fn serve(
+    fd: i32,
+    c: Chip,
+    disguise: bool,
+    array: &mut [u8; 2097152],
+    security: &mut [u8; 2048],
+) -> Chip {
     let mut input = [0u8; 65536];
-    let mut array = [255u8; 2097152];
-    let mut security = [255u8; 2048];
     let mut sent = [0u8; 65536];
     let mut answer = [0u8; 65537];
     let mut marks = [0u8; 65536];
-    let start = begun(disguise);
-    turned(
+    let start = begun(c, disguise);
+    let d = turned(
         fd,
         start,
         &mut input,
-        &mut array,
-        &mut security,
+        array,
+        security,
         &mut sent,
         &mut answer,
         &mut marks,
     );
+    let bench = bench_left(d);
+    operating::at_end(bench, array, security)
 }
