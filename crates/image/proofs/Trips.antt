@@ -25,12 +25,11 @@ written-then-read c d array security file file′ r array₀ security₀ array�
     let given = writing-gives c array security file .done .0 (ap (λ (o : Written). o .number) (sym (w .outcome)) ∙ done) in
     let sizes = sizes-of array security file (given .0) in
     let whole : Whole c array security =
-        record { buffer-size = page; formed = given .1 .0; idles = given .1 .1; array-size = sizes .array-size; security-size = sizes .security-size } in
+    record { buffer-size = page; formed = given .1 .0; idles = given .1 .1; array-size = sizes .array-size; security-size = sizes .security-size } in
     let back = reading-gives-back c array security whole in
     let same : file′ ≡ fileOf c array security = ap (λ (o : Written). o .file) (w .outcome ∙ write-done c array security file (given .0) (given .1 .0) (given .1 .1)) in
     let size = ap length same ∙ back .size in
-    let e = q .outcome ∙ read-done d array₀ security₀ file′ (sizes-right array₀ security₀ file′ (record { array-size = a; security-size = i; file-size = size })) (ap right same ∙ back .is-right) in
-    (
+    let e = q .outcome ∙ read-done d array₀ security₀ file′ (sizes-right array₀ security₀ file′ (record { array-size = a; security-size = i; file-size = size })) (ap right same ∙ back .is-right) in (
       ap (λ (o : Read). o .number) e,
       (
         ap (λ (o : Read). o .chip) e ∙ ap chipIn same ∙ back .same-chip,
