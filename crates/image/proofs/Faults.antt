@@ -2,14 +2,14 @@
 use Prim.Native.Nat.{ℕ, zero, suc, _+_, _*_, _^_, _≤_, _<_}
 use Prim.Native.String.{String}
 use mathlib.Core.Path.{_≡_, refl, sym, ap, _∙_}
-use mathlib.Core.Bool.{Bool, true, false, _&&_, and-true, and-assoc}
+use mathlib.Core.Bool.{Bool, true, false, _&&_, and-true, and-assoc, true≢false}
 use mathlib.Core.List.{List, [], _∷_}
 use native.Mathlib.Omega.{arith}
 use native.Mathlib.Nat.{pow-suc, pow-le-pow-right}
 use lib.Bits.{bitAnd}
 use lib.Dec.{eqb, ltb, leb}
 use lib.ListN.{length, getD, length-take}
-use borrow.Author.Tests.{lt-ltb}
+use borrow.Author.Tests.{lt-ltb, eq-eqb}
 use Rattle.rules.specs.Words.{pick}
 use Rattle.rules.specs.Texts.{ascii}
 use Rattle.rules.specs.Blocks.{readLocks}
@@ -21,7 +21,7 @@ use Rattle.image.specs.declared.What.{What}
 use Rattle.image.specs.Form.{number, numberFrom, sum, fileSize}
 use Rattle.image.specs.Files.{part, pagePlace, markIn, sumIn, bodyIn, locksIn, flagsByteIn, burstByteIn, numberIn, recordRight, pageRight, firstHold, registersRight, right}
 use Rattle.image.specs.Laws.{OfBytes}
-use Rattle.image.specs.Faults.{faultOf, noFault, isNone, sound, orElse, unless, recordFault, registersFault, pageFault, firstFrom, firstFault, FaultsTell}
+use Rattle.image.specs.Faults.{faultOf, noFault, isNone, sound, orElse, unless, recordFault, registersFault, pageFault, firstFrom, firstFault, FaultsTell, RecordsTold}
 use Rattle.image.proofs.Records.{part-bytes}
 
 -- nothing is wrong where nothing is wrong in either part
@@ -136,3 +136,31 @@ untested t f g e h = rw (e, h)
 pub other-length : (l : List ℕ) → eqb (length l) fileSize ≡ false → right l ≡ false
 unfolding right
 other-length l e = rw e
+
+-- ---- which record is told
+
+-- of a record that is not right its own number
+record-at : (m : ℕ) (l : List ℕ) (k at n : ℕ) → sound (recordFault m l k at n) ≡ false → recordFault m l k at n .at ≡ k
+unfolding recordFault orElse unless sound
+record-at m l k at n e = go (eqb (markIn l at) m) (eqb (sumIn l at n) (sum (bodyIn l at n))) e
+  where
+    found : Bool → Bool → Fault
+    found x y = orElse (unless x (faultOf What.Mark k (markIn l at) m)) (unless y (faultOf What.Sum k (sumIn l at n) (sum (bodyIn l at n))))
+
+    go : (x y : Bool) → sound (found x y) ≡ false → found x y .at ≡ k
+    go true true e = absurd (true≢false e)
+    go true false e = refl
+    go false y e = refl
+
+pub records-told : (l : List ℕ) → RecordsTold l
+unfolding firstFault
+records-told l =
+    record {
+      rg = λ size e.
+          let wrong = record-sound "RG" l 0 0 14 ∙ e in
+          ap (λ f. f .at) (tested _ _ _ (eq-eqb _ _ size) ∙ found-first _ _ wrong) ∙ record-at (number (ascii "RG")) l 0 0 14 wrong;
+      si = λ size e r d.
+          let wrong = record-sound "SI" l 1 18 2048 ∙ d in
+          ap (λ f. f .at) (tested _ _ _ (eq-eqb _ _ size) ∙ found-behind _ _ (record-sound "RG" l 0 0 14 ∙ e) ∙ found-behind _ _ r ∙ found-first _ _ wrong)
+          ∙ record-at (number (ascii "SI")) l 1 18 2048 wrong;
+    }

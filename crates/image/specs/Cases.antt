@@ -9,12 +9,15 @@ use lib.ListN.{take, drop, replicate}
 use Rattle.rules.specs.declared.Burst.{Burst}
 use Rattle.rules.specs.declared.Work.the-variants.{Nothing}
 use Rattle.rules.specs.Words.{Each, pick}
+use Rattle.rules.specs.Texts.{ascii}
 use Rattle.rules.specs.Fields.{locksOf, worksOf, flagsOf, restOf}
 use Rattle.rules.specs.Commands.{newChip}
+use Rattle.image.specs.declared.Fault.{Fault}
 use Rattle.image.specs.declared.Posted.{Posted}
-use Rattle.image.specs.Form.{highFirst, sum, recordOf, registers}
+use Rattle.image.specs.Form.{highFirst, number, sum, recordOf, registers}
 use Rattle.image.specs.Files.{pagePlace, recordRight, registersRight, pageRight}
 use Rattle.image.specs.Promises.{postedNumber}
+use Rattle.image.specs.Faults.{recordFault, registersFault, pageFault, firstFault}
 
 -- a sentence, what the definitions give, and what they must give
 pub record Case : Type 0 where
@@ -51,6 +54,14 @@ rightWith p q f b = held (registersRight (recordOf "RG" (highFirst 6 p ++ highFi
 -- whether a file's first page record is right, with this body in it
 abbrev pub firstPage : List ℕ → List ℕ
 firstPage body = held (pageRight (replicate (pagePlace 0) 0 ++ recordOf "PG" body) 0)
+
+-- the record, what stands there and what belongs there, of a fault
+abbrev pub told : Fault → List ℕ
+told f = f .at ∷ f .found ∷ f .due ∷ []
+
+-- of a file's second page record, with these bytes for it
+abbrev pub secondPage : List ℕ → List ℕ
+secondPage l = told (pageFault (replicate (pagePlace 1) 0 ++ l) 1)
 
 -- ---- the cases
 
@@ -89,6 +100,16 @@ cases =
     ∷ case "a permanent bit that is not" (rightWith 0x5555_FFFF_FFFE 1 0 0) (0 ∷ [])
     ∷ case "a permanent read lock" (rightWith 0xFFFF_FFFF_FFFF 0x0002_0000_0000 0 0) (0 ∷ [])
     ∷ case "done, and the refusals: 1, 14, 15" (postedNumber Posted.Done ∷ postedNumber Posted.Malformed ∷ postedNumber Posted.AtWork ∷ postedNumber Posted.WrongFile ∷ []) (0 ∷ 1 ∷ 14 ∷ 15 ∷ [])
+    ∷ case "what is wrong first: another length" (told (firstFault [])) (0 ∷ 0 ∷ 2_148_374 ∷ [])
+    ∷ case "in which record, and what the mark is" (told (recordFault (number (ascii "RG")) (0x52 ∷ 0x48 ∷ 0x01 ∷ 0x02 ∷ 0x00 ∷ 0x04 ∷ []) 5 0 2)) (5 ∷ 0x5248 ∷ 0x5247 ∷ [])
+    ∷ case "the sum, and the body's" (told (recordFault (number (ascii "RG")) (0x52 ∷ 0x47 ∷ 0x01 ∷ 0x02 ∷ 0x00 ∷ 0x04 ∷ []) 5 0 2)) (5 ∷ 0x0004 ∷ 0x0003 ∷ [])
+    ∷ case "nothing" (told (recordFault (number (ascii "RG")) (0x52 ∷ 0x47 ∷ 0x01 ∷ 0x02 ∷ 0x00 ∷ 0x03 ∷ []) 5 0 2)) (0 ∷ 0 ∷ 0 ∷ [])
+    ∷ case "record PG 1: the page number" (secondPage (recordOf "PG" (blankBody 7))) (3 ∷ 7 ∷ 1 ∷ [])
+    ∷ case "record PG 1: the mark" (secondPage (recordOf "PQ" (blankBody 1))) (3 ∷ 0x5051 ∷ 0x5047 ∷ [])
+    ∷ case "the flags" (told (registersFault 0xC1 0x04 (locksOf 0 0))) (0 ∷ 0xC1 ∷ 0 ∷ [])
+    ∷ case "the burst code, and the last one" (told (registersFault 0 0x09 (locksOf 0 0))) (0 ∷ 0x09 ∷ 0x03 ∷ [])
+    ∷ case "the permanent register" (told (registersFault 0 0 (locksOf 0xFFFF_FFFF_FFFF 0x0002_0000_0000))) (0 ∷ 0x0002_0000_0000 ∷ 0 ∷ [])
+    ∷ case "the permanent register, and the protection register" (told (registersFault 0 0 (locksOf 2 1))) (0 ∷ 1 ∷ 2 ∷ [])
     ∷ []
 
 abbrev pub CasesHold : Type 0

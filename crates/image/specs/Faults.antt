@@ -16,7 +16,7 @@ use Rattle.rules.specs.Fields.{flagsBound}
 use Rattle.image.specs.declared.Fault.{Fault}
 use Rattle.image.specs.declared.What.{What}
 use Rattle.image.specs.Form.{number, sum, fileSize}
-use Rattle.image.specs.Files.{securityPlace, pagePlace, markIn, sumIn, bodyIn, locksIn, flagsByteIn, burstByteIn, numberIn, right}
+use Rattle.image.specs.Files.{securityPlace, pagePlace, markIn, sumIn, bodyIn, locksIn, flagsByteIn, burstByteIn, numberIn, recordRight, right}
 use Rattle.image.specs.Laws.{OfBytes}
 
 -- what is wrong, in which record, what stands there and what belongs there
@@ -82,3 +82,9 @@ firstFault l =
 -- nothing is wrong exactly of a right file
 abbrev pub FaultsTell : Type 0
 FaultsTell = (l : List ℕ) → OfBytes l → sound (firstFault l) ≡ right l
+
+-- a wrong RG is record 0, a wrong SI behind a right one record 1
+pub record RecordsTold (l : List ℕ) : Type 0 where
+  pub rg : length l ≡ fileSize → recordRight "RG" l 0 14 ≡ false → firstFault l .at ≡ 0
+  pub si : length l ≡ fileSize → recordRight "RG" l 0 14 ≡ true → sound (registersFault (flagsByteIn l) (burstByteIn l) (locksIn l)) ≡ true
+      → recordRight "SI" l securityPlace 2_048 ≡ false → firstFault l .at ≡ 1
