@@ -6,14 +6,14 @@
 #include <string.h>
 #include <time.h>
 
-#ifndef BEFORE_RECORD_SIZE
-#error "the earlier record's size is given by tests/benchmark/beside"
+#if !defined(BEFORE_RECORD_SIZE) || !defined(BEFORE_NEW_OLD)
+#error "the earlier record's size and the call for its old part are given by tests/benchmark/beside"
 #endif
 #define TURNS 41
 #define LONGEST 65536
 
 /* the earlier library's functions, renamed */
-uint8_t before_new(uint8_t *, size_t);
+uint8_t BEFORE_NEW_OLD(uint8_t *, size_t);
 uint8_t before_frame(uint8_t *, size_t, uint8_t *, size_t, uint8_t *, size_t, const uint8_t *, size_t, uint8_t *, size_t, uint8_t *, size_t);
 uint8_t before_completion(uint8_t *, size_t, uint8_t *, size_t, uint8_t *, size_t);
 uint8_t before_power_cut(uint8_t *, size_t, uint8_t *, size_t, uint8_t *, size_t, uint64_t);
@@ -28,8 +28,8 @@ typedef struct {
 } side;
 
 static side sides[2] = {
-    { before_new, before_frame, before_completion, before_power_cut, BEFORE_RECORD_SIZE, 0, 0, 0, 0, 0, 0 },
-    { fulkibono_new, fulkibono_frame, fulkibono_completion, fulkibono_power_cut, FULKIBONO_RECORD_SIZE, 0, 0, 0, 0, 0, 0 },
+    { BEFORE_NEW_OLD, before_frame, before_completion, before_power_cut, BEFORE_RECORD_SIZE, 0, 0, 0, 0, 0, 0 },
+    { fulkibono_new_old, fulkibono_frame, fulkibono_completion, fulkibono_power_cut, FULKIBONO_RECORD_SIZE, 0, 0, 0, 0, 0, 0 },
 };
 
 static void must(int right, const char *what)
@@ -66,7 +66,7 @@ static void ends(side *s)
     must(s->completion(s->record, s->size, s->array, FULKIBONO_ARRAY, s->security, FULKIBONO_SECURITY) == 0, "a completion was refused");
 }
 
-/* ---- how a row begins: a new chip, opened, and what it then gets */
+/* ---- how a row begins: a new chip, of the old part on both sides, opened, and what it then gets */
 
 static const uint8_t wren[] = { 0x06 }, status[] = { 0x05 }, unlock[] = { 0x98 }, suspend[] = { 0xB0 }, array_erase[] = { 0xC7 };
 static const uint8_t sector[] = { 0x20, 0x02, 0x00, 0x00 }, block[] = { 0xD8, 0x02, 0x00, 0x00 };

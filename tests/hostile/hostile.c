@@ -87,7 +87,7 @@ static const uint8_t opcodes[] = { 0x00, 0x66, 0x99, 0x38, 0xFF, 0x05, 0x35, 0x7
 /* the length of each in SPI, opcode included */
 static const uint8_t lengths[] = { 1, 1, 1, 1, 1, 1, 1, 1, 1, 2, 4, 5, 5, 4, 1, 1, 1, 1, 4, 4, 1, 9, 9, 9, 1, 3, 7, 7, 1, 1, 1, 1, 2, 2, 7, 7 };
 
-/* the record: what a run of frames left, that with one byte changed, or random bytes */
+/* the record: what a run of frames left, that as the other part, that with one byte changed, or random bytes */
 static uint8_t kept[FULKIBONO_RECORD_SIZE];
 static void some_record(void)
 {
@@ -104,6 +104,9 @@ static void some_record(void)
         if (n > FULKIBONO_PLACE_PROTECTION)
             record.lent[FULKIBONO_PLACE_PROTECTION + below(n - FULKIBONO_PLACE_PROTECTION)] = (uint8_t)(below(2) ? below(10) : any());
         break;
+    case 2:
+        kept[FULKIBONO_PLACE_FLAGS] ^= FULKIBONO_FLAG_BA;
+        /* fall through */
     default:
         for (size_t i = 0; i < n; i++)
             record.lent[i] = i < FULKIBONO_RECORD_SIZE ? kept[i] : 0;
@@ -165,6 +168,7 @@ static void after(uint8_t number, int frame, const uint8_t *array_before)
     if (number == 2)
         must(sent.n == 0, "refusal 2 of a frame that is not empty");
     if (record.n == FULKIBONO_RECORD_SIZE && number != 1) {
+        must(((record.lent[FULKIBONO_PLACE_FLAGS] ^ record.copy[FULKIBONO_PLACE_FLAGS]) & FULKIBONO_FLAG_BA) == 0, "an event changed the part");
         memcpy(kept, record.lent, FULKIBONO_RECORD_SIZE);
         taken_again();
     }
@@ -203,7 +207,7 @@ static int file_right(const uint8_t *f)
         protection = protection << 8 | f[2 + i];
         permanent = permanent << 8 | f[8 + i];
     }
-    if (!record_right(f, "RG", 14) || f[14] > 127 || f[15] > 3 || (permanent & 0xAAAA00000000u) != 0 || (permanent & ~protection) != 0)
+    if (!record_right(f, "RG", 14) || f[15] > 3 || (permanent & 0xAAAA00000000u) != 0 || (permanent & ~protection) != 0)
         return 0;
     if (!record_right(f + 18, "SI", 2048))
         return 0;
@@ -273,7 +277,10 @@ static void at_work(void)
     static const uint8_t run[][4] = { { 0x06 }, { 0x98 }, { 0x06 }, { 0x20, 0, 0x10, 0 }, { 0xB0 } };
     static const size_t n[] = { 1, 1, 1, 4, 1 };
     fulkibono_record c;
-    fulkibono_make(&c);
+    if (below(2))
+        fulkibono_make(&c);
+    else
+        fulkibono_make_old(&c);
     for (size_t i = 0, steps = 4 + below(2); i < steps; i++)
         must(fulkibono_send(&c, array.open, security.open, run[i], n[i], NULL, NULL, 0) == 0, "a chip at work");
     memcpy(kept, c.bytes, sizeof c.bytes);
@@ -362,17 +369,18 @@ int main(int argc, char **argv)
     memset(array.open, 0xFF, array.size);
     memset(security.open, 0xFF, security.size);
 
-    /* a new chip, in every length about the right one */
-    for (size_t n = 0; n <= 2 * FULKIBONO_RECORD_SIZE; n++) {
-        lend(&record, n);
-        memset(record.lent, 0xAB, n);
-        keep(&record);
-        uint8_t k = fulkibono_new(record.lent, n);
-        must(k == (n == FULKIBONO_RECORD_SIZE ? 0 : 1), "fulkibono_new's number");
-        must(k == 0 || same(&record), "fulkibono_new wrote where it refused");
-        if (k == 0)
-            memcpy(kept, record.lent, n);
-    }
+    /* a new chip of each part, in every length about the right one */
+    for (size_t n = 0; n <= 2 * FULKIBONO_RECORD_SIZE; n++)
+        for (int old = 0; old < 2; old++) {
+            lend(&record, n);
+            memset(record.lent, 0xAB, n);
+            keep(&record);
+            uint8_t k = old ? fulkibono_new_old(record.lent, n) : fulkibono_new(record.lent, n);
+            must(k == (n == FULKIBONO_RECORD_SIZE ? 0 : 1), "a new chip's number");
+            must(k == 0 || same(&record), "a new chip was written where it was refused");
+            if (k == 0)
+                memcpy(kept, record.lent, n);
+        }
 
     /* every number, and room from none to enough */
     for (int number = 0; number < 256; number++)
@@ -388,7 +396,7 @@ int main(int argc, char **argv)
     /* nothing lent at all, with NULL, straight and by the header's functions */
     {
         fulkibono_record c;
-        must(fulkibono_new(NULL, 0) == 1 && fulkibono_meaning(3, NULL, 0) > 0, "NULL");
+        must(fulkibono_new(NULL, 0) == 1 && fulkibono_new_old(NULL, 0) == 1 && fulkibono_meaning(3, NULL, 0) > 0, "NULL");
         must(fulkibono_frame(NULL, 0, NULL, 0, NULL, 0, NULL, 0, NULL, 0, NULL, 0) == 1, "NULL frame");
         must(fulkibono_completion(NULL, 0, NULL, 0, NULL, 0) == 1 && fulkibono_power_cut(NULL, 0, NULL, 0, NULL, 0, 9) == 1, "NULL events");
         array.lent = array.open;
@@ -424,6 +432,8 @@ int main(int argc, char **argv)
             number = fulkibono_power_cut(record.lent, record.n, array.lent, array.n, security.lent, security.n,
                                          below(3) ? below(5000) : below(2) ? UINT64_MAX : ((uint64_t)any() << 32));
             after(number, 0, before);
+            must(number != 0 || !(record.lent[FULKIBONO_PLACE_FLAGS] & FULKIBONO_FLAG_IOC) == !(record.lent[FULKIBONO_PLACE_FLAGS] & FULKIBONO_FLAG_BA),
+                 "IOC at power-up is not the part's");
             break;
         default: {
             size_t n = some_length(), m = some_length(), o = below(sizeof opcodes);

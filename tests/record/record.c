@@ -1,5 +1,5 @@
-/* What the header says of a record, tried on the library: places, flags, kinds and their numbers, ranges, the order of the blocks, what
- * a refusal leaves, what a power cut's k means, which bytes are no record's code. */
+/* What the header says of a record, tried on the library, with a chip of each part: places, flags, kinds and their numbers, ranges, the order of the
+ * blocks, what a refusal leaves, what a power cut's k means, which bytes are no record's code. */
 #include "fulkibono.h"
 #include <stdio.h>
 #include <stdlib.h>
@@ -18,12 +18,27 @@ static void must(int right, const char *what)
     }
 }
 
+/* the part that is tried: 1 for BA */
+static int ba;
+
+/* what a power-up makes of flags: SEC, WPEN and the part stay, IOC is the part's, the others are 0 */
+static uint8_t powered_up(uint8_t flags)
+{
+    uint8_t stay = flags & (FULKIBONO_FLAG_SEC | FULKIBONO_FLAG_WPEN | FULKIBONO_FLAG_BA);
+    return flags & FULKIBONO_FLAG_BA ? stay | FULKIBONO_FLAG_IOC : stay;
+}
+
+static uint8_t new_flags(void) { return powered_up(ba ? FULKIBONO_FLAG_BA : 0); }
+
 /* a new chip, all memory FF */
 static void begin(void)
 {
     memset(array, 0xFF, sizeof array);
     memset(security, 0xFF, sizeof security);
-    fulkibono_make(&chip);
+    if (ba)
+        fulkibono_make(&chip);
+    else
+        fulkibono_make_old(&chip);
 }
 
 /* a frame of n bytes: opcode, then the bytes of x, highest first */
@@ -77,17 +92,34 @@ static int alone(fulkibono_range r, uint8_t value)
     return 1;
 }
 
+/* each byte: the buffer FF, the protection register, the flags, all others 0 */
 static void new_chip(void)
 {
+    static const uint8_t protection[] = { 0xFF, 0xFF, 0xFF, 0xFF, 0x55, 0x55 };
     size_t i;
     begin();
     runs(FULKIBONO_KIND_NOTHING, 0);
     must(fulkibono_protection(&chip) == 0x5555FFFFFFFF && fulkibono_permanent(&chip) == 0, "the registers of a new chip");
-    must(chip.bytes[FULKIBONO_PLACE_FLAGS] == 0, "the flags of a new chip");
-    must(chip.bytes[FULKIBONO_PLACE_BURST] == 0 && fulkibono_burst(&chip) == 8, "the burst of a new chip");
-    for (i = 0; i < FULKIBONO_RECORD_SIZE; i++)
-        if (i < FULKIBONO_PLACE_PROTECTION || i >= FULKIBONO_PLACE_RESERVED)
-            must(chip.bytes[i] == (i < FULKIBONO_PLACE_PROTECTION ? 0xFF : 0), "the buffer, and the reserved bytes");
+    must(fulkibono_flag(&chip, FULKIBONO_FLAG_BA) == ba && fulkibono_flag(&chip, FULKIBONO_FLAG_IOC) == ba, "the part of a new chip, and its IOC");
+    must(fulkibono_burst(&chip) == 8, "the burst of a new chip");
+    for (i = 0; i < FULKIBONO_RECORD_SIZE; i++) {
+        size_t in_register = i - FULKIBONO_PLACE_PROTECTION;
+        must(chip.bytes[i] == (i < FULKIBONO_PLACE_PROTECTION ? 0xFF : in_register < sizeof protection ? protection[in_register]
+                               : i == FULKIBONO_PLACE_FLAGS && ba ? 0x84 : 0), "a byte of a new chip");
+    }
+}
+
+/* what differs between new chips of the two parts: 35, and the frames that need IOC */
+static void of_the_part(void)
+{
+    const uint8_t configuration[] = { 0x35 };
+    uint8_t number = ba ? FULKIBONO_DONE : FULKIBONO_NO_IOC, reply, mark;
+    begin();
+    must(fulkibono_send(&chip, array, security, configuration, 1, &reply, &mark, 1) == 0 && reply == (ba ? 0x0A : 0x08) && mark == 1, "35");
+    must(frame(0x6B, 0, 5) == number && frame(0xEC, 0, 7) == number, "6B and EC on a new chip");
+    opened();
+    must(frame(0x06, 0, 1) == 0 && frame(0x32, 0x55, 5) == number, "32 on a new chip");
+    runs(ba ? FULKIBONO_KIND_PAGE_PROGRAM : FULKIBONO_KIND_NOTHING, 0);
 }
 
 /* ---- ranges */
@@ -171,11 +203,11 @@ static void flags(void)
     unsigned i;
     for (i = 0; i < sizeof on; i++) {
         begin();
-        must(frame(on[i], 0, 1) == 0 && fulkibono_flag(&chip, flag[i]) && chip.bytes[FULKIBONO_PLACE_FLAGS] == flag[i], "a flag");
+        must(frame(on[i], 0, 1) == 0 && fulkibono_flag(&chip, flag[i]) && chip.bytes[FULKIBONO_PLACE_FLAGS] == (new_flags() | flag[i]), "a flag");
     }
     begin();
     written(0x8D, 0, 1);
-    must(chip.bytes[FULKIBONO_PLACE_FLAGS] == FULKIBONO_FLAG_WPLD, "WPLD");
+    must(chip.bytes[FULKIBONO_PLACE_FLAGS] == (new_flags() | FULKIBONO_FLAG_WPLD), "WPLD");
     begin();
     written(0x42, 0x123456789ABC, 7);
     must(fulkibono_protection(&chip) == 0x123456789ABC && fulkibono_permanent(&chip) == 0, "42");
@@ -196,17 +228,22 @@ static void no_range(void)
     unsigned way;
     for (way = 0; way < 4; way++) { /* completion; cuts at 0, 1 and far */
         static const uint64_t ks[] = { 0, 0, 1, UINT64_MAX };
-        int cut = way > 0, acts = way != 1;
+        int cut = way > 0, acts = way != 1, said;
         begin();
         written(0x85, 0, 1);
         runs(FULKIBONO_KIND_SECURITY_LOCK, 0);
         ended(ks[way], cut);
         must(fulkibono_flag(&chip, FULKIBONO_FLAG_SEC) == acts, "85");
-        begin();
-        written(0x01, 0x0082, 3);
-        runs(FULKIBONO_KIND_CONFIGURATION, 3);
-        ended(ks[way], cut);
-        must(fulkibono_flag(&chip, FULKIBONO_FLAG_WPEN) == acts && fulkibono_flag(&chip, FULKIBONO_FLAG_IOC) == !cut, "01");
+        for (said = 0; said < 4; said++) { /* a reset gives the part its IOC again, as the power-up of a cut does */
+            int ioc = said & 1, wpen = said >> 1;
+            begin();
+            written(0x01, (uint64_t)(0xFF00 | ioc << 1 | wpen << 7), 3);
+            runs(FULKIBONO_KIND_CONFIGURATION, said);
+            ended(ks[way], cut);
+            must(fulkibono_flag(&chip, FULKIBONO_FLAG_WPEN) == (acts && wpen) && fulkibono_flag(&chip, FULKIBONO_FLAG_IOC) == (cut ? ba : ioc), "01");
+            must(frame(0x66, 0, 1) == 0 && frame(0x99, 0, 1) == 0, "a reset");
+            must(fulkibono_flag(&chip, FULKIBONO_FLAG_WPEN) == (acts && wpen) && fulkibono_flag(&chip, FULKIBONO_FLAG_IOC) == ba, "01, and a reset");
+        }
         begin();
         written(0xE8, 0xC00000000001, 7);
         runs(FULKIBONO_KIND_PERMANENT_BITS, 0xC00000000001);
@@ -214,12 +251,6 @@ static void no_range(void)
         must(fulkibono_permanent(&chip) == (acts ? 0x400000000001 : 0), "E8");
         must(fulkibono_protection(&chip) == 0x5555FFFFFFFF, "E8 on a new chip's register");
     }
-    begin();
-    written(0x01, 0xFF02, 3);
-    runs(FULKIBONO_KIND_CONFIGURATION, 1);
-    begin();
-    written(0x01, 0x0080, 3);
-    runs(FULKIBONO_KIND_CONFIGURATION, 2);
 }
 
 static void idle_cut(void)
@@ -258,6 +289,7 @@ static void refusals(void)
     unsigned i;
     for (i = 0; i < sizeof opcodes; i++) {
         begin();
+        chip.bytes[FULKIBONO_PLACE_FLAGS] &= (uint8_t)~FULKIBONO_FLAG_IOC;
         must(frame(0x66, 0, 1) == 0, "66");
         before = chip;
         must(frame(opcodes[i], 0, lengths[i]) == numbers[i], "a refusal's number");
@@ -285,14 +317,20 @@ static void refused(const char *what)
     must(memcmp(&chip, &before, sizeof chip) == 0 && reply == 0x12 && mark == 0x34, "what 1 leaves");
 }
 
-/* an open chip with what is said running */
-static void made(uint8_t kind, uint64_t number)
+/* what is said runs */
+static void run(uint8_t kind, uint64_t number)
 {
     int i;
-    opened();
     chip.bytes[FULKIBONO_PLACE_RUNNING_KIND] = kind;
     for (i = 0; i < 8; i++)
         chip.bytes[FULKIBONO_PLACE_RUNNING_NUMBER + i] = (uint8_t)(number >> 8 * i);
+}
+
+/* an open chip with what is said running */
+static void made(uint8_t kind, uint64_t number)
+{
+    opened();
+    run(kind, number);
 }
 
 /* C0 sets the burst, and a burst read wraps within its group; a record stored before bursts has 0 in their place */
@@ -320,13 +358,55 @@ static void bursts(void)
     must(fulkibono_send(&chip, array, security, read, 7, reply, marks, 9) == 0 && reply[2] == 0x78 && reply[8] == 0x7E, "0 in the burst's place");
 }
 
+/* each kind but the last, and its largest number */
+static const struct { uint8_t kind; uint64_t most; } last[] = {
+    { FULKIBONO_KIND_NOTHING, 0 },      { FULKIBONO_KIND_SECTOR_ERASE, 511 },   { FULKIBONO_KIND_BLOCK_ERASE, 39 },
+    { FULKIBONO_KIND_ARRAY_ERASE, 0 },  { FULKIBONO_KIND_PAGE_PROGRAM, 8191 },  { FULKIBONO_KIND_SECURITY_PROGRAM, 7 },
+    { FULKIBONO_KIND_SECURITY_LOCK, 0 }, { FULKIBONO_KIND_CONFIGURATION, 3 },
+};
+
+/* each of the 256 bytes is some flags', bit 7 the part: what a power-up and a reset make of them, and that every event keeps the part. Each opcode at each
+ * length with nothing running; each kind of work as it completes, is cut at 0 and at 1, is suspended, is reset */
+static void all_flags(void)
+{
+    unsigned low, i, n;
+    for (low = 0; low < 128; low++) {
+        uint8_t flags = (uint8_t)(low | (ba ? 128 : 0)), up = powered_up(flags);
+        fulkibono_record idle;
+        int kept = 1;
+        made(FULKIBONO_KIND_NOTHING, 0);
+        chip.bytes[FULKIBONO_PLACE_FLAGS] = flags;
+        idle = chip;
+        must(fulkibono_flag(&chip, FULKIBONO_FLAG_BA) == ba, "bit 7");
+        must(frame(0x00, 0, 1) == 0 && chip.bytes[FULKIBONO_PLACE_FLAGS] == (flags & ~FULKIBONO_FLAG_RESET_ENABLE), "any flags");
+        must(fulkibono_cut(&chip, array, security, 0) == 0 && chip.bytes[FULKIBONO_PLACE_FLAGS] == up, "any flags at power-up");
+        chip = idle;
+        must(frame(0x66, 0, 1) == 0 && frame(0x99, 0, 1) == 0
+             && chip.bytes[FULKIBONO_PLACE_FLAGS] == (up | (flags & FULKIBONO_FLAG_WPLD)), "any flags after a reset");
+        for (i = 0; i < 256; i++)
+            for (n = 1; n < 8; n++) {
+                chip = idle;
+                (void)frame((uint8_t)i, 0, n);
+                kept &= fulkibono_flag(&chip, FULKIBONO_FLAG_BA) == ba;
+            }
+        must(kept, "a frame keeps the part");
+        for (i = FULKIBONO_KIND_SECTOR_ERASE; i <= FULKIBONO_KIND_PERMANENT_BITS; i++) {
+            int broken = (flags & FULKIBONO_FLAG_SEC) && (i == FULKIBONO_KIND_SECURITY_PROGRAM || i == FULKIBONO_KIND_SECURITY_LOCK);
+            for (n = 0; n < 5; n++) {
+                uint8_t number;
+                chip = idle;
+                run((uint8_t)i, i < sizeof last / sizeof *last ? last[i].most : 1);
+                number = n == 0 ? fulkibono_complete(&chip, array, security) : n < 3 ? fulkibono_cut(&chip, array, security, n - 1)
+                         : n == 3 ? frame(0xB0, 0, 1) : (frame(0x66, 0, 1), frame(0x99, 0, 1));
+                must(n == 3 || number == (broken ? FULKIBONO_MALFORMED : FULKIBONO_DONE), "work with any flags");
+                must(fulkibono_flag(&chip, FULKIBONO_FLAG_BA) == ba, "an event keeps the part");
+            }
+        }
+    }
+}
+
 static void no_code(void)
 {
-    static const struct { uint8_t kind; uint64_t most; } last[] = {
-        { FULKIBONO_KIND_NOTHING, 0 },      { FULKIBONO_KIND_SECTOR_ERASE, 511 },   { FULKIBONO_KIND_BLOCK_ERASE, 39 },
-        { FULKIBONO_KIND_ARRAY_ERASE, 0 },  { FULKIBONO_KIND_PAGE_PROGRAM, 8191 },  { FULKIBONO_KIND_SECURITY_PROGRAM, 7 },
-        { FULKIBONO_KIND_SECURITY_LOCK, 0 }, { FULKIBONO_KIND_CONFIGURATION, 3 },
-    };
     unsigned i;
     for (i = 0; i < sizeof last / sizeof *last; i++) {
         made(last[i].kind, last[i].most);
@@ -342,9 +422,6 @@ static void no_code(void)
     chip.bytes[FULKIBONO_PLACE_SUSPENDED_KIND] = FULKIBONO_KIND_PERMANENT_BITS + 1;
     refused("a suspended kind above 8");
     made(0, 0);
-    chip.bytes[FULKIBONO_PLACE_FLAGS] = 128;
-    refused("bit 7 of the flags");
-    made(0, 0);
     chip.bytes[FULKIBONO_PLACE_BURST] = 4;
     refused("a burst's byte above 3");
     for (i = FULKIBONO_PLACE_RESERVED; i < FULKIBONO_RECORD_SIZE; i++) {
@@ -356,16 +433,20 @@ static void no_code(void)
 
 int main(void)
 {
-    new_chip();
-    blocks();
-    sector();
-    programs();
-    flags();
-    no_range();
-    idle_cut();
-    refusals();
-    bursts();
-    no_code();
+    for (ba = 0; ba < 2; ba++) {
+        new_chip();
+        of_the_part();
+        blocks();
+        sector();
+        programs();
+        flags();
+        no_range();
+        idle_cut();
+        refusals();
+        bursts();
+        all_flags();
+        no_code();
+    }
     printf("record: version %d, %d facts, all as the header says\n", FULKIBONO_VERSION, tried);
     return 0;
 }

@@ -9,7 +9,7 @@ use lib.ListN.{length, take, drop, replicate}
 use Rattle.rules.specs.Words.{pick, Lent, lent, written}
 use Rattle.rules.specs.Blocks.{arraySize, securitySize}
 use Rattle.rules.specs.Fields.{chipOf}
-use Rattle.rules.specs.Commands.{newChip}
+use Rattle.rules.specs.Commands.{newOf}
 use Rattle.grammar.specs.Slots as slots
 use Rattle.fields.specs.Records.{slot, recordOf}
 use Rattle.standing.specs.declared.Bench.{Bench}
@@ -48,9 +48,9 @@ pub record Arranged (s : Setting) (slots₀ array security array′ security′ 
 
 -- ---- the bench
 
--- a new chip has all memory lent; `record` says the whole record, `buffer` a part of its page buffer
+-- a new chip, a BA unless the line says `old`, has all memory lent; `record` says the whole record, `buffer` a part of its page buffer
 abbrev pub benchSet : Setting → Bench → List ℕ → Bench
-benchSet Setting.New b s = benchOf newChip (b .tally) (b .line) arraySize securitySize (b .full) (b .strict)
+benchSet Setting.New b s = benchOf (newOf (eqb (slot s slots.old) 0)) (b .tally) (b .line) arraySize securitySize (b .full) (b .strict)
 benchSet Setting.Fill b s = b
 benchSet Setting.Pattern b s = b
 benchSet Setting.Buffer b s =

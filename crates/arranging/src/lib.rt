@@ -80,7 +80,7 @@ fn set(b: Bench, s: Setting, slots: [u64; 24]) -> Bench
     let mut next = b;
     match s {
         Setting::New => {
-            let c = chip::new();
+            let c = chip::new_of(slots[10] == 0);
             next.chip = c;
             next.array = 2097152;
             next.security = 2048;

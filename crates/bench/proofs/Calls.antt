@@ -11,8 +11,7 @@ use Rattle.rules.specs.declared.Chip.{Chip}
 use Rattle.rules.specs.declared.Rest.{Rest}
 use Rattle.rules.specs.declared.Turn.{Turn}
 use Rattle.rules.specs.Fields.{chipOf}
-use Rattle.rules.specs.Programs.{blank}
-use Rattle.rules.specs.Commands.{newChip}
+use Rattle.rules.specs.Commands.{newOf}
 use Rattle.rules.specs.Numbers.{answerNumber}
 use Rattle.rules.specs.Machine.{Outcome, step, run}
 use Rattle.rules.specs.Promises.{Bench, Carried, Returned, benchOf, returnedOf, afterOf, stateOf, outcomeOf}
@@ -22,6 +21,7 @@ use Rattle.record_code.specs.Layout.{recordSize, restCode, code, isCode, Nothin
 use Rattle.record_code.proofs.Faithful.{code-of, chip-in, known-length, known-reserved, reserved-kept}
 use Rattle.chip.specs.declared.turns.Event.{Event}
 use Rattle.chip.specs.Turns.{callOf, LentFor}
+use Rattle.bench.specs.Images.{idleOf}
 use Rattle.bench.specs.Boundary.{LentBench, cameOf, untouched, seenOf, coded, called, CallPromise, newBytes, NewPromise}
 
 -- ---- the page in a record's bytes
@@ -53,15 +53,13 @@ module _ (l : List ℕ) (x : Bool) (ex : x ≡ isCode l) (h : not x ≡ false) w
 
 -- ---- a new chip
 
-pub new-refused : (bytes : List ℕ) → (length bytes ≡ recordSize → ⊥) → NewPromise bytes 1 bytes
+pub new-refused : (ba : Bool) (bytes : List ℕ) → (length bytes ≡ recordSize → ⊥) → NewPromise ba bytes 1 bytes
 unfolding newBytes
-new-refused bytes h = record { outcome = rw (ne-eqb (length bytes) recordSize h) }
+new-refused ba bytes h = record { outcome = rw (ne-eqb (length bytes) recordSize h) }
 
-pub new-done : (bytes p l : List ℕ) → length bytes ≡ recordSize → length p ≡ length (take 256 bytes) → p ≡ blank
-    → l ≡ take 256 (p ++ drop 256 bytes) ++ restCode (newChip .rest) → NewPromise bytes 0 l
+pub new-done : (ba : Bool) (bytes : List ℕ) (r : Rest) (l : List ℕ) → length bytes ≡ recordSize → r ≡ newOf ba .rest → l ≡ code (idleOf r) → NewPromise ba bytes 0 l
 unfolding newBytes
-new-done bytes p l h k ep el =
-    record { outcome = rw (eq-eqb (length bytes) recordSize h) (λ i. (0, (el ∙ rest-put bytes h p k (newChip .rest) ∙ (λ j. code (chipOf (ep j) (newChip .rest)))) i)) }
+new-done ba bytes r l h er el = record { outcome = rw (eq-eqb (length bytes) recordSize h) (λ i. (0, (el ∙ ap (λ (q : Rest). code (idleOf q)) er) i)) }
 
 -- ---- the three events
 

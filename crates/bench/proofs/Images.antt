@@ -15,7 +15,7 @@ use Rattle.rules.specs.declared.Work.the-variants.{Nothing}
 use Rattle.rules.specs.Bursts.{lastBurst}
 use Rattle.rules.specs.Works.{isNothing}
 use Rattle.rules.specs.WellFormed.{wellFormed}
-use Rattle.rules.specs.Fields.{worksOf, restOf, chipOf, flagsBound}
+use Rattle.rules.specs.Fields.{worksOf, restOf, chipOf}
 use Rattle.rules.specs.Programs.{blank}
 use Rattle.rules.specs.Commands.{newChip}
 use Rattle.rules.proofs.Bools.{and-split, same-flag, upto-at}
@@ -56,12 +56,10 @@ unfolding isCode layout.restIn idle
 kinds-idle l e =
     let r = workRight (fieldIn l "running kind") (fieldIn l "running number") in
     let s = workRight (fieldIn l "suspended kind") (fieldIn l "suspended number") in
-    let f = ltb (fieldIn l "flags") flagsBound in
     let b = leb (fieldIn l "burst") lastBurst in
-    let t₄ = and-split (eqb (length l) recordSize) (r && s && f && b && eqb (fieldIn l "reserved") 0) e .1 in
-    let t₃ = and-split (r && s && f && b) (eqb (fieldIn l "reserved") 0) t₄ .0 in
-    let t₂ = and-split (r && s && f) b t₃ .0 in
-    let t₁ = and-split (r && s) f t₂ .0 in
+    let t₄ = and-split (eqb (length l) recordSize) (r && s && b && eqb (fieldIn l "reserved") 0) e .1 in
+    let t₃ = and-split (r && s && b) (eqb (fieldIn l "reserved") 0) t₄ .0 in
+    let t₁ = and-split (r && s) b t₃ .0 in
     let t = and-split r s t₁ in
     λ i. kind-nothing (fieldIn l "running kind") (fieldIn l "running number") (kind-low (fieldIn l "running kind") (fieldIn l "running number") (t .0)) i
     && kind-nothing (fieldIn l "suspended kind") (fieldIn l "suspended number") (kind-low (fieldIn l "suspended kind") (fieldIn l "suspended number") (t .1)) i

@@ -12,7 +12,7 @@ use borrow.Author.Tests.{ltb-true}
 use Rattle.rules.specs.declared.Chip.{Chip}
 use Rattle.rules.specs.Words.{pick, every, Each, end, _next_}
 use Rattle.rules.specs.Programs.{blank}
-use Rattle.rules.specs.Commands.{newChip}
+use Rattle.rules.specs.Commands.{newOf}
 use Rattle.rules.specs.WellFormed.{wellFormed}
 use Rattle.rules.specs.Machine.{Outcome, step, run, left}
 use Rattle.rules.specs.Promises.{benchOf, stateOf}
@@ -109,26 +109,27 @@ all-bytes l e i = go (decLt i (length l))
     go (yes h) = ltb-true (getD l i 0) 256 (every-at (λ x. ltb x 256) 0 l e i h)
     go (no h) = rw (List·getD-eq-default l 0 {n = i} (omega arith)) (lit< tt)
 
-new-tested : every (λ x. ltb x 256) (code newChip) ≡ true
+new-tested : (ba : Bool) → every (λ x. ltb x 256) (code (newOf ba)) ≡ true
 unfolding code restCode bytes blank
-new-tested = refl
+new-tested true = refl
+new-tested false = refl
 
--- what fulkibono_new writes
-new-code : (bytes l : List ℕ) → NewPromise bytes 0 l → l ≡ code newChip
+-- what fulkibono_new and fulkibono_new_old write
+new-code : (ba : Bool) (bytes l : List ℕ) → NewPromise ba bytes 0 l → l ≡ code (newOf ba)
 unfolding newBytes
-new-code bytes l p = go (eqb (length bytes) recordSize) (p .outcome)
+new-code ba bytes l p = go (eqb (length bytes) recordSize) (p .outcome)
   where
-    go : (x : Bool) → _≡_ {A = ℕ × List ℕ} (0, l) (pick x (0, code newChip) (1, bytes)) → l ≡ code newChip
+    go : (x : Bool) → _≡_ {A = ℕ × List ℕ} (0, l) (pick x (0, code (newOf ba)) (1, bytes)) → l ≡ code (newOf ba)
     go true e = ap (λ (q : ℕ × List ℕ). q .1) e
     go false e = absurd (let z : _≡_ {A = ℕ} 0 1 = ap (λ (q : ℕ × List ℕ). q .0) e in omega arith)
 
--- calls in a row, the first of them fulkibono_new's, are the machine's run from a new chip
-pub run-from-new : (bytes l array security : List ℕ) (es : List Call) (gs : List Came) → NewPromise bytes 0 l → Each SendsBytes es → CallChain (lentBenchOf l array security) es gs
-    → outcomesIn gs ≡ run (stateOf (benchOf newChip array security)) (eventsOf es)
-run-from-new bytes l array security es gs p small q =
-    let e = new-code bytes l p in
-    demand-2-of-bytes (lentBenchOf l array security) es gs (record { known = ap isCode e ∙ code-known newChip new-typed; of-bytes = subst OfBytes (sym e) (all-bytes (code newChip) new-tested); sent = small }) q .machine
-    ∙ ap (λ (c : Chip). run (stateOf (benchOf c array security)) (eventsOf es)) (ap chipIn e ∙ code-back newChip new-typed)
+-- calls in a row, the first of them fulkibono_new's or fulkibono_new_old's, are the machine's run from a new chip of that part
+pub run-from-new : (ba : Bool) (bytes l array security : List ℕ) (es : List Call) (gs : List Came) → NewPromise ba bytes 0 l → Each SendsBytes es → CallChain (lentBenchOf l array security) es gs
+    → outcomesIn gs ≡ run (stateOf (benchOf (newOf ba) array security)) (eventsOf es)
+run-from-new ba bytes l array security es gs p small q =
+    let e = new-code ba bytes l p in
+    demand-2-of-bytes (lentBenchOf l array security) es gs (record { known = ap isCode e ∙ code-known (newOf ba) (new-typed ba); of-bytes = subst OfBytes (sym e) (all-bytes (code (newOf ba)) (new-tested ba)); sent = small }) q .machine
+    ∙ ap (λ (c : Chip). run (stateOf (benchOf c array security)) (eventsOf es)) (ap chipIn e ∙ code-back (newOf ba) (new-typed ba))
 
 -- ---- two benches
 

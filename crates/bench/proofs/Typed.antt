@@ -22,8 +22,8 @@ use Rattle.rules.specs.Blocks.{arraySize, writeLocks, readLocks, allLocks}
 use Rattle.rules.specs.Frames.{formOf, sentByte, opcode, address, six}
 use Rattle.rules.specs.Bursts.{lastBurst}
 use Rattle.rules.specs.Programs.{blank, pageBuffer, securityBuffer}
-use Rattle.rules.specs.Fields.{withRunning, withEnable, withFlags, flagsBound}
-use Rattle.rules.specs.Commands.{newChip, workOf, bufferOf, atOnce, act, bufferAtOnce, bufferAfter, settled, settledFirst, rested, bufferRested, afterCut}
+use Rattle.rules.specs.Fields.{withRunning, withEnable, withFlags}
+use Rattle.rules.specs.Commands.{newOf, workOf, bufferOf, atOnce, act, bufferAtOnce, bufferAfter, settled, settledFirst, rested, bufferRested, afterCut}
 use Rattle.rules.specs.Works.{isProgram}
 use Rattle.rules.specs.Numbers.{State, first, frameTests, completionTests, cutTests}
 use Rattle.rules.specs.Machine.{frameChip, frame, completedChip, completion, cutChip, powerCut, Event, sends, completes, cuts, step}
@@ -51,8 +51,7 @@ pub read-typed : (l : List ℕ) → OfBytes l → isCode l ≡ true → Typed (c
 unfolding isCode chipIn restIn
 read-typed l small e =
     let b = and-split _ (leb (fieldIn l "burst") lastBurst) (and-split _ (eqb (fieldIn l "reserved") 0) (and-split (eqb (length l) recordSize) _ e .1) .0) in
-    let f = and-split _ (ltb (fieldIn l "flags") flagsBound) (b .0) in
-    let w = and-split (workRight (fieldIn l "running kind") (fieldIn l "running number")) _ (f .0) in
+    let w = and-split (workRight (fieldIn l "running kind") (fieldIn l "running number")) _ (b .0) in
     record {
       buffer = page-size l (known-length l e);
       rest = record {
@@ -203,8 +202,8 @@ rested-typed r t = record { protection = t .protection; permanent = t .permanent
 cut-typed : (r : Rest) → TypedRest r → TypedRest (afterCut r)
 cut-typed r t = record { protection = lit< tt; permanent = t .permanent; running = lit< tt; suspended = lit< tt }
 
-pub new-typed : Typed newChip
-new-typed = record { buffer = blank-page; rest = record { protection = lit< tt; permanent = lit< tt; running = lit< tt; suspended = lit< tt } }
+pub new-typed : (ba : Bool) → Typed (newOf ba)
+new-typed ba = record { buffer = blank-page; rest = record { protection = lit< tt; permanent = lit< tt; running = lit< tt; suspended = lit< tt } }
 
 -- what an event's frame sends
 abbrev pub SentBytes : Event → Type 0

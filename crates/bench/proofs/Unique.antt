@@ -9,6 +9,7 @@ use Rattle.bench.specs.Boundary.{cameOf}
 use Rattle.bench.specs.Images.{imageReadOf}
 use Rattle.bench.proofs.Outcomes.{came-one}
 use Rattle.bench.proofs.fulkibono_new.Reads as new
+use Rattle.bench.proofs.fulkibono_new_old.Reads as new-old
 use Rattle.bench.proofs.fulkibono_frame.Reads as frame
 use Rattle.bench.proofs.fulkibono_completion.Reads as completion
 use Rattle.bench.proofs.fulkibono_power_cut.Reads as power-cut
@@ -18,6 +19,9 @@ use Rattle.bench.proofs.fulkibono_meaning.Reads as meaning
 
 pub new-one : OneOutcome {S = ℕ × List ℕ} new.Post (λ r x. (r, x .0 .now))
 new-one κ a x y r r′ p q = p .outcome ∙ sym (q .outcome)
+
+pub new-old-one : OneOutcome {S = ℕ × List ℕ} new-old.Post (λ r x. (r, x .0 .now))
+new-old-one κ a x y r r′ p q = p .outcome ∙ sym (q .outcome)
 
 pub frame-one : OneOutcome frame.Post (λ r x. cameOf r (x .0 .now) (x .1 .0 .now) (x .1 .1 .0 .now) (x .1 .1 .1 .1 .0 .now) (x .1 .1 .1 .1 .1 .0 .now))
 frame-one κ a x y r r′ p q = came-one _ _ (p .outcome ∙ sym (q .outcome))

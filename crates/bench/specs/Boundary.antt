@@ -1,11 +1,12 @@
 -- What the exported functions give back and leave: the number and all lent bytes, in terms of the machine and the record's code.
 use Prim.Native.Nat.{ℕ}
 use mathlib.Core.Path.{_≡_}
+use mathlib.Core.Bool.{Bool}
 use mathlib.Core.List.{List, []}
 use lib.Dec.{eqb}
 use lib.ListN.{length}
 use Rattle.rules.specs.Words.{pick, Lent, lent}
-use Rattle.rules.specs.Commands.{newChip}
+use Rattle.rules.specs.Commands.{newOf}
 use Rattle.rules.specs.Numbers.{State}
 use Rattle.rules.specs.Machine.{Outcome, step}
 use Rattle.rules.specs.Promises.{Carried, benchOf, carriedOf, stateOf}
@@ -93,10 +94,10 @@ called b e = pick (decode (b .bytes) .known) (coded (step (stateIn b) (eventOf e
 pub record CallPromise (b : LentBench) (e : Call) (g : Came) : Type 0 where
   pub outcome : seenOf g ≡ called b e
 
--- ---- fulkibono_new: the code of a new chip, in as many bytes as a record has
+-- ---- fulkibono_new and fulkibono_new_old: the code of a new chip, of BA and of the old part, in as many bytes as a record has
 
-unfoldable pub newBytes : List ℕ → ℕ × List ℕ
-newBytes bytes = pick (eqb (length bytes) recordSize) (0, code newChip) (1, bytes)
+unfoldable pub newBytes : Bool → List ℕ → ℕ × List ℕ
+newBytes ba bytes = pick (eqb (length bytes) recordSize) (0, code (newOf ba)) (1, bytes)
 
-pub record NewPromise (bytes : List ℕ) (n : ℕ) (bytes′ : List ℕ) : Type 0 where
-  pub outcome : (n, bytes′) ≡ newBytes bytes
+pub record NewPromise (ba : Bool) (bytes : List ℕ) (n : ℕ) (bytes′ : List ℕ) : Type 0 where
+  pub outcome : (n, bytes′) ≡ newBytes ba bytes

@@ -5,7 +5,7 @@ use image::Posted;
 use rules::Rest;
 use rules::plain::smaller;
 ghost use mathlib.Core.Path.{_≡_};
-ghost use mathlib.Core.Bool.{_&&_};
+ghost use mathlib.Core.Bool.{true, false, _&&_};
 ghost use mathlib.Core.List.{[]};
 ghost use Prim.Native.Nat.{_≤_};
 ghost use lib.ListN.{length, take, drop};
@@ -22,17 +22,32 @@ ghost use Rattle.bench.specs.Images.{idleOf, imageReadOf, WriteImageProm
 
 // ---- the chip
 
-// A new chip's record.
-#[no_mangle]
-pub extern "C" fn fulkibono_new(bytes: &mut [u8]) -> u8
-    ensures { λ r. ⌜ NewPromise (now (bytes .entry)) r (now (bytes .exit)) ⌝ }
+// The record of a new chip of a part.
+fn new_of(ba: bool, bytes: &mut [u8]) -> u8
+    ensures { λ r. ⌜ NewPromise ba (now (bytes .entry)) r (now (bytes .exit)) ⌝ }
 {
     if bytes.len() != 320 {
         return 1;
     }
-    memory::blank_page(&mut bytes[..256]);
-    record_code::put_new(bytes);
+    let rest = power::new_rest(ba);
+    put_idle(bytes, rest);
     0
+}
+
+// A new chip's record: a BA.
+#[no_mangle]
+pub extern "C" fn fulkibono_new(bytes: &mut [u8]) -> u8
+    ensures { λ r. ⌜ NewPromise true (now (bytes .entry)) r (now (bytes .exit)) ⌝ }
+{
+    new_of(true, bytes)
+}
+
+// Of the old part.
+#[no_mangle]
+pub extern "C" fn fulkibono_new_old(bytes: &mut [u8]) -> u8
+    ensures { λ r. ⌜ NewPromise false (now (bytes .entry)) r (now (bytes .exit)) ⌝ }
+{
+    new_of(false, bytes)
 }
 
 // Any of the three events. One function, from which each part is called once: nothing of the record crosses a call.
@@ -186,7 +201,7 @@ pub extern "C" fn fulkibono_image_write(
     0
 }
 
-// The code of an idle record with a blank page. Its own function of record_code, so that put_rest is called from the events alone and stays a part of them.
+// The code of an idle record with a blank page: of a new chip, and of one from a file. Its own function of record_code, so that put_rest is called from the events alone and stays a part of them.
 fn put_idle(bytes: &mut [u8], r: Rest)
     requires { ⌜ length (now bytes) ≡ recordSize ⌝ }
     ensures { λ _. ⌜ now (bytes .exit) ≡ code (idleOf r) ⌝ }

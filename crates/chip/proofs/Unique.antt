@@ -13,9 +13,12 @@ use Rattle.rules.specs.Fields.{chipOf}
 use Rattle.rules.specs.Promises.{Bench, Returned, benchOf, carriedOf, returnedOf, afterOf}
 use Rattle.rules.specs.Demands.{Call, frameCall, completionCall, cutCall, Meets}
 use Rattle.rules.proofs.Promises as promises
+use Rattle.rules.proofs.Outcomes.{OneResult}
 use Rattle.chip.specs.declared.turns.Event.{Event}
 use Rattle.chip.specs.Turns.{callOf}
 use Rattle.chip.proofs.new.Reads as new
+use Rattle.chip.proofs.new_of.Reads as new-of
+use Rattle.chip.proofs.new_old.Reads as new-old
 use Rattle.chip.proofs.frame.Reads as frame
 use Rattle.chip.proofs.completion.Reads as completion
 use Rattle.chip.proofs.power_cut.Reads as power-cut
@@ -30,8 +33,14 @@ met-one b (cutCall k) g h p q = promises.cut-one b k g h p q
 abbrev Slice : Type 0
 Slice = RefT (List ℕ)
 
+pub new-of-one : OneResult new-of.Post
+new-of-one κ a x y r r′ p q = promises.one p q
+
 pub new-one : (r s : Chip) → new.Post tt tt r tt → new.Post tt tt s tt → r ≡ s
 new-one r s p q = promises.one p q
+
+pub new-old-one : (r s : Chip) → new-old.Post tt tt r tt → new-old.Post tt tt s tt → r ≡ s
+new-old-one r s p q = promises.one p q
 
 pub answer-number-one : (a x y : Answer × Unit {0}) (r s : ℕ) → answer-number.Post tt a r x → answer-number.Post tt a s y → r ≡ s
 answer-number-one a x y r s p q = promises.one p q

@@ -10,18 +10,32 @@ pub use turns::Event;
 pub use turns::take_turn;
 ghost use mathlib.Core.Path.{_≡_};
 ghost use mathlib.Core.List.{[]};
-ghost use Rattle.rules.specs.Commands.{newChip};
+ghost use Rattle.rules.specs.Commands.{newOf, newChip, newOldChip};
 ghost use Rattle.rules.specs.Promises.{benchOf, carriedOf, returnedOf, FramePromise, CompletionPromise, CutPromise};
 
-// A new chip.
-pub fn new() -> Chip
-    ensures { λ r. ⌜ r ≡ newChip ⌝ }
+// A new chip of a part: BA, or the old one.
+pub fn new_of(ba: bool) -> Chip
+    ensures { λ r. ⌜ r ≡ newOf ba ⌝ }
 {
-    let rest = power::new_rest();
+    let rest = power::new_rest(ba);
     Chip {
         buffer: [255; 256],
         rest,
     }
+}
+
+// A new chip: a BA.
+pub fn new() -> Chip
+    ensures { λ r. ⌜ r ≡ newChip ⌝ }
+{
+    new_of(true)
+}
+
+// A new chip of the old part.
+pub fn new_old() -> Chip
+    ensures { λ r. ⌜ r ≡ newOldChip ⌝ }
+{
+    new_of(false)
 }
 
 // A frame: the bytes sent while CE# is low, and the two reply buffers.

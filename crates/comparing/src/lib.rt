@@ -14,6 +14,7 @@ use second::Step;
 use standing::Deed;
 use standing::Event;
 use standing::Playing;
+use standing::Setting;
 
 fn chip_now(p: Playing) -> Flat {
     let b = p.bench;
@@ -74,6 +75,19 @@ fn event(
     )
 }
 
+// A new chip is the second model's own, of the part that the line says; any other record is the first model's.
+fn chip_set(s: Setting, slots: [u64; 24], p: Playing) -> Flat {
+    match s {
+        Setting::New => {
+            if slots[10] == 0 {
+                return second::fresh();
+            }
+            second::fresh_old()
+        }
+        _ => chip_now(p),
+    }
+}
+
 // The line on the second model. What is set is set here too, and a question asks the first one.
 pub fn played(
     f: Flat,
@@ -93,7 +107,7 @@ pub fn played(
             arranging::arrange(s, slots, array, security);
             Step {
                 number: 0,
-                state: chip_now(p),
+                state: chip_set(s, slots, p),
             }
         }
         Deed::Nothing => Step {
@@ -128,11 +142,14 @@ fn planted_step(kind: u64, s: Step) -> Step {
     if kind == 2 {
         state.wel = !state.wel;
     }
+    if kind == 7 {
+        state.ba = !state.ba;
+    }
     let number = if kind == 1 { s.number ^ 1 } else { s.number };
     Step { number, state }
 }
 
-// In the number, the record, the reply, the marks, the array or the Security ID: the comparisons in their order.
+// In the number, the record, the reply, the marks, the array or the Security ID: the comparisons in their order. And in the record's part.
 pub fn planted(
     kind: u64,
     s: Step,

@@ -33,6 +33,7 @@ pub fn flat_of(c: Chip) -> Flat {
         sec: flags.sec,
         enable: flags.enable,
         burst,
+        ba: flags.ba,
     }
 }
 
@@ -51,6 +52,7 @@ fn same_flags(a: Flat, b: Flat) -> bool {
         & (a.wpld == b.wpld)
         & (a.sec == b.sec)
         & (a.enable == b.enable)
+        & (a.ba == b.ba)
 }
 
 fn same_pages(a: &[u8; 256], b: &[u8; 256]) -> bool {

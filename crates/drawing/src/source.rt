@@ -144,7 +144,7 @@ fn put_part(line: &mut [u8], pen: Pen, forms: &[u8], from: usize) -> Pen {
 
 fn is_part(letter: u8) -> bool {
     match letter {
-        b'K' | b'N' | b'P' | b'Q' | b'S' | b'U' | b'V' | b'W' | b'Y' | b'Z' => true,
+        b'K' | b'N' | b'P' | b'Q' | b'R' | b'S' | b'U' | b'V' | b'W' | b'Y' | b'Z' => true,
         _ => false,
     }
 }

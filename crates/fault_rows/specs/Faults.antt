@@ -35,10 +35,9 @@ faultOn What.Length found due r = blank
 faultOn What.Mark found due r = pairsOn 302 found 305 due r
 faultOn What.Sum found due r = pairsOn 303 found 306 due r
 faultOn What.PageNumber found due r = pairsOn 304 found 305 due r
-faultOn What.FlagBit found due r = form 307 found 0 0 r
-faultOn What.BurstCode found due r = form 308 found 0 0 r
-faultOn What.ReadLock found due r = form 309 found 0 0 r
-faultOn What.Unprotected found due r = form 310 found due 0 r
+faultOn What.BurstCode found due r = form 307 found 0 0 r
+faultOn What.ReadLock found due r = form 308 found 0 0 r
+faultOn What.Unprotected found due r = form 309 found due 0 r
 
 abbrev pub faultRow : Fault → Row
 faultRow f = faultOn (f .what) (f .found) (f .due) (recordRow (f .at))

@@ -60,9 +60,8 @@ pub fn fault(f: Fault) -> Row
         What::Mark => pairs_on(r, 302, f.found, 305, f.due),
         What::Sum => pairs_on(r, 303, f.found, 306, f.due),
         What::PageNumber => pairs_on(r, 304, f.found, 305, f.due),
-        What::FlagBit => rows::form(r, 307, f.found, 0, 0),
-        What::BurstCode => rows::form(r, 308, f.found, 0, 0),
-        What::ReadLock => rows::form(r, 309, f.found, 0, 0),
-        What::Unprotected => rows::form(r, 310, f.found, f.due, 0),
+        What::BurstCode => rows::form(r, 307, f.found, 0, 0),
+        What::ReadLock => rows::form(r, 308, f.found, 0, 0),
+        What::Unprotected => rows::form(r, 309, f.found, f.due, 0),
     }
 }

@@ -31,13 +31,14 @@ same-work a b e =
 same-flags : (a b : Flags) → sameFlags a b ≡ true → a ≡ b
 unfolding sameFlags
 same-flags a b e =
-    let s1 = and-split (eqb (num (a .sqi)) (num (b .sqi)) && eqb (num (a .wel)) (num (b .wel)) && eqb (num (a .ioc)) (num (b .ioc)) && eqb (num (a .wpen)) (num (b .wpen)) && eqb (num (a .wpld)) (num (b .wpld)) && eqb (num (a .sec)) (num (b .sec))) (eqb (num (a .enable)) (num (b .enable))) e in
-    let s2 = and-split (eqb (num (a .sqi)) (num (b .sqi)) && eqb (num (a .wel)) (num (b .wel)) && eqb (num (a .ioc)) (num (b .ioc)) && eqb (num (a .wpen)) (num (b .wpen)) && eqb (num (a .wpld)) (num (b .wpld))) (eqb (num (a .sec)) (num (b .sec))) (s1 .0) in
-    let s3 = and-split (eqb (num (a .sqi)) (num (b .sqi)) && eqb (num (a .wel)) (num (b .wel)) && eqb (num (a .ioc)) (num (b .ioc)) && eqb (num (a .wpen)) (num (b .wpen))) (eqb (num (a .wpld)) (num (b .wpld))) (s2 .0) in
-    let s4 = and-split (eqb (num (a .sqi)) (num (b .sqi)) && eqb (num (a .wel)) (num (b .wel)) && eqb (num (a .ioc)) (num (b .ioc))) (eqb (num (a .wpen)) (num (b .wpen))) (s3 .0) in
-    let s5 = and-split (eqb (num (a .sqi)) (num (b .sqi)) && eqb (num (a .wel)) (num (b .wel))) (eqb (num (a .ioc)) (num (b .ioc))) (s4 .0) in
-    let s6 = and-split (eqb (num (a .sqi)) (num (b .sqi))) (eqb (num (a .wel)) (num (b .wel))) (s5 .0) in
-    λ i. flagsOf (same-flag (a .sqi) (b .sqi) (s6 .0) i) (same-flag (a .wel) (b .wel) (s6 .1) i) (same-flag (a .ioc) (b .ioc) (s5 .1) i) (same-flag (a .wpen) (b .wpen) (s4 .1) i) (same-flag (a .wpld) (b .wpld) (s3 .1) i) (same-flag (a .sec) (b .sec) (s2 .1) i) (same-flag (a .enable) (b .enable) (s1 .1) i)
+    let s1 = and-split (eqb (num (a .sqi)) (num (b .sqi)) && eqb (num (a .wel)) (num (b .wel)) && eqb (num (a .ioc)) (num (b .ioc)) && eqb (num (a .wpen)) (num (b .wpen)) && eqb (num (a .wpld)) (num (b .wpld)) && eqb (num (a .sec)) (num (b .sec)) && eqb (num (a .enable)) (num (b .enable))) (eqb (num (a .ba)) (num (b .ba))) e in
+    let s2 = and-split (eqb (num (a .sqi)) (num (b .sqi)) && eqb (num (a .wel)) (num (b .wel)) && eqb (num (a .ioc)) (num (b .ioc)) && eqb (num (a .wpen)) (num (b .wpen)) && eqb (num (a .wpld)) (num (b .wpld)) && eqb (num (a .sec)) (num (b .sec))) (eqb (num (a .enable)) (num (b .enable))) (s1 .0) in
+    let s3 = and-split (eqb (num (a .sqi)) (num (b .sqi)) && eqb (num (a .wel)) (num (b .wel)) && eqb (num (a .ioc)) (num (b .ioc)) && eqb (num (a .wpen)) (num (b .wpen)) && eqb (num (a .wpld)) (num (b .wpld))) (eqb (num (a .sec)) (num (b .sec))) (s2 .0) in
+    let s4 = and-split (eqb (num (a .sqi)) (num (b .sqi)) && eqb (num (a .wel)) (num (b .wel)) && eqb (num (a .ioc)) (num (b .ioc)) && eqb (num (a .wpen)) (num (b .wpen))) (eqb (num (a .wpld)) (num (b .wpld))) (s3 .0) in
+    let s5 = and-split (eqb (num (a .sqi)) (num (b .sqi)) && eqb (num (a .wel)) (num (b .wel)) && eqb (num (a .ioc)) (num (b .ioc))) (eqb (num (a .wpen)) (num (b .wpen))) (s4 .0) in
+    let s6 = and-split (eqb (num (a .sqi)) (num (b .sqi)) && eqb (num (a .wel)) (num (b .wel))) (eqb (num (a .ioc)) (num (b .ioc))) (s5 .0) in
+    let s7 = and-split (eqb (num (a .sqi)) (num (b .sqi))) (eqb (num (a .wel)) (num (b .wel))) (s6 .0) in
+    λ i. flagsOf (same-flag (a .sqi) (b .sqi) (s7 .0) i) (same-flag (a .wel) (b .wel) (s7 .1) i) (same-flag (a .ioc) (b .ioc) (s6 .1) i) (same-flag (a .wpen) (b .wpen) (s5 .1) i) (same-flag (a .wpld) (b .wpld) (s4 .1) i) (same-flag (a .sec) (b .sec) (s3 .1) i) (same-flag (a .enable) (b .enable) (s2 .1) i) (same-flag (a .ba) (b .ba) (s1 .1) i)
 
 same-burst : (a b : Burst) → eqb (burstByte a) (burstByte b) ≡ true → a ≡ b
 same-burst a b e = sym (burst-back a .1) ∙ ap burstOf (eqb-true (burstByte a) (burstByte b) e) ∙ burst-back b .1

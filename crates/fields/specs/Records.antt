@@ -1,4 +1,4 @@
--- The record that a line's slots say, slot 9 and from slot 11 on: `record` sets it, `is` asks for it.
+-- The record that a line's slots say, from slot 9 on: `record` sets it, `is` asks for it.
 use Prim.Native.Nat.{ℕ}
 use mathlib.Core.Bool.{Bool, not, _&&_}
 use mathlib.Core.List.{List}
@@ -27,7 +27,7 @@ recordOf s =
     (restOf
     (locksOf (slot s 11) (slot s 12))
     (worksOf (workOf (slot s 13) (slot s 14)) (workOf (slot s 15) (slot s 16)))
-    (flagsOf (said s 17) (said s 18) (said s 19) (said s 20) (said s 21) (said s 22) (said s 23))
+    (flagsOf (said s 17) (said s 18) (said s 19) (said s 20) (said s 21) (said s 22) (said s 23) (said s 10))
     (burstOf (slot s 9)))
 
 -- ---- two records are the same but for the buffer
@@ -44,6 +44,7 @@ sameFlags a b =
     && eqb (num (a .wpld)) (num (b .wpld))
     && eqb (num (a .sec)) (num (b .sec))
     && eqb (num (a .enable)) (num (b .enable))
+    && eqb (num (a .ba)) (num (b .ba))
 
 unfoldable pub sameRest : Rest → Rest → Bool
 sameRest a b =

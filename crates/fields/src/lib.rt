@@ -36,6 +36,7 @@ pub fn record_of(slots: [u64; 24]) -> Chip
         sqi: slots[17] != 0,
         wel: slots[18] != 0,
         enable: slots[23] != 0,
+        ba: slots[10] != 0,
     };
     let rest = Rest {
         locks,
@@ -73,6 +74,7 @@ fn same_flags(a: Flags, b: Flags) -> bool
         & same_flag(a.wpld, b.wpld)
         & same_flag(a.sec, b.sec)
         & same_flag(a.enable, b.enable)
+        & same_flag(a.ba, b.ba)
 }
 
 // Both are the same but for their buffers.

@@ -220,3 +220,9 @@ afterCompareRaw = 52
 -- a word is a name there: only a blank or the line's end ends it
 abbrev pub takesName : ℕ → Bool
 takesName p = ltb afterBurst p && ltb p 53
+
+-- ---- the part
+
+-- after new
+abbrev pub afterNew : ℕ
+afterNew = 53

@@ -49,6 +49,10 @@ burst = filling
 abbrev pub ofId : ℕ
 ofId = 10
 
+-- 1 after new old: the same slot, since no line has both
+abbrev pub old : ℕ
+old = ofId
+
 -- H after protect
 abbrev pub protection : ℕ
 protection = 11
@@ -94,3 +98,7 @@ sec = 22
 
 abbrev pub enable : ℕ
 enable = 23
+
+-- the part: the slot of id, since no line has both
+abbrev pub ba : ℕ
+ba = ofId

@@ -11,8 +11,8 @@ use Rattle.rules.specs.Texts.{ascii}
 use Rattle.spelling.specs.declared.Word.{Word}
 use Rattle.grammar.specs.declared.Entry.{Entry}
 use Rattle.spelling.specs.Words.{key, keyWith}
-use Rattle.grammar.specs.Places.{lineStart, afterByte, afterByteStar, afterBytes, afterReply, afterReplyCount, afterSlash, afterMarkCount, afterEqual, afterExpected, afterTilde, afterExpectedStar, afterExpectedTimes, afterRefuse, lineDone, afterEvent, afterCut, afterQuestion, afterAsked, afterAnswer, afterAnswerTilde, afterAnswerStar, afterAnswerTimes, afterDump, afterDumpId, afterDumpPlace, afterFill, afterFillId, afterFillPlace, afterFillCount, afterLend, afterLendArray, inFields, afterProtect, afterPerm, afterRun, afterAside, afterRunKind, afterAsideKind, afterNoReply, afterNoReplySlash, afterAny, afterAnyStar, afterAnyTimes, afterAnswerAny, afterAnswerAnyStar, afterAnswerAnyTimes, afterBurst, afterSave, afterLoad, afterRaw, afterCompare, afterCompareRaw}
-use Rattle.grammar.specs.Slots.{verb, wanted, marksGiven, marks, expecting, judged, refused, from, size, filling, burst, ofId, protection, permanent, runKind, runNumber, asideKind, asideNumber, sqi, wel, ioc, wpen, wpld, sec, enable}
+use Rattle.grammar.specs.Places.{lineStart, afterByte, afterByteStar, afterBytes, afterReply, afterReplyCount, afterSlash, afterMarkCount, afterEqual, afterExpected, afterTilde, afterExpectedStar, afterExpectedTimes, afterRefuse, lineDone, afterEvent, afterCut, afterQuestion, afterAsked, afterAnswer, afterAnswerTilde, afterAnswerStar, afterAnswerTimes, afterDump, afterDumpId, afterDumpPlace, afterFill, afterFillId, afterFillPlace, afterFillCount, afterLend, afterLendArray, inFields, afterProtect, afterPerm, afterRun, afterAside, afterRunKind, afterAsideKind, afterNoReply, afterNoReplySlash, afterAny, afterAnyStar, afterAnyTimes, afterAnswerAny, afterAnswerAnyStar, afterAnswerAnyTimes, afterBurst, afterSave, afterLoad, afterRaw, afterCompare, afterCompareRaw, afterNew}
+use Rattle.grammar.specs.Slots.{verb, wanted, marksGiven, marks, expecting, judged, refused, from, size, filling, burst, ofId, old, protection, permanent, runKind, runNumber, asideKind, asideNumber, sqi, wel, ioc, wpen, wpld, sec, enable, ba}
 use Rattle.grammar.specs.Verbs as verbs
 
 -- ---- the words
@@ -23,7 +23,7 @@ wordList =
     ∷ "id" ∷ "new" ∷ "fill" ∷ "buffer" ∷ "pattern" ∷ "lend" ∷ "record" ∷ "is" ∷ "full" ∷ "short" ∷ "strict" ∷
     "protect" ∷ "perm" ∷ "run" ∷ "aside" ∷ "sqi" ∷ "wel" ∷ "ioc" ∷ "wpen" ∷ "wpld" ∷ "sec" ∷ "enable" ∷
     "sector" ∷ "block" ∷ "array" ∷ "page" ∷ "lock" ∷ "config" ∷ "bits" ∷ "burst" ∷ "8" ∷ "16" ∷ "32" ∷ "64" ∷
-    "save" ∷ "load" ∷ "compare" ∷ "raw" ∷ []
+    "save" ∷ "load" ∷ "compare" ∷ "raw" ∷ "old" ∷ "ba" ∷ []
 
 unfoldable pub keys : List ℕ
 keys = map (λ (s : String). key (ascii s)) wordList
@@ -237,7 +237,8 @@ table =
     ∷ row afterAnswerAnyTimes (word "??") afterAnswerAny expectsAny nothing
     ∷ row afterAnswerAnyTimes (word "~") afterAnswerTilde no nothing
     -- the chip
-    ∷ row lineStart (word "new") lineDone no (says verb verbs.new)
+    ∷ row lineStart (word "new") afterNew no (says verb verbs.new)
+    ∷ row afterNew (word "old") lineDone no (says old 1)
     ∷ row lineStart (word "fill") afterFill no (says verb verbs.fill)
     ∷ row lineStart (word "buffer") afterFillId no (says verb verbs.buffer)
     ∷ row lineStart (word "pattern") lineDone no (says verb verbs.pattern)
@@ -263,6 +264,7 @@ table =
     ∷ row inFields (word "wpld") inFields no (says wpld 1)
     ∷ row inFields (word "sec") inFields no (says sec 1)
     ∷ row inFields (word "enable") inFields no (says enable 1)
+    ∷ row inFields (word "ba") inFields no (says ba 1)
     ∷ row inFields (word "burst") afterBurst no nothing
     ∷ row afterProtect hex inFields no (keepsHex protection)
     ∷ row afterPerm hex inFields no (keepsHex permanent)
@@ -311,7 +313,7 @@ table =
 unfoldable pub ends : List ℕ
 ends =
     lineStart ∷ afterByte ∷ afterBytes ∷ afterReplyCount ∷ afterMarkCount ∷ afterExpected ∷ afterExpectedTimes
-    ∷ lineDone ∷ afterEvent ∷ afterQuestion ∷ afterAnswer ∷ afterAnswerTimes ∷ inFields ∷ afterNoReply ∷ []
+    ∷ lineDone ∷ afterEvent ∷ afterQuestion ∷ afterAnswer ∷ afterAnswerTimes ∷ inFields ∷ afterNoReply ∷ afterNew ∷ []
 
 abbrev pub canEnd : ℕ → Bool
 canEnd p = oneOf p ends

@@ -56,7 +56,7 @@ fn called(w: Word) -> u8
             b"> = ! / * ~ ?? kept done cut status work locks dump id new fill buffer pattern \
             lend record is full short strict protect perm run aside sqi wel ioc wpen wpld \
             sec enable sector block array page lock config bits burst 8 16 32 64 \
-            save load compare raw ",
+            save load compare raw old ba ",
             w.key,
         )
     } else {
@@ -140,8 +140,8 @@ pub fn follows(place: u8, w: Word) -> Entry
         0JA0080K>0090L>00:0MG00;GNH0:4G4I072H4I072I2A081I1>081AAB044B0C300BF\\400BED000C0C300CFC400\
         CED000CDE000F0C300FFC400FED000D0C500E2F600\
         \\0C300\\F\\400\\ED000\\D]000]2^600^0C300^F\\400^ED000\
-        0O>0070PJ00?0QK00@0R>00D0SN00AJNK0:4J4L072K4L072L1M081M0>092N1O071O1>081\
-        0TP00B0UP00CPYQ000PZR000P[S000P\\T000P]P0A4P^P0B4P_P0C4P`P0D4PaP0E4PbP0F4PcP0G4Pk_000Q5P0;2\
+        0Oe007et>0:40PJ00?0QK00@0R>00D0SN00AJNK0:4J4L072K4L072L1M081M0>092N1O071O1>081\
+        0TP00B0UP00CPYQ000PZR000P[S000P\\T000P]P0A4P^P0B4P_P0C4P`P0D4PaP0E4PbP0F4PcP0G4PuP0:4Pk_000Q5P0;2\
         R5P0<2_lP093_mP094_nP095_oP096\
         SdU0=4SeU0=5SfP0=6SgU0=7SNU0=8ShP0=9SiU0=:SjU0=;U5P0>2\
         TdV0?4TeV0?5TfP0?6TgV0?7TNV0?8ThP0?9TiV0?:TjV0?;V5P0@2\
@@ -177,7 +177,7 @@ pub fn takes_name(place: u8) -> bool
 pub fn can_end(place: u8) -> bool
     ensures { λ r. ⌜ r ≡ canEnd place ⌝ }
 {
-    listed(b"013579<>?ACFPW", place)
+    listed(b"013579<>?ACFPWe", place)
 }
 
 // ---- what a word says

@@ -40,10 +40,10 @@ eventRow Event.Frame line s number ran sent reply marks = frameRow line (slot s 
 eventRow Event.Completion line s number ran sent reply marks = endedOn ran number (headed line 12 0)
 eventRow Event.Cut line s number ran sent reply marks = cutOn ran (slot s slots.from) number (headed line 13 (slot s slots.from))
 
--- ---- a setting: what was set; 209 in place of 208 of the Security ID
+-- ---- a setting: what was set; 15 in place of 14 of the old part, 209 in place of 208 of the Security ID
 
 abbrev pub settingRow : Setting → ℕ → List ℕ → Row
-settingRow Setting.New line s = form 15 0 0 0 (headed line 14 0)
+settingRow Setting.New line s = numbered line (14 + min (slot s slots.old) 1) 0 0 0
 settingRow Setting.Fill line s = numbered line (208 + min (slot s slots.ofId) 1) (slot s slots.from) (slot s slots.size) (slot s slots.filling)
 settingRow Setting.Pattern line s = numbered line 213 0 0 0
 settingRow Setting.Buffer line s = numbered line 210 (slot s slots.from) (slot s slots.size) (slot s slots.filling)
@@ -91,7 +91,7 @@ suspendedRow aside = places (told aside) (work (told aside) (below 157 0 0 0))
 
 -- "what is allowed there": a form for each place of the grammar
 unfoldable pub allowedRow : ℕ → Row
-allowedRow place = form (222 + min place 52) 0 0 0 (below 177 0 0 0)
+allowedRow place = form (222 + min place 53) 0 0 0 (below 177 0 0 0)
 
 unfoldable pub secondRow : ℕ → ℕ → ℕ → ℕ → Work → ℕ → List ℕ → List ℕ → List ℕ → Row
 secondRow verb line wanted number aside place sent reply marks =

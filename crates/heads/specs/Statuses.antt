@@ -1,5 +1,5 @@
--- The rows of a status. docs/PLAYER.md: "the status and the configuration with their bits by name, the protocol, the reset enable, the burst". A row that is not
--- told is blank.
+-- The rows of a status. docs/PLAYER.md: "the status and the configuration with their bits by name, the protocol, the reset enable, the burst, the part". A row
+-- that is not told is blank.
 use Prim.Native.Nat.{ℕ, _+_, min}
 use mathlib.Core.Bool.{Bool, _&&_}
 use lib.Dec.{eqb}
@@ -12,7 +12,7 @@ use Rattle.grammar.specs.Verbs as verbs
 use Rattle.writing.specs.declared.Row.{Row}
 use Rattle.writing.specs.Rows.{blank}
 use Rattle.page.specs.Page.{form}
-use Rattle.rows.specs.Events.{below}
+use Rattle.rows.specs.Events.{below, partOn}
 
 -- six rows: BUSY, WEL, WSE, WSP, WPLD, SEC, each where it is set
 unfoldable pub statusBit : Rest → ℕ → Row
@@ -35,9 +35,9 @@ protocolName sqi = pick sqi (below 152 0 0 0) (below 151 0 0 0)
 unfoldable pub enableRow : Bool → Bool → Row
 enableRow sqi enable = pick enable (form 153 0 0 0 (protocolName sqi)) (form 154 0 0 0 (protocolName sqi))
 
--- and how many bytes a burst has
-unfoldable pub protocolRow : Bool → Bool → Burst → Row
-protocolRow sqi enable b = form 39 (burstLength b) 0 0 (enableRow sqi enable)
+-- and how many bytes a burst has, and the part
+unfoldable pub protocolRow : Bool → Bool → Bool → Burst → Row
+protocolRow sqi enable ba b = partOn ba (form 39 (burstLength b) 0 0 (enableRow sqi enable))
 
-unfoldable pub protocolTold : ℕ → Bool → Bool → Burst → Row
-protocolTold verb sqi enable b = pick (eqb verb verbs.status) (protocolRow sqi enable b) blank
+unfoldable pub protocolTold : ℕ → Bool → Bool → Bool → Burst → Row
+protocolTold verb sqi enable ba b = pick (eqb verb verbs.status) (protocolRow sqi enable ba b) blank

@@ -35,7 +35,7 @@ fn allowed_row(place: u8) -> Row
     ensures { λ q. ⌜ q ≡ allowedRow place ⌝ }
 {
     let r = rows::below(177, 0, 0, 0);
-    rows::form(r, 222 + smaller(place as usize, 52), 0, 0, 0)
+    rows::form(r, 222 + smaller(place as usize, 53), 0, 0, 0)
 }
 
 pub fn second(

@@ -1,5 +1,4 @@
 // The row of a setting. specs/Heads.antt.
-use crate::events::headed;
 use rows::Row;
 use rules::plain::smaller;
 use standing::Setting;
@@ -14,7 +13,7 @@ pub fn row(line: u64, s: Setting, slots: [u64; 24]) -> Row
     let v = slots[9];
     let id = slots[10] as usize;
     match s {
-        Setting::New => rows::form(headed(line, 14, 0), 15, 0, 0, 0),
+        Setting::New => rows::numbered(line, 14 + smaller(id, 1), 0, 0, 0),
         Setting::Fill => rows::numbered(line, 208 + smaller(id, 1), from, n, v),
         Setting::Pattern => rows::numbered(line, 213, 0, 0, 0),
         Setting::Buffer => rows::numbered(line, 210, from, n, v),

@@ -69,19 +69,20 @@ fn enable_row(sqi: bool, enable: bool) -> Row
     rows::form(r, 154, 0, 0, 0)
 }
 
-fn protocol_row(sqi: bool, enable: bool, b: Burst) -> Row
-    ensures { λ q. ⌜ q ≡ protocolRow sqi enable b ⌝ }
+fn protocol_row(sqi: bool, enable: bool, ba: bool, b: Burst) -> Row
+    ensures { λ q. ⌜ q ≡ protocolRow sqi enable ba b ⌝ }
 {
     let r = enable_row(sqi, enable);
     let n = numbering::burst_length(b);
-    rows::form(r, 39, n as u64, 0, 0)
+    let r = rows::form(r, 39, n as u64, 0, 0);
+    rows::part(r, ba)
 }
 
-pub fn protocol(verb: u8, sqi: bool, enable: bool, b: Burst) -> Row
-    ensures { λ q. ⌜ q ≡ protocolTold verb sqi enable b ⌝ }
+pub fn protocol(verb: u8, sqi: bool, enable: bool, ba: bool, b: Burst) -> Row
+    ensures { λ q. ⌜ q ≡ protocolTold verb sqi enable ba b ⌝ }
 {
     if verb == 5 {
-        return protocol_row(sqi, enable, b);
+        return protocol_row(sqi, enable, ba, b);
     }
     rows::empty()
 }

@@ -11,7 +11,7 @@ use Rattle.rules.specs.WellFormed.{locksRight}
 use Rattle.rules.proofs.Bools.{and-split}
 use Rattle.rules.proofs.Cases.{none-in-front}
 use Rattle.image.specs.Form.{highFirst, numberFrom, total, recordOf, registers}
-use Rattle.image.specs.Files.{recordRight, pageRight, registersRight}
+use Rattle.image.specs.Files.{recordRight, pageRight, registersRight, restIn}
 use Rattle.image.specs.Faults.{recordFault, registersFault, pageFault, firstFault, orElse, unless, sound}
 use Rattle.image.specs.Cases.{Case, cases, CasesHold}
 
@@ -38,14 +38,14 @@ failing c = pick (same (c .gives) (c .must)) [] (c .sentence ∷ [])
 
 -- case by case, so that an error shows which one fails
 none-fails : Each (λ c. failing c ≡ []) cases
-unfolding failing same cases highFirst numberFrom total recordOf registers recordRight pageRight registersRight locksRight bit recordFault registersFault pageFault firstFault orElse unless sound
+unfolding failing same cases highFirst numberFrom total recordOf registers recordRight pageRight registersRight restIn locksRight bit recordFault registersFault pageFault firstFault orElse unless sound
 none-fails =
     refl next refl next refl next refl next refl next refl next refl next refl next
     refl next refl next refl next refl next refl next refl next refl next refl next
     refl next refl next refl next refl next refl next refl next refl next refl next
     refl next refl next refl next refl next refl next refl next refl next refl next
     refl next refl next refl next refl next refl next refl next refl next refl next
-    refl next refl next end
+    refl next refl next refl next refl next refl next end
 
 holds : (c : Case) → failing c ≡ [] → c .gives ≡ c .must
 unfolding failing

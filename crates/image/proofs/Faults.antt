@@ -7,19 +7,17 @@ use mathlib.Core.List.{List, [], _∷_}
 use native.Mathlib.Omega.{arith}
 use native.Mathlib.Nat.{pow-suc, pow-le-pow-right}
 use lib.Bits.{bitAnd}
-use lib.Dec.{eqb, ltb, leb}
+use lib.Dec.{eqb, ltb}
 use lib.ListN.{length, getD, length-take}
 use borrow.Author.Tests.{lt-ltb, eq-eqb}
 use Rattle.rules.specs.Words.{pick}
 use Rattle.rules.specs.Texts.{ascii}
 use Rattle.rules.specs.Blocks.{readLocks}
-use Rattle.rules.specs.Bursts.{lastBurst}
-use Rattle.rules.specs.Fields.{flagsBound}
 use Rattle.rules.specs.WellFormed.{locksRight}
 use Rattle.image.specs.declared.Fault.{Fault}
 use Rattle.image.specs.declared.What.{What}
 use Rattle.image.specs.Form.{number, numberFrom, sum, fileSize}
-use Rattle.image.specs.Files.{part, pagePlace, markIn, sumIn, bodyIn, locksIn, flagsByteIn, burstByteIn, numberIn, recordRight, pageRight, firstHold, registersRight, right}
+use Rattle.image.specs.Files.{part, pagePlace, markIn, sumIn, bodyIn, locksIn, burstByteIn, numberIn, recordRight, pageRight, firstHold, registersRight, right}
 use Rattle.image.specs.Laws.{OfBytes}
 use Rattle.image.specs.Faults.{faultOf, noFault, isNone, sound, orElse, unless, recordFault, registersFault, pageFault, firstFrom, firstFault, FaultsTell, RecordsTold}
 use Rattle.image.proofs.Records.{part-bytes}
@@ -86,13 +84,12 @@ pub record Low (l : List ℕ) : Type 0 where
   pub protection : locksIn l .protection < 2 ^ 48
   pub permanent : locksIn l .permanent < 2 ^ 48
 
-registers-sound : (l : List ℕ) → Low l → sound (registersFault (flagsByteIn l) (burstByteIn l) (locksIn l)) ≡ registersRight l
+registers-sound : (l : List ℕ) → Low l → sound (registersFault (burstByteIn l) (locksIn l)) ≡ registersRight l
 unfolding registersFault registersRight locksRight
 registers-sound l h =
     let p : ltb (locksIn l .protection) (2 ^ 48) ≡ true = lt-ltb _ _ (h .protection) in
     let q : ltb (locksIn l .permanent) (2 ^ 48) ≡ true = lt-ltb _ _ (h .permanent) in
-    rw (p, q, sound-both, sound-both, sound-both, sound-test What.FlagBit refl, sound-test What.BurstCode refl, sound-test What.ReadLock refl, sound-test What.Unprotected refl)
-    (sym (and-assoc (ltb (flagsByteIn l) flagsBound) (leb (burstByteIn l) lastBurst) _))
+    rw (p, q, sound-both, sound-both, sound-test What.BurstCode refl, sound-test What.ReadLock refl, sound-test What.Unprotected refl)
 
 pub faults-tell-low : (l : List ℕ) → Low l → sound (firstFault l) ≡ right l
 unfolding firstFault right

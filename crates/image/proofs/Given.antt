@@ -6,18 +6,17 @@ use mathlib.Core.Bool.{Bool, true, false, _&&_, true≢false, false≢true}
 use mathlib.Core.List.{List}
 use mathlib.Core.Logic.{_↔_}
 use native.Mathlib.Omega.{arith}
-use lib.Dec.{eqb, ltb, leb}
+use lib.Dec.{eqb, leb}
 use lib.ListN.{length}
-use borrow.Author.Tests.{eqb-true, eq-eqb, lt-ltb, le-leb}
+use borrow.Author.Tests.{eqb-true, eq-eqb, le-leb}
 use Rattle.rules.specs.declared.Chip.{Chip}
 use Rattle.rules.specs.declared.Work.the-variants.{Nothing}
 use Rattle.rules.specs.Texts.{ascii}
 use Rattle.rules.specs.Bursts.{lastBurst}
-use Rattle.rules.specs.Fields.{flagsBound}
 use Rattle.rules.specs.WellFormed.{wellFormed, locksRight}
 use Rattle.rules.proofs.Bools.{and-split, and-both}
 use Rattle.image.specs.Form.{number, sum, fileOf}
-use Rattle.image.specs.Files.{pagePlace, markIn, sumIn, bodyIn, recordRight, locksIn, flagsByteIn, burstByteIn, numberIn, pageRight, firstHold, registersRight, right, chipIn, arrayIn, securityIn}
+use Rattle.image.specs.Files.{pagePlace, markIn, sumIn, bodyIn, recordRight, locksIn, burstByteIn, numberIn, pageRight, firstHold, registersRight, right, chipIn, arrayIn, securityIn}
 use Rattle.image.specs.Promises.{sizesRight, idle, writtenOf, written, readOf, read}
 use Rattle.image.specs.Given.{RightSizes, Idle, RightFile, Conditions, WritingGives, ReadingGives, RefusalsLeave}
 use Rattle.image.proofs.Outcomes.{sizes-of, write-sizes, write-broken, write-at-work, write-done, read-sizes, read-wrong, read-done}
@@ -54,7 +53,6 @@ file-of l e =
       size = t .size;
       mark-rg = rg .0;
       sum-rg = rg .1;
-      flag-bit-7 = t .flags;
       code = t .burst;
       registers = t .locks;
       mark-si = si .0;
@@ -67,11 +65,10 @@ file-of l e =
 file-right : (l : List ℕ) → RightFile l → right l ≡ true
 unfolding right registersRight pageRight
 file-right l h =
-    let f : ltb (flagsByteIn l) flagsBound ≡ true = lt-ltb _ _ (h .flag-bit-7) in
     let b : leb (burstByteIn l) lastBurst ≡ true = le-leb _ _ (h .code) in
     and-both
     (and-both
-    (and-both (and-both (eq-eqb _ _ (h .size)) (both-right "RG" l 0 14 (h .mark-rg) (h .sum-rg))) (and-both (and-both f b) (h .registers)))
+    (and-both (and-both (eq-eqb _ _ (h .size)) (both-right "RG" l 0 14 (h .mark-rg) (h .sum-rg))) (and-both b (h .registers)))
     (both-right "SI" l 18 2048 (h .mark-si) (h .sum-si)))
     (first-intro (pageRight l) 8192 (λ n k. and-both (both-right "PG" l (pagePlace n) 258 (h .mark-pg n k) (h .sum-pg n k)) (eq-eqb _ _ (h .page-number n k))))
 

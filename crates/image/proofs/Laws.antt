@@ -6,10 +6,10 @@ use mathlib.Core.Bool.{Bool, true, false, _&&_}
 use mathlib.Core.List.{List, [], _∷_, _++_, append-assoc}
 use native.Mathlib.Omega.{arith}
 use native.Mathlib.Decide.{ℕ-discrete}
-use lib.Dec.{eqb, ltb, leb}
+use lib.Dec.{eqb, leb}
 use lib.ListN.{length, getD, take, drop, replicate, length-append, take-append-drop, getD-replicate, length-drop}
 use lib.Seq.{take-at, drop-at, take-all, getD-take, getD-drop, drop-drop, drop-cons, ext-getD}
-use borrow.Author.Tests.{eqb-true, eq-eqb, ltb-true, lt-ltb, leb-true, le-leb}
+use borrow.Author.Tests.{eqb-true, eq-eqb, leb-true, le-leb}
 use Rattle.rules.specs.declared.Burst.{Burst}
 use Rattle.rules.specs.declared.Chip.{Chip}
 use Rattle.rules.specs.declared.Flags.{Flags}
@@ -20,7 +20,7 @@ use Rattle.rules.specs.Blocks.{arraySize, securitySize}
 use Rattle.rules.specs.Bursts.{burstByte, lastBurst, burstOf}
 use Rattle.rules.specs.Programs.{blank}
 use Rattle.rules.specs.Works.{isNothing}
-use Rattle.rules.specs.Fields.{locksOf, worksOf, restOf, chipOf, flagsNumber, flagsIn, flagsBound}
+use Rattle.rules.specs.Fields.{locksOf, worksOf, restOf, chipOf, flagsNumber, flagsIn}
 use Rattle.rules.specs.WellFormed.{wellFormed, locksRight, firstFF}
 use Rattle.rules.proofs.Bools.{and-split, and-both}
 use Rattle.rules.proofs.Blocks.{unlocked-nowhere}
@@ -265,10 +265,9 @@ module _ (c : Chip) (array security : List ℕ) (w : Whole c array security) whe
   registers-pass : registersRight (fileOf c array security) ≡ true
   unfolding registersRight
   registers-pass =
-      let f : ltb (flagsByteIn (fileOf c array security)) flagsBound ≡ true = rw flags-there (lt-ltb _ _ (flags-back (c .rest .flags) .0)) in
       let b : leb (burstByteIn (fileOf c array security)) lastBurst ≡ true = rw burst-there (le-leb _ _ (burst-back (c .rest .burst) .0)) in
       let l : locksRight (locksIn (fileOf c array security)) ≡ true = rw locks-back (registers-right _ _ (well .registers)) in
-      and-both (and-both f b) l
+      and-both b l
 
   pages-pass : firstHold (pageRight (fileOf c array security)) 8192 ≡ true
   unfolding pageRight
@@ -301,7 +300,6 @@ reading-gives-back c array security w =
 pub record Right (l : List ℕ) : Type 0 where
   pub size : length l ≡ 2148374
   pub front : recordRight "RG" l 0 14 ≡ true
-  pub flags : flagsByteIn l < flagsBound
   pub burst : burstByteIn l ≤ lastBurst
   pub locks : locksRight (locksIn l) ≡ true
   pub middle : recordRight "SI" l 18 2048 ≡ true
@@ -315,14 +313,12 @@ right-of l e =
     let h₃ = and-split _ (recordRight "SI" l 18 2048) (h₄ .0) in
     let h₂ = and-split _ (registersRight l) (h₃ .0) in
     let h₁ = and-split (eqb (length l) 2148374) (recordRight "RG" l 0 14) (h₂ .0) in
-    let g₂ = and-split _ (locksRight (locksIn l)) (h₂ .1) in
-    let g₁ = and-split (ltb (flagsByteIn l) flagsBound) (leb (burstByteIn l) lastBurst) (g₂ .0) in
+    let g₂ = and-split (leb (burstByteIn l) lastBurst) (locksRight (locksIn l)) (h₂ .1) in
     let pages = first-at (pageRight l) 8192 (h₄ .1) in
     record {
       size = eqb-true _ _ (h₁ .0);
       front = h₁ .1;
-      flags = ltb-true _ _ (g₁ .0);
-      burst = leb-true _ _ (g₁ .1);
+      burst = leb-true _ _ (g₂ .0);
       locks = g₂ .1;
       middle = h₃ .1;
       page = λ n h. and-split (recordRight "PG" l (pagePlace n) 258) (eqb (numberIn l n) n) (pages n h) .0;
@@ -354,7 +350,7 @@ module _ (l : List ℕ) (small : OfBytes l) (t : Right l) where
       let s = t .size in
       let p : highFirst 6 (number (part l 2 6)) ≡ part l 2 6 = high-number 6 (part l 2 6) (length-part l 2 6 (omega arith)) (part-bytes l 2 6 small) in
       let q : highFirst 6 (number (part l 8 6)) ≡ part l 8 6 = high-number 6 (part l 8 6) (length-part l 8 6 (omega arith)) (part-bytes l 8 6 small) in
-      let f : flagsNumber (flagsIn (getD l 14 0)) ≡ getD l 14 0 = flags-kept (getD l 14 0) (t .flags) in
+      let f : flagsNumber (flagsIn (getD l 14 0)) ≡ getD l 14 0 = flags-kept (getD l 14 0) (small 14) in
       let b : burstByte (burstOf (getD l 15 0)) ≡ getD l 15 0 = burst-kept (getD l 15 0) (t .burst) in
       (λ i. p i ++ q i ++ f i ∷ b i ∷ []) ∙ (λ i. part l 2 6 ++ part l 8 6 ++ pair i) ∙ (λ i. sym (part-add l 2 6 6) i ++ part l 14 2) ∙ sym (part-add l 2 12 2)
 

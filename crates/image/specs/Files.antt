@@ -1,9 +1,10 @@
--- 02, W-203: when a file is right, and the chip in it. "15 for a wrong mark, sum, page number, code, flag bit 7 or register that breaks the well-formed rules."
+-- 02, W-203: when a file is right, and the chip in it. "15 for a wrong mark, sum, page number, code, .. or register that breaks the well-formed rules." Of the flags
+-- nothing is asked: by W-204 bit 7 is the part.
 use Prim.Native.Nat.{ℕ, zero, suc, _+_, _*_}
 use Prim.Native.String.{String}
 use mathlib.Core.Bool.{Bool, true, _&&_}
 use mathlib.Core.List.{List}
-use lib.Dec.{eqb, ltb, leb}
+use lib.Dec.{eqb, leb}
 use lib.ListN.{length, getD, take, drop}
 use Rattle.rules.specs.declared.Chip.{Chip}
 use Rattle.rules.specs.declared.Locks.{Locks}
@@ -12,7 +13,7 @@ use Rattle.rules.specs.declared.Work.the-variants.{Nothing}
 use Rattle.rules.specs.Texts.{ascii}
 use Rattle.rules.specs.Bursts.{lastBurst, burstOf}
 use Rattle.rules.specs.Programs.{blank}
-use Rattle.rules.specs.Fields.{locksOf, worksOf, restOf, chipOf, flagsIn, flagsBound}
+use Rattle.rules.specs.Fields.{locksOf, worksOf, restOf, chipOf, flagsIn}
 use Rattle.rules.specs.WellFormed.{locksRight}
 use Rattle.image.specs.Form.{number, sum, joined, fileSize}
 
@@ -73,16 +74,16 @@ unfoldable pub firstHold : (ℕ → Bool) → ℕ → Bool
 firstHold t zero = true
 firstHold t (suc n) = firstHold t n && t n
 
--- no wrong "code, flag bit 7 or register that breaks the well-formed rules"
+-- no wrong "code .. or register that breaks the well-formed rules"
 unfoldable pub registersRight : List ℕ → Bool
-registersRight l = ltb (flagsByteIn l) flagsBound && leb (burstByteIn l) lastBurst && locksRight (locksIn l)
+registersRight l = leb (burstByteIn l) lastBurst && locksRight (locksIn l)
 
 unfoldable pub right : List ℕ → Bool
 right l =
     eqb (length l) fileSize && recordRight "RG" l 0 14 && registersRight l && recordRight "SI" l securityPlace 2_048
     && firstHold (pageRight l) 8_192
 
--- ---- the chip in a file: idle, nothing suspended, its buffer FF; the flags as in the file, WEL and the reset enable too
+-- ---- the chip in a file: idle, nothing suspended, its buffer FF; the flags as in the file, WEL and the reset enable too, and the part
 
 unfoldable pub restIn : List ℕ → Rest
 restIn l = restOf (locksIn l) (worksOf Nothing Nothing) (flagsIn (flagsByteIn l)) (burstOf (burstByteIn l))

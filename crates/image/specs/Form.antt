@@ -37,7 +37,7 @@ unfoldable pub recordOf : String → List ℕ → List ℕ
 recordOf mark body = ascii mark ++ body ++ highFirst 2 (sum body)
 
 -- ---- "RG, 14 bytes (protection 6, permanent 6, flags 1, burst code 1)"
--- "Flags from bit 0: SQI, WEL, IOC, WPEN, WPLD, SEC, reset enable, 0": that is flagsNumber
+-- "Flags from bit 0: SQI, WEL, IOC, WPEN, WPLD, SEC, reset enable", and by W-204 "bit 7 .. holds" the part, "1 for BA": that is flagsNumber
 
 unfoldable pub registers : Rest → List ℕ
 registers r = highFirst 6 (r .locks .protection) ++ highFirst 6 (r .locks .permanent) ++ flagsNumber (r .flags) ∷ burstByte (r .burst) ∷ []

@@ -1,5 +1,5 @@
 -- Which number each function gives, exactly when. "Refusals: 1 for wrong lengths or, writing, a broken record; 14 for a busy or suspended chip; 15 for a wrong
--- mark, sum, page number, code, flag bit 7 or register that breaks the well-formed rules." Proved in proofs/Given.
+-- mark, sum, page number, code, .. or register that breaks the well-formed rules"; flag bit 7 is the part since W-204. Proved in proofs/Given.
 use Prim.Native.Nat.{ℕ, _≤_, _<_}
 use mathlib.Core.Path.{_≡_}
 use mathlib.Core.Bool.{true, false}
@@ -11,7 +11,7 @@ use Rattle.rules.specs.declared.Work.the-variants.{Nothing}
 use Rattle.rules.specs.Texts.{ascii}
 use Rattle.rules.specs.WellFormed.{wellFormed, locksRight}
 use Rattle.image.specs.Form.{number, sum}
-use Rattle.image.specs.Files.{markIn, sumIn, bodyIn, pagePlace, locksIn, flagsByteIn, burstByteIn, numberIn, right}
+use Rattle.image.specs.Files.{markIn, sumIn, bodyIn, pagePlace, locksIn, burstByteIn, numberIn, right}
 use Rattle.image.specs.Promises.{sizesRight, idle, written, read}
 
 -- ---- the conditions, in words
@@ -29,7 +29,6 @@ pub record RightFile (l : List ℕ) : Type 0 where
   pub size : length l ≡ 2_148_374
   pub mark-rg : markIn l 0 ≡ number (ascii "RG")
   pub sum-rg : sumIn l 0 14 ≡ sum (bodyIn l 0 14)
-  pub flag-bit-7 : flagsByteIn l < 128
   pub code : burstByteIn l ≤ 0x03
   pub registers : locksRight (locksIn l) ≡ true
   pub mark-si : markIn l 18 ≡ number (ascii "SI")

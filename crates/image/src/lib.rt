@@ -22,7 +22,6 @@ pub enum What {
     Mark,
     Sum,
     PageNumber,
-    FlagBit,
     BurstCode,
     ReadLock,
     Unprotected,

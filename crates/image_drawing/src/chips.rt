@@ -90,7 +90,7 @@ pub fn with_registers(protection: u64, permanent: u64) -> Chip {
         protection,
         permanent,
     };
-    assembled(locks, no_works(), 127, 3, [255u8; 256])
+    assembled(locks, no_works(), 255, 3, [255u8; 256])
 }
 
 // ---- chips at work
@@ -144,7 +144,7 @@ pub fn at_work(k: u64, seed: u64) -> Chip {
         permanent: 0,
     };
     let works = Works { running, suspended };
-    let flags = (seed_of(seed, 13) % 32) as u8;
+    let flags = (seed_of(seed, 13) % 256) as u8 & 0xdf;
     let buffer = buffer_of((kind == 4) | (aside == 4), seed);
     assembled(locks, works, flags, draw(seed, 5, 4), buffer)
 }
@@ -213,7 +213,7 @@ fn broken_locks(k: u64, seed: u64) -> Locks {
 // An idle record with one fault, in its registers or its buffer.
 pub fn broken(k: u64, seed: u64) -> Chip {
     let buffer = buffer_of(k % 5 == 4, seed);
-    let flags = (seed_of(seed, 13) % 128) as u8;
+    let flags = (seed_of(seed, 13) % 256) as u8;
     assembled(
         broken_locks(k, seed),
         no_works(),
@@ -261,7 +261,7 @@ pub fn any(seed: u64) -> Chip {
     let running = numbering::work_of(kind, any_number(kind, seed));
     let suspended = numbering::work_of(aside, any_number(aside, seed_of(seed, 26)));
     let works = Works { running, suspended };
-    let flags = (seed_of(seed, 13) % 128) as u8;
+    let flags = (seed_of(seed, 13) % 256) as u8;
     assembled(
         any_locks(seed),
         works,

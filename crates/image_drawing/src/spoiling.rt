@@ -113,12 +113,6 @@ fn page_number_spoiled(seed: u64, file: &mut [u8]) {
     sealed(file, r, 0);
 }
 
-fn flag_spoiled(file: &mut [u8]) {
-    let b = at(file, 14);
-    put(file, 14, b | 0x80);
-    sealed(file, registers(), 0);
-}
-
 // A code above 3: 4, or any.
 fn code_spoiled(n: u64, seed: u64, file: &mut [u8]) {
     let code = if n % 2 == 0 {
@@ -230,9 +224,16 @@ fn bytes_swapped(seed: u64, file: &mut [u8]) {
     swap(file, i, j);
 }
 
+// Flag bit 7 is the part (02, W-204): the right file of the same chip, of the other part.
+fn part_changed(file: &mut [u8]) {
+    let b = at(file, 14);
+    put(file, 14, b ^ 0x80);
+    sealed(file, registers(), 0);
+}
+
 // Other flags and another code: another chip's right file.
 fn registers_changed(seed: u64, file: &mut [u8]) {
-    put(file, 14, (seed_of(seed, 40) % 128) as u8);
+    put(file, 14, (seed_of(seed, 40) % 256) as u8);
     put(file, 15, (seed_of(seed, 41) % 4) as u8);
     sealed(file, registers(), 0);
 }
@@ -243,7 +244,6 @@ fn spoiled_one(way: u64, n: u64, seed: u64, file: &mut [u8]) {
         1 => mark_spoiled(seed, file),
         2 => sum_spoiled(seed, file),
         3 => page_number_spoiled(seed, file),
-        4 => flag_spoiled(file),
         5 => code_spoiled(n, seed, file),
         6 => read_lock_spoiled(n, file),
         7 => unprotected(n, file),
@@ -260,6 +260,10 @@ fn spoiled_one(way: u64, n: u64, seed: u64, file: &mut [u8]) {
 pub fn spoiled(way: u64, n: u64, seed: u64, file: &mut [u8]) -> u8 {
     spoiled_one(way, n, seed, file);
     match way {
+        4 => {
+            part_changed(file);
+            0
+        }
         13 => sum_turned(seed, file),
         14 => {
             bytes_swapped(seed, file);

@@ -5,18 +5,17 @@ use mathlib.Core.Bool.{Bool, true, false, not}
 use mathlib.Core.List.{List, [], _∷_, _++_}
 use native.Mathlib.Omega.{arith}
 use lib.Bits.{bitAnd}
-use lib.Dec.{eqb, ltb, leb}
+use lib.Dec.{eqb, leb}
 use lib.ListN.{length}
 use borrow.Author.Tests.{eq-eqb, ne-eqb}
 use Rattle.rules.specs.declared.Locks.{Locks}
 use Rattle.rules.specs.Texts.{ascii}
 use Rattle.rules.specs.Blocks.{readLocks}
 use Rattle.rules.specs.Bursts.{lastBurst}
-use Rattle.rules.specs.Fields.{flagsBound}
 use Rattle.image.specs.declared.Fault.{Fault}
 use Rattle.image.specs.declared.What.{What}
 use Rattle.image.specs.Form.{number, numberFrom, sum, fileSize}
-use Rattle.image.specs.Files.{part, markIn, sumIn, bodyIn, pagePlace, numberIn, locksIn, flagsByteIn, burstByteIn, right}
+use Rattle.image.specs.Files.{part, markIn, sumIn, bodyIn, pagePlace, numberIn, locksIn, burstByteIn, right}
 use Rattle.image.specs.Faults.{faultOf, noFault, isNone, sound, orElse, unless, recordFault, registersFault, pageFault, firstFrom, firstFault}
 use Rattle.image.proofs.Bytes.{number-two}
 use Rattle.image.proofs.Faults.{Low, faults-tell-low, other-length, found-first, found-behind, tested, untested, test-passed, test-failed}
@@ -57,29 +56,25 @@ module _ (m k at n x y z : ℕ) (l : List ℕ) (there : x ≡ markIn l at) where
 
 -- ---- what RG holds
 
-module _ (f b : ℕ) (l : Locks) where
-  pub flag-found : ltb f flagsBound ≡ false → faultOf What.FlagBit 0 f 0 ≡ registersFault f b l
+module _ (b : ℕ) (l : Locks) where
+  pub burst-found : leb b lastBurst ≡ false → faultOf What.BurstCode 0 b lastBurst ≡ registersFault b l
   unfolding registersFault
-  flag-found p = sym (untested _ _ _ p refl)
+  burst-found q = sym (untested _ _ _ q refl)
 
-  pub burst-found : ltb f flagsBound ≡ true → leb b lastBurst ≡ false → faultOf What.BurstCode 0 b lastBurst ≡ registersFault f b l
+  pub read-lock-found : leb b lastBurst ≡ true → (bitAnd (l .permanent) readLocks ≡ 0 → ⊥)
+      → faultOf What.ReadLock 0 (l .permanent) 0 ≡ registersFault b l
   unfolding registersFault
-  burst-found p q = sym (tested _ _ _ p ∙ untested _ _ _ q refl)
+  read-lock-found q r = sym (tested _ _ _ q ∙ untested _ _ _ (ne-eqb _ _ r) refl)
 
-  pub read-lock-found : ltb f flagsBound ≡ true → leb b lastBurst ≡ true → (bitAnd (l .permanent) readLocks ≡ 0 → ⊥)
-      → faultOf What.ReadLock 0 (l .permanent) 0 ≡ registersFault f b l
+  pub unprotected-found : leb b lastBurst ≡ true → bitAnd (l .permanent) readLocks ≡ 0
+      → (bitAnd (l .permanent) (l .protection) ≡ l .permanent → ⊥) → faultOf What.Unprotected 0 (l .permanent) (l .protection) ≡ registersFault b l
   unfolding registersFault
-  read-lock-found p q r = sym (tested _ _ _ p ∙ tested _ _ _ q ∙ untested _ _ _ (ne-eqb _ _ r) refl)
+  unprotected-found q r s = sym (tested _ _ _ q ∙ tested _ _ _ (eq-eqb _ _ r) ∙ test-failed _ _ (ne-eqb _ _ s))
 
-  pub unprotected-found : ltb f flagsBound ≡ true → leb b lastBurst ≡ true → bitAnd (l .permanent) readLocks ≡ 0
-      → (bitAnd (l .permanent) (l .protection) ≡ l .permanent → ⊥) → faultOf What.Unprotected 0 (l .permanent) (l .protection) ≡ registersFault f b l
+  pub registers-pass : leb b lastBurst ≡ true → bitAnd (l .permanent) readLocks ≡ 0
+      → bitAnd (l .permanent) (l .protection) ≡ l .permanent → noFault ≡ registersFault b l
   unfolding registersFault
-  unprotected-found p q r s = sym (tested _ _ _ p ∙ tested _ _ _ q ∙ tested _ _ _ (eq-eqb _ _ r) ∙ test-failed _ _ (ne-eqb _ _ s))
-
-  pub registers-pass : ltb f flagsBound ≡ true → leb b lastBurst ≡ true → bitAnd (l .permanent) readLocks ≡ 0
-      → bitAnd (l .permanent) (l .protection) ≡ l .permanent → noFault ≡ registersFault f b l
-  unfolding registersFault
-  registers-pass p q r s = sym (tested _ _ _ p ∙ tested _ _ _ q ∙ tested _ _ _ (eq-eqb _ _ r) ∙ test-passed _ _ (eq-eqb _ _ s))
+  registers-pass q r s = sym (tested _ _ _ q ∙ tested _ _ _ (eq-eqb _ _ r) ∙ test-passed _ _ (eq-eqb _ _ s))
 
 -- ---- a number in six bytes as three of two
 
@@ -163,11 +158,11 @@ module _ (l : List ℕ) (size : length l ≡ fileSize) (f₁ : Fault) (e₁ : f�
   unfolding firstFault numberFrom
   in-rg n₁ = e₁ ∙ sym (tested _ _ _ (eq-eqb _ _ size) ∙ found-first _ _ (ap sound (sym e₁) ∙ is-sound f₁ ∙ n₁))
 
-  module _ (n₁ : isNone (f₁ .what) ≡ true) (f₂ : Fault) (r : Locks) (e : r ≡ locksIn l) (e₂ : f₂ ≡ registersFault (flagsByteIn l) (burstByteIn l) r) where
-    registers-are : f₂ ≡ registersFault (flagsByteIn l) (burstByteIn l) (locksIn l)
-    registers-are = e₂ ∙ ap (registersFault (flagsByteIn l) (burstByteIn l)) e
+  module _ (n₁ : isNone (f₁ .what) ≡ true) (f₂ : Fault) (r : Locks) (e : r ≡ locksIn l) (e₂ : f₂ ≡ registersFault (burstByteIn l) r) where
+    registers-are : f₂ ≡ registersFault (burstByteIn l) (locksIn l)
+    registers-are = e₂ ∙ ap (registersFault (burstByteIn l)) e
 
-    past-rg : orElse (registersFault (flagsByteIn l) (burstByteIn l) (locksIn l)) (orElse (recordFault (number (ascii "SI")) l 1 18 2048) (firstFrom (pageFault l) 0 8192)) ≡ firstFault l
+    past-rg : orElse (registersFault (burstByteIn l) (locksIn l)) (orElse (recordFault (number (ascii "SI")) l 1 18 2048) (firstFrom (pageFault l) 0 8192)) ≡ firstFault l
     unfolding firstFault numberFrom
     past-rg = sym (tested _ _ _ (eq-eqb _ _ size) ∙ found-behind _ _ (ap sound (sym e₁) ∙ is-sound f₁ ∙ n₁))
 

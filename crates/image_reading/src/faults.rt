@@ -33,7 +33,6 @@ pub fn is_none(f: Fault) -> bool
         What::Mark => false,
         What::Sum => false,
         What::PageNumber => false,
-        What::FlagBit => false,
         What::BurstCode => false,
         What::ReadLock => false,
         What::Unprotected => false,
@@ -94,17 +93,9 @@ fn record_fault(l: &[u8], k: usize, at: usize, n: usize, mark: u64) -> Fault
     no_fault()
 }
 
-fn registers_fault(flags: u8, burst: u8, l: Locks) -> Fault
-    ensures { λ r. ⌜ r ≡ registersFault flags burst l ⌝ }
+fn registers_fault(burst: u8, l: Locks) -> Fault
+    ensures { λ r. ⌜ r ≡ registersFault burst l ⌝ }
 {
-    if !numbering::flags_right(flags) {
-        return Fault {
-            what: What::FlagBit,
-            at: 0,
-            found: flags as u64,
-            due: 0,
-        };
-    }
     if !numbering::burst_right(burst as u64) {
         return Fault {
             what: What::BurstCode,
@@ -186,7 +177,7 @@ pub fn fault(l: &[u8]) -> Fault
     if !is_none(f) {
         return f;
     }
-    let f = registers_fault(l[14], l[15], locks);
+    let f = registers_fault(l[15], locks);
     if !is_none(f) {
         return f;
     }

@@ -8,6 +8,7 @@ use comparing::bytes::same_front;
 use comparing::bytes::within;
 use comparing::mapping::flat_of;
 use comparing::mapping::same_records;
+use drawing::at;
 use drawing::dice::seed_of;
 use image::Posted;
 use image_drawing::chips;
@@ -361,6 +362,14 @@ fn odd_again(
     bit(same(file, other), n)
 }
 
+// A chip that is read is the part that its file says: bit 7 of the flags, which stand behind the mark and two registers, is 1 for BA (02, W-204).
+fn odd_part(g: Got, plant: u64, file: &File) -> u64 {
+    let rest = g.chip.rest;
+    let flags = rest.flags;
+    let ba = if plant == 17 { !flags.ba } else { flags.ba };
+    bit(ba == (at(file, 14) / 128 == 1), 17)
+}
+
 fn odd_written_again(
     g: Got,
     plant: u64,
@@ -372,21 +381,26 @@ fn odd_written_again(
     if g.number != 0 {
         return 0;
     }
-    odd_again(false, g, plant, array, security, file, other)
+    odd_part(g, plant, file)
+        | odd_again(false, g, plant, array, security, file, other)
         | odd_again(true, g, plant, array, security, file, other)
 }
 
 // ---- the cases
 
-fn counted(counts: &mut Counts, c: Chip) {
+// A chip of a sort: the idle ones, the four that may be refused, the files'.
+fn counted(counts: &mut Counts, sort: u64, c: Chip) {
     let f = flat_of(c);
     let rest = c.rest;
     let flags = rest.flags;
+    let part: usize = if f.ba { 1 } else { 0 };
+    let place = plus(report::SORTS, (sort % 8 * 2) as usize);
+    bump(counts, plus(place, part));
     bump(
         counts,
         plus(
             report::FLAGS,
-            (numbering::flags_number(flags) % 128) as usize,
+            (numbering::flags_number(flags) % 256) as usize,
         ),
     );
     bump(counts, plus(report::BURSTS, f.burst as usize));
@@ -411,8 +425,8 @@ pub fn chip_case(
     security2: &mut Identity,
 ) -> u64 {
     let seed = seed_of(203, k);
-    let c = chips::idle(seed, (k % 128) as u8);
-    counted(counts, c);
+    let c = chips::idle(seed, (k % 256) as u8);
+    counted(counts, 0, c);
     array_filled(seed, array);
     security_filled(seed, security);
     let l = right_lengths();
@@ -432,7 +446,7 @@ fn refused_chip(k: u64, seed: u64) -> Chip {
         0 => chips::at_work(k / 4, seed),
         1 => chips::broken(k / 4, seed),
         2 => chips::any(seed),
-        _ => chips::idle(seed, (seed % 128) as u8),
+        _ => chips::idle(seed, (seed % 256) as u8),
     }
 }
 
@@ -464,7 +478,7 @@ pub fn refused_case(
 ) -> u64 {
     let seed = seed_of(204, k);
     let c = refused_chip(k, seed);
-    counted(counts, c);
+    counted(counts, 1 + k % 4, c);
     written(
         c,
         refused_lengths(k),
@@ -498,7 +512,8 @@ pub fn file_case(
 ) -> u64 {
     let seed = seed_of(205, k);
     let way = k % spoiling::WAYS;
-    let c = chips::idle(seed, (seed / 2 % 128) as u8);
+    let c = chips::idle(seed, (seed / 2 % 256) as u8);
+    counted(counts, 5, c);
     array_filled(seed % 64, array);
     security_filled(seed, security);
     set(file, BEFORE);

@@ -1,4 +1,4 @@
-// Image files of both models side by side (document 02, W-203): the paper's values; chips written, read and written again; chips that are refused; spoiled
+// Image files of both models side by side (document 02, W-203 and W-204): the paper's values; chips written, read and written again; chips that are refused; spoiled
 // files. Differences planted on one side show that each comparison is made. All numbers come from fixed seeds.
 mod cases;
 mod report;
@@ -10,7 +10,7 @@ use image_drawing::places::Memory;
 use report::Counts;
 
 // Every value of the flags comes up once.
-const CHIPS: u64 = 128;
+const CHIPS: u64 = 256;
 
 // Each lock is once the fault of a broken record.
 const REFUSED: u64 = 800;
@@ -94,7 +94,7 @@ fn planted_tried(
     security2: &mut Identity,
 ) {
     let mut plant: u64 = 1;
-    while plant < 17 {
+    while plant < 18 {
         let odd = planted_case(plant, counts, array, security, file, other, security2);
         report::planted_said(plant, odd);
         plant += 1;

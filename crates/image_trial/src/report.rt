@@ -1,8 +1,8 @@
 // What is counted, and what is written.
 use drawing::at;
 
-// Places of what is counted: writings, readings, cases with a difference, the paper's values; numbers of writing and of reading; flags, bursts, running and
-// suspended work of the chips.
+// Places of what is counted: writings, readings, cases with a difference, the paper's values; numbers of writing and of reading; the sorts of chips, each of both
+// parts; bursts, running and suspended work, flags of the chips.
 pub type Counts = [u64; 512];
 
 pub const WRITES: usize = 0;
@@ -17,13 +17,15 @@ pub const WRITE_NUMBERS: usize = 16;
 
 pub const READ_NUMBERS: usize = 32;
 
-pub const FLAGS: usize = 64;
+pub const SORTS: usize = 64;
 
 pub const BURSTS: usize = 192;
 
 pub const RUNNING: usize = 200;
 
 pub const SUSPENDED: usize = 216;
+
+pub const FLAGS: usize = 256;
 
 pub fn bump(counts: &mut Counts, i: usize) {
     if i < 512 {
@@ -69,6 +71,7 @@ fn comparison_said(n: u64) {
         14 => say(b" record given back"),
         15 => say(b" written again"),
         16 => say(b" written again by the second"),
+        17 => say(b" part"),
         _ => {}
     }
 }
@@ -83,7 +86,7 @@ pub fn bit(holds: bool, n: u64) -> u64 {
 
 fn odd_said(odd: u64) {
     let mut n: u64 = 1;
-    while n < 17 {
+    while n < 18 {
         if odd >> n & 1 != 0 {
             comparison_said(n);
         }
@@ -150,7 +153,11 @@ pub fn counts_said(counts: &Counts) {
     numbers_said(counts, WRITE_NUMBERS);
     say_number(b"read by both: ", count(counts, READS));
     numbers_said(counts, READ_NUMBERS);
-    say_number(b"of the chips written: flags ", kinds(counts, FLAGS, 128));
+    say_number(
+        b"of the chips written: sorts by part ",
+        kinds(counts, SORTS, 12),
+    );
+    say_number(b" kinds, flags ", kinds(counts, FLAGS, 256));
     say_number(b" kinds, bursts ", kinds(counts, BURSTS, 4));
     say_number(b" kinds, running work ", kinds(counts, RUNNING, 9));
     say_number(b" kinds, suspended work ", kinds(counts, SUSPENDED, 9));

@@ -1,4 +1,4 @@
-// The paper's values (document 02, W-203): bytes of files, each reckoned by hand. Both models write the file; the first one's is shown, and the two are the same.
+// The paper's values (document 02, W-203 and W-204): bytes of files, each reckoned by hand. Both models write the file; the first one's is shown, and the two are the same.
 use crate::cases;
 use crate::report;
 use crate::report::Counts;
@@ -32,16 +32,26 @@ fn both_write(
     report::told(counts, b"the paper's values", 0, odd);
 }
 
-// ---- a new chip, all FF
+// ---- a new chip of each part, all FF
 
-// RG is the first: protection 55 55 FF FF FF FF, nothing permanent, no flag, burst 0. 55 + 55 + 4 * FF = AA + 3FC = 4A6. SI stands behind its 2 + 14 + 2 =
-// 18 bytes: 800 * FF = 7F800, which wraps to F800; its sum is at 18 + 2 + 2,048 = 2,068.
+// RG is the first: protection 55 55 FF FF FF FF, nothing permanent, burst 0. 55 + 55 + 4 * FF = AA + 3FC = 4A6. The old part has no flag.
+fn old_part_shown(counts: &mut Counts, file: &File) {
+    shows(
+        counts,
+        file,
+        0,
+        b"RG\x55\x55\xff\xff\xff\xff\x00\x00\x00\x00\x00\x00\x00\x00\x04\xa6SI",
+    );
+}
+
+// BA has IOC and bit 7: 4 + 80 = 84, and 4A6 + 84 = 52A. SI stands behind the 2 + 14 + 2 = 18 bytes of RG: 800 * FF = 7F800, which wraps to F800; its sum is
+// at 18 + 2 + 2,048 = 2,068.
 fn front_shown(counts: &mut Counts, file: &File) {
     shows(
         counts,
         file,
         0,
-        b"RG\x55\x55\xff\xff\xff\xff\x00\x00\x00\x00\x00\x00\x00\x00\x04\xa6",
+        b"RG\x55\x55\xff\xff\xff\xff\x00\x00\x00\x00\x00\x00\x84\x00\x05\x2a",
     );
     shows(counts, file, 18, b"SI\xff\xff");
     shows(counts, file, 2066, b"\xff\xff\xf8\x00PG");
@@ -68,11 +78,11 @@ fn pages_shown(counts: &mut Counts, file: &File) {
 
 // ---- flags and codes
 
-// Flags and code stand at 2 + 6 + 6 = 14 and 15; each counts in the sum of a new chip's RG, 04A6.
+// Flags and code stand at 2 + 6 + 6 = 14 and 15; each counts in the sum of RG, which is 04A6 for a new chip of the old part.
 
-// The n-th flag alone: "Flags from bit 0: SQI, WEL, IOC, WPEN, WPLD, SEC, reset enable, 0".
+// The n-th flag alone: "Flags from bit 0: SQI, WEL, IOC, WPEN, WPLD, SEC, reset enable", and "bit 7 .. now holds" the part, "1 for BA".
 fn with_flag(n: u64) -> Chip {
-    let mut c = chip::new();
+    let mut c = chip::new_old();
     let mut rest = c.rest;
     let mut flags = rest.flags;
     match n {
@@ -82,7 +92,8 @@ fn with_flag(n: u64) -> Chip {
         3 => flags.wpen = true,
         4 => flags.wpld = true,
         5 => flags.sec = true,
-        _ => flags.enable = true,
+        6 => flags.enable = true,
+        _ => flags.ba = true,
     }
     rest.flags = flags;
     c.rest = rest;
@@ -98,7 +109,8 @@ fn flag_shown(n: u64, counts: &mut Counts, file: &File) {
         3 => shows(counts, file, 14, b"\x08\x00\x04\xaeSI"),
         4 => shows(counts, file, 14, b"\x10\x00\x04\xb6SI"),
         5 => shows(counts, file, 14, b"\x20\x00\x04\xc6SI"),
-        _ => shows(counts, file, 14, b"\x40\x00\x04\xe6SI"),
+        6 => shows(counts, file, 14, b"\x40\x00\x04\xe6SI"),
+        _ => shows(counts, file, 14, b"\x80\x00\x05\x26SI"),
     }
 }
 
@@ -110,7 +122,7 @@ fn flags_shown(
     other: &mut File,
 ) {
     let mut n: u64 = 0;
-    while n < 7 {
+    while n < 8 {
         both_write(with_flag(n), counts, array, security, file, other);
         flag_shown(n, counts, file);
         n += 1;
@@ -148,14 +160,14 @@ fn bursts_shown(
 
 // ---- registers and memories
 
-// Protection 12 34 56 78 9A BC sums to 26A; permanent 10 14 10 38 0A B0, each bit also in protection, to 126; all flags are 7F, burst 3: 412.
+// Protection 12 34 56 78 9A BC sums to 26A; permanent 10 14 10 38 0A B0, each bit also in protection, to 126; all flags are FF, burst 3: 492.
 // 00 to FF sum to 7F80. SI has them 8 times: 3FC00, which wraps to FC00. Page 3 adds 3: 7F83, at 2,070 + 3 * 262 + 260 = 3,116; page 1FFF adds 11E: 809E.
 fn counting_shown(counts: &mut Counts, file: &File) {
     shows(
         counts,
         file,
         0,
-        b"RG\x12\x34\x56\x78\x9a\xbc\x10\x14\x10\x38\x0a\xb0\x7f\x03\x04\x12SI\x00\x01\x02",
+        b"RG\x12\x34\x56\x78\x9a\xbc\x10\x14\x10\x38\x0a\xb0\xff\x03\x04\x92SI\x00\x01\x02",
     );
     shows(
         counts,
@@ -181,6 +193,8 @@ pub fn paper_shown(
     file: &mut File,
     other: &mut File,
 ) {
+    both_write(chip::new_old(), counts, array, security, file, other);
+    old_part_shown(counts, file);
     both_write(chip::new(), counts, array, security, file, other);
     front_shown(counts, file);
     pages_shown(counts, file);

@@ -10,7 +10,7 @@ use Rattle.rules.specs.declared.Rest.{Rest}
 use Rattle.rules.specs.Texts.{ascii}
 use Rattle.rules.specs.Blocks.{securitySize}
 use Rattle.rules.specs.Bursts.{burstByte, lastBurst}
-use Rattle.rules.specs.Fields.{flagsNumber, flagsBound}
+use Rattle.rules.specs.Fields.{flagsNumber}
 use Rattle.rules.proofs.Fields.{flags-back, burst-back}
 use Rattle.image.specs.Form.{highFirst, sum, recordOf, registers, fileSize}
 use Rattle.image.specs.Files.{bodyIn}

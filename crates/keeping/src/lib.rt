@@ -5,24 +5,58 @@ mod telling;
 use image::Posted;
 use rules::Chip;
 use telling::broken_told;
+pub use telling::part_told;
 use telling::refused_told;
 pub use telling::told;
+ghost use mathlib.Core.Path.{_≡_};
+ghost use mathlib.Core.Bool.{false};
+ghost use Rattle.rules.specs.Words.{pick};
+ghost use Rattle.rules.specs.Commands.{newOf};
 
-// What came of reading a file: the chip, where it is right.
+// What came of reading a file: whether it is right, and whether a chip is kept in it.
 pub struct Loaded {
     pub chip: Chip,
     pub right: bool,
+    pub kept: bool,
 }
 
 fn came_in(chip: Chip) -> Loaded {
-    Loaded { chip, right: true }
+    Loaded {
+        chip,
+        right: true,
+        kept: true,
+    }
 }
 
-fn refused() -> Loaded {
+// No chip is kept in it: a session has a new one.
+fn without_chip() -> Loaded
+    ensures { λ r. ⌜ r .kept ≡ false ⌝ }
+{
+    Loaded {
+        chip: chip::new(),
+        right: true,
+        kept: false,
+    }
+}
+
+fn refused() -> Loaded
+    ensures { λ r. ⌜ r .kept ≡ false ⌝ }
+{
     Loaded {
         chip: chip::new(),
         right: false,
+        kept: false,
     }
+}
+
+// The chip of a session: the one in the file, or a new one of the part that is asked for.
+pub fn chip_of(came: Loaded, ba: bool) -> Chip
+    ensures { λ r. ⌜ r ≡ pick (came .kept) (came .chip) (newOf ba) ⌝ }
+{
+    if came.kept {
+        return came.chip;
+    }
+    chip::new_of(ba)
 }
 
 // ---- reading
@@ -52,9 +86,11 @@ fn image_taken(
 }
 
 // A new chip with this array.
-fn raw_taken(name: &[u8], file: &[u8], array: &mut [u8; 2097152]) -> Loaded {
+fn raw_taken(name: &[u8], file: &[u8], array: &mut [u8; 2097152]) -> Loaded
+    ensures { λ r. ⌜ r .kept ≡ false ⌝ }
+{
     if raw_image::load(array, file) == 0 {
-        return came_in(chip::new());
+        return without_chip();
     }
     refused_told(name, 1, fault_rows::length(true, file.len()));
     refused()
@@ -106,10 +142,12 @@ fn taken(
 }
 
 // A file that is not there is a new chip.
-fn unopened(name: &[u8]) -> Loaded {
+fn unopened(name: &[u8]) -> Loaded
+    ensures { λ r. ⌜ r .kept ≡ false ⌝ }
+{
     if os::errno() == libc::ENOENT {
         told(name, b" is not there: a new chip, which is saved to it");
-        return came_in(chip::new());
+        return without_chip();
     }
     broken_told(name);
     refused()
@@ -138,7 +176,7 @@ pub fn load(
     security: &mut [u8; 2048],
 ) -> Loaded {
     if name.len() == 0 {
-        return came_in(chip::new());
+        return without_chip();
     }
     if filing::has_part(name) {
         told(

@@ -1,5 +1,6 @@
 // What is said on standard error.
 use filing::front_written;
+use rules::Chip;
 use writing::Row;
 
 fn say(text: &[u8]) {
@@ -11,6 +12,24 @@ pub fn told(name: &[u8], text: &[u8]) {
     say(b"programmer: ");
     say(name);
     say(text);
+    say(b"\n");
+}
+
+// Which part a session's chip is, and whether that is the part in its file.
+pub fn part_told(c: Chip, kept: bool, name: &[u8]) {
+    let rest = c.rest;
+    say(b"programmer: part ");
+    if rest.flags.ba {
+        say(b"SST26WF016BA: ");
+    } else {
+        say(b"SST26WF016B, the old one: ");
+    }
+    if kept {
+        say(b"the chip in ");
+        say(name);
+    } else {
+        say(b"a new chip");
+    }
     say(b"\n");
 }
 

@@ -1,4 +1,4 @@
-/* Fulkibono: the SST26WF016B flash chip for firmware benches.
+/* Fulkibono: the SST26WF016BA flash chip, and the old part SST26WF016B, for firmware benches.
  *
  * Build the library with `rt staticlib bench`, and link target/staticlib/libbench.a, behind the objects that call it. It is code for
  * x86-64, and needs at most memcpy, memmove and memset of the C library. No other header belongs to it.
@@ -31,8 +31,9 @@ extern "C" {
 #endif
 
 /* Rises with what this header declares. 1 had records of 297 bytes; 2 had no burst reads, and its records are the same chips here; 3 had no
- * image files (fulkibono_image_write, fulkibono_image_read, numbers 14 and 15), and its records are the same. */
-#define FULKIBONO_VERSION 4
+ * image files (fulkibono_image_write, fulkibono_image_read, numbers 14 and 15), and its records are the same; 4 had the old part alone: its records
+ * and its files are old parts here, and its fulkibono_new is fulkibono_new_old. */
+#define FULKIBONO_VERSION 5
 
 /* ---- sizes, in bytes */
 
@@ -61,7 +62,7 @@ enum fulkibono_number {
     FULKIBONO_NOTHING_RUNS = 12, /* completion with nothing running */
     FULKIBONO_NO_SUCH_BURST = 13, /* a C0 byte above 03 */
     FULKIBONO_AT_WORK = 14,      /* writing an image: a busy or suspended chip */
-    FULKIBONO_WRONG_FILE = 15    /* reading one: a wrong mark, sum, page number, code, flag bit 7 or register that breaks the well-formed rules */
+    FULKIBONO_WRONG_FILE = 15    /* reading one: a wrong mark, sum, page number, code or register that breaks the well-formed rules */
 };
 
 /* What each refusal leaves:
@@ -81,7 +82,7 @@ enum fulkibono_number {
 #define FULKIBONO_PLACE_SUSPENDED_NUMBER 280 /* the number of what is suspended, 8 bytes */
 #define FULKIBONO_PLACE_RUNNING_KIND 288     /* the kind of what runs, 1 byte */
 #define FULKIBONO_PLACE_SUSPENDED_KIND 289   /* the kind of what is suspended, 1 byte */
-#define FULKIBONO_PLACE_FLAGS 290            /* the flags, 1 byte: the bits below, bit 7 is 0 */
+#define FULKIBONO_PLACE_FLAGS 290            /* the flags, 1 byte: the bits below */
 #define FULKIBONO_PLACE_BURST 291            /* the byte that sets the burst, 0 to 3: 8, 16, 32 or 64 bytes */
 #define FULKIBONO_PLACE_RESERVED 292         /* 0, to the end */
 
@@ -92,6 +93,7 @@ enum fulkibono_number {
 #define FULKIBONO_FLAG_WPLD 16               /* protection lock-down */
 #define FULKIBONO_FLAG_SEC 32                /* Security ID locked */
 #define FULKIBONO_FLAG_RESET_ENABLE 64       /* a 99 is taken next */
+#define FULKIBONO_FLAG_BA 128                /* the part is SST26WF016BA; 0: the old one, SST26WF016B. No event changes it */
 
 /* What runs or is suspended, and its number. */
 #define FULKIBONO_KIND_NOTHING 0             /* number 0 */
@@ -108,7 +110,7 @@ enum fulkibono_number {
  * every later one: what is new then comes into the reserved bytes, where 0 means what every chip is today.
  *
  * Bytes that are no record's code get refusal 1: another length, a kind above 8, a number other than 0 with kinds 0, 3 and 6 or above 3
- * with kind 7, flags with bit 7, a burst's byte above 3, a reserved byte other than 0. So do codes of records that are not well-formed.
+ * with kind 7, a burst's byte above 3, a reserved byte other than 0. So do codes of records that are not well-formed.
  *
  * Protection blocks are numbered in the order of document 01's table, from 0:
  *     number      first place               size     write lock               read lock
@@ -125,8 +127,12 @@ enum fulkibono_number {
  * A part of length 0 may have any pointer here, NULL too: the library's code is compiled without an assumption on it.
  */
 
-/* A new chip's record. Gives 0; or 1 where record_len is not FULKIBONO_RECORD_SIZE. */
+/* A new chip's record: a BA, whose IOC is 1 at power-up and after a reset, so that 6B, 32 and EC are taken at once and 35 reads 0A.
+ * Gives 0; or 1 where record_len is not FULKIBONO_RECORD_SIZE. */
 uint8_t fulkibono_new(uint8_t *record, size_t record_len);
+
+/* The same of the old part, whose IOC is 0 then: 6B, 32 and EC get 7 until 01 sets it, and 35 reads 08. In all else the two parts are alike. */
+uint8_t fulkibono_new_old(uint8_t *record, size_t record_len);
 
 /* A frame: the bytes sent while CE# is low. The reply is written to `reply`, and to `marks` a 1 for each byte that is known and a 0
  * for each that is not; both have the same length. A frame without a reply fills the reply with FF and the marks with 0.
@@ -140,7 +146,8 @@ uint8_t fulkibono_completion(uint8_t *record, size_t record_len, uint8_t *array,
 /* A power cut after k bytes of the running operation, and power-up. Gives 0 or 1.
  * The first k bytes of the operation's range are finished, in rising order, the others unchanged; all are if k is larger. The range of
  * 02, 32 and A5 is the whole page. 85, 01 and E8 have no range: with k of 0 they are lost, with 1 or more they act fully, before the
- * power-up (which sets IOC to 0 and the protection register to 5555FFFFFFFF: of 01 only WPEN is left, of E8 the permanent register).
+ * power-up (which sets IOC to the part's value and the protection register to 5555FFFFFFFF: of 01 only WPEN is left, of E8 the permanent
+ * register).
  * With nothing running k says nothing; suspended work is dropped, its target unchanged, and the chip powers up: 0. */
 uint8_t fulkibono_power_cut(uint8_t *record, size_t record_len, uint8_t *array, size_t array_len, uint8_t *security, size_t security_len,
                             uint64_t k);
@@ -182,6 +189,11 @@ typedef struct fulkibono_record {
 FULKIBONO_INLINE void fulkibono_make(fulkibono_record *chip)
 {
     (void)fulkibono_new(chip->bytes, FULKIBONO_RECORD_SIZE);
+}
+
+FULKIBONO_INLINE void fulkibono_make_old(fulkibono_record *chip)
+{
+    (void)fulkibono_new_old(chip->bytes, FULKIBONO_RECORD_SIZE);
 }
 
 /* `array` has FULKIBONO_ARRAY bytes and `security` FULKIBONO_SECURITY; `reply` and `marks` have reply_len each. */

@@ -21,6 +21,7 @@ pub const FLAG_WPEN: u8 = 8;
 pub const FLAG_WPLD: u8 = 16;
 pub const FLAG_SEC: u8 = 32;
 pub const FLAG_RESET_ENABLE: u8 = 64;
+pub const FLAG_BA: u8 = 128;
 
 pub const KIND_NOTHING: u8 = 0;
 pub const KIND_SECTOR_ERASE: u8 = 1;

@@ -4,15 +4,15 @@ use mathlib.Core.Bool.{Bool, true, false}
 use mathlib.Core.List.{List, [], _∷_}
 use Rattle.rules.specs.declared.Rest.{Rest}
 use Rattle.rules.specs.declared.Work.the-variants.{Nothing, EraseSector, EraseBlock, EraseArray, ProgramPage, ProgramSecurity, LockSecurity, WriteConfiguration, AddPermanent}
-use Rattle.rules.specs.Fields.{withSqi, withWel, withIoc, withWpen, withWpld, withSec, withEnable, flagsNumber}
+use Rattle.rules.specs.Fields.{withSqi, withWel, withIoc, withWpen, withWpld, withSec, withEnable, withBa, withFlags, noFlags, flagsNumber}
 use Rattle.rules.specs.Commands.{newChip}
 use Rattle.numbering.specs.Numbering.{kindOf}
 use Rattle.record_code.specs.Layout.{recordSize, placeOf}
 use Rattle.image.specs.Form.{fileSize}
 
--- the flags' byte where a new chip's record has one flag set
+-- the flags' byte where a record has one flag set
 abbrev pub flagBy : (Bool → Rest → Rest) → ℕ
-flagBy set = flagsNumber (set true (newChip .rest) .flags)
+flagBy set = flagsNumber (set true (withFlags noFlags (newChip .rest)) .flags)
 
 abbrev pub numbers : List ℕ
 numbers =
@@ -43,5 +43,6 @@ numbers =
     ∷ flagBy withWpld
     ∷ flagBy withSec
     ∷ flagBy withEnable
+    ∷ flagBy withBa
     ∷ fileSize
     ∷ []

@@ -8,9 +8,9 @@ const PLACES: usize = 10;
 
 const KINDS: usize = 9;
 
-const FLAGS: usize = 7;
+const FLAGS: usize = 8;
 
-pub const COUNT: usize = 28;
+pub const COUNT: usize = 29;
 
 const NUMBERS: [usize; COUNT] = [
     320,
@@ -40,6 +40,7 @@ const NUMBERS: [usize; COUNT] = [
     16,
     32,
     64,
+    128,
     2148374,
 ];
 
@@ -97,6 +98,7 @@ fn flag_named(r: Row, i: usize) -> Row {
         24 => writing::text(r, b"FLAG_WPLD"),
         25 => writing::text(r, b"FLAG_SEC"),
         26 => writing::text(r, b"FLAG_RESET_ENABLE"),
+        27 => writing::text(r, b"FLAG_BA"),
         _ => writing::text(r, b"IMAGE"),
     }
 }
@@ -113,7 +115,7 @@ pub fn named(r: Row, i: usize) -> Row {
 
 // In Rust a place or a length is a usize, a kind or a flag one byte.
 pub fn typed(r: Row, i: usize) -> Row {
-    if (i < 11) | (i == 27) {
+    if (i < 11) | (i == 28) {
         return writing::text(r, b": usize = ");
     }
     writing::text(r, b": u8 = ")

@@ -25,7 +25,7 @@ meaning n =
     (pick (eqb n 12) (ascii "completion with nothing running")
     (pick (eqb n 13) (ascii "a C0 byte above 03")
     (pick (eqb n 14) (ascii "a busy or suspended chip")
-    (pick (eqb n 15) (ascii "a wrong mark, sum, page number, code, flag bit 7 or register")
+    (pick (eqb n 15) (ascii "a wrong mark, sum, page number, code or register")
     [])))))))))))))))
 
 -- as many bytes of the text as fit, over the first of those lent; the others stay

@@ -81,10 +81,7 @@ pub fn meaning(number: u8, text: &mut [u8]) -> usize
         12 => put_text(text, b"completion with nothing running"),
         13 => put_text(text, b"a C0 byte above 03"),
         14 => put_text(text, b"a busy or suspended chip"),
-        15 => put_text(
-            text,
-            b"a wrong mark, sum, page number, code, flag bit 7 or register",
-        ),
+        15 => put_text(text, b"a wrong mark, sum, page number, code or register"),
         _ => 0,
     }
 }

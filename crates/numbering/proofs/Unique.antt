@@ -8,7 +8,6 @@ use Rattle.numbering.proofs.work_of.Reads as work-of
 use Rattle.numbering.proofs.bit_of.Reads as bit-of
 use Rattle.numbering.proofs.flags_number.Reads as flags-number
 use Rattle.numbering.proofs.flags_of.Reads as flags-of
-use Rattle.numbering.proofs.flags_right.Reads as flags-right
 use Rattle.numbering.proofs.burst_byte.Reads as burst-byte
 use Rattle.numbering.proofs.burst_length.Reads as burst-length
 use Rattle.numbering.proofs.burst_of.Reads as burst-of
@@ -34,9 +33,6 @@ flags-number-one κ a x y r r′ p q = one p q
 
 pub flags-of-one : OneResult flags-of.Post
 flags-of-one κ a x y r r′ p q = one p q
-
-pub flags-right-one : OneResult flags-right.Post
-flags-right-one κ a x y r r′ p q = one p q
 
 pub burst-byte-one : OneResult burst-byte.Post
 burst-byte-one κ a x y r r′ p q = one p q

@@ -4,10 +4,10 @@ use rules::Flags;
 use rules::Work;
 ghost use mathlib.Core.Path.{_≡_};
 ghost use Prim.Native.Nat.{_≤_};
-ghost use lib.Dec.{ltb, leb};
+ghost use lib.Dec.{leb};
 ghost use Rattle.rules.specs.Words.{num};
 ghost use Rattle.rules.specs.Bursts.{burstByte, burstLength, lastBurst, burstOf};
-ghost use Rattle.rules.specs.Fields.{flagsNumber, flagsIn, flagsBound};
+ghost use Rattle.rules.specs.Fields.{flagsNumber, flagsIn};
 ghost use Rattle.numbering.specs.Numbering.{kindOf, numberOf, workRight, workOf};
 
 // ---- works
@@ -92,6 +92,7 @@ pub fn flags_number(f: Flags) -> u64
         + 16 * bit_of(f.wpld)
         + 32 * bit_of(f.sec)
         + 64 * bit_of(f.enable)
+        + 128 * bit_of(f.ba)
 }
 
 pub fn flags_of(x: u8) -> Flags
@@ -105,14 +106,8 @@ pub fn flags_of(x: u8) -> Flags
         wpld: x / 16 % 2 == 1,
         sec: x / 32 % 2 == 1,
         enable: x / 64 % 2 == 1,
+        ba: x / 128 % 2 == 1,
     }
-}
-
-// No bit beyond the flags.
-pub fn flags_right(x: u8) -> bool
-    ensures { λ r. ⌜ r ≡ ltb x flagsBound ⌝ }
-{
-    (x as u64) < 128
 }
 
 // ---- the burst

@@ -22,8 +22,8 @@ page =
     ++ ascii " > over 65536\n"  -- 11
     ++ ascii "done\n"  -- 12
     ++ ascii "cut %n\n"  -- 13
-    ++ ascii "new\n"  -- 14
-    ++ ascii "a new chip, all memory FF\n"  -- 15
+    ++ ascii "new%>a new chip, all memory FF, part BA\n"  -- 14
+    ++ ascii "new old%>a new chip, all memory FF, part old\n"  -- 15
     ++ ascii " ended\n"  -- 16
     ++ ascii " cut after %n of %n\n"  -- 17
     ++ ascii " cut before it acted\n"  -- 18
@@ -46,7 +46,7 @@ page =
     ++ (meaning 11 ++ ascii "\n")  -- 35
     ++ (meaning 12 ++ ascii "\n")  -- 36
     ++ (meaning 13 ++ ascii "\n")  -- 37
-    ++ ascii "\n"  -- 38
+    ++ (meaning 14 ++ ascii "\n")  -- 38
     ++ ascii ", burst of %n\n"  -- 39
     ++ ascii "nothing\n"  -- 40
     ++ ascii "erase of sector %n\n"  -- 41
@@ -105,8 +105,8 @@ page =
     ++ ascii "the suspended range has a write lock\n"  -- 94
     ++ ascii "Security ID work with SEC 1, or into places 000 to 007\n"  -- 95
     ++ ascii "the buffer is not FF, and no program runs or is suspended\n"  -- 96
-    ++ ascii "\n"  -- 97
-    ++ ascii "\n"  -- 98
+    ++ ascii ", part old\n"  -- 97
+    ++ ascii ", part BA\n"  -- 98
     ++ ascii "\n"  -- 99
     ++ ascii "no operation\n"  -- 100
     ++ ascii "enable reset\n"  -- 101
@@ -283,7 +283,7 @@ page =
     ++ ascii "the name of a file\n"  -- 272
     ++ ascii "raw\n"  -- 273
     ++ ascii "the name of a file\n"  -- 274
-    ++ (meaning 14 ++ ascii "\n")  -- 275
+    ++ ascii "old, or # remark\n"  -- 275
     ++ (meaning 15 ++ ascii "\n")  -- 276
     ++ ascii "save \n"  -- 277
     ++ ascii "load \n"  -- 278
@@ -315,11 +315,10 @@ page =
     ++ ascii "page number is %b %b\n"  -- 304
     ++ ascii ", it must be %b %b\n"  -- 305
     ++ ascii ", the body's is %b %b\n"  -- 306
-    ++ ascii "flag bit 7 is set, the flags are %b\n"  -- 307
-    ++ ascii "burst code is %b, 03 is the last\n"  -- 308
-    ++ ascii "permanent %r has a read lock\n"  -- 309
-    ++ ascii "permanent %r is not within protection %r\n"  -- 310
-    ++ ascii " is suspended\n"  -- 311
+    ++ ascii "burst code is %b, 03 is the last\n"  -- 307
+    ++ ascii "permanent %r has a read lock\n"  -- 308
+    ++ ascii "permanent %r is not within protection %r\n"  -- 309
+    ++ ascii " is suspended\n"  -- 310
 
 -- form n with three numbers, behind a row
 unfoldable pub form : ℕ → ℕ → ℕ → ℕ → Row → Row

@@ -23,8 +23,8 @@ pub fn form(r: Row, n: usize, a: u64, b: u64, c: u64) -> Row
 \x20> over 65536\n\
 done\n\
 cut %n\n\
-new\n\
-a new chip, all memory FF\n\
+new%>a new chip, all memory FF, part BA\n\
+new old%>a new chip, all memory FF, part old\n\
 \x20ended\n\
 \x20cut after %n of %n\n\
 \x20cut before it acted\n\
@@ -47,7 +47,7 @@ WEL needed and 0\n\
 20, D8, 02, 32 in a write-locked block; C7 with a write lock set\n\
 completion with nothing running\n\
 a C0 byte above 03\n\
-\n\
+a busy or suspended chip\n\
 , burst of %n\n\
 nothing\n\
 erase of sector %n\n\
@@ -106,8 +106,8 @@ the running range has a write lock\n\
 the suspended range has a write lock\n\
 Security ID work with SEC 1, or into places 000 to 007\n\
 the buffer is not FF, and no program runs or is suspended\n\
-\n\
-\n\
+, part old\n\
+, part BA\n\
 \n\
 no operation\n\
 enable reset\n\
@@ -284,8 +284,8 @@ raw, or the name of a file\n\
 the name of a file\n\
 raw\n\
 the name of a file\n\
-a busy or suspended chip\n\
-a wrong mark, sum, page number, code, flag bit 7 or register\n\
+old, or # remark\n\
+a wrong mark, sum, page number, code or register\n\
 save \n\
 load \n\
 save raw \n\
@@ -316,7 +316,6 @@ sum is %b %b\n\
 page number is %b %b\n\
 , it must be %b %b\n\
 , the body's is %b %b\n\
-flag bit 7 is set, the flags are %b\n\
 burst code is %b, 03 is the last\n\
 permanent %r has a read lock\n\
 permanent %r is not within protection %r\n\

@@ -16,7 +16,7 @@ use Rattle.byte_text.specs.Bytes.{within, letters}
 use Rattle.page.specs.Page.{form}
 use Rattle.describing.specs.Works.{told, work}
 use Rattle.why.specs.Why.{malformedWhy}
-use Rattle.rows.specs.Events.{numbered, below, fits}
+use Rattle.rows.specs.Events.{numbered, below, partOn, fits}
 use Rattle.ordering.specs.declared.Part.{Part}
 use Rattle.ordering.specs.declared.Place.{Place}
 use Rattle.fault_rows.specs.Faults.{lengthRow, faultRow}
@@ -49,7 +49,7 @@ leftRow line f name = nameOn name (numbered line (wordsForm f) 0 0 0)
 
 -- "cannot be opened, there is no such file" and the like
 abbrev pub troubleForm : Trouble → ℕ
-troubleForm Trouble.Nothing = 38
+troubleForm Trouble.Nothing = 99
 troubleForm Trouble.Missing = 286
 troubleForm Trouble.Denied = 287
 troubleForm Trouble.Unopened = 288
@@ -63,33 +63,33 @@ troubleForm Trouble.Taken = 293
 unfoldable pub comparedOn : ℕ → ℕ → Row → Row
 comparedOn n count r = pick (eqb count 0) (form 284 n 0 0 r) (form 285 count 0 0 r)
 
--- "saved" (282) or "loaded", so many bytes
-abbrev pub doneOn : Post → ℕ → ℕ → Row → Row
-doneOn Post.Save n count r = form 282 n 0 0 r
-doneOn Post.Load n count r = form 283 n 0 0 r
-doneOn Post.SaveRaw n count r = form 282 n 0 0 r
-doneOn Post.LoadRaw n count r = form 283 n 0 0 r
-doneOn Post.CompareRaw n count r = comparedOn n count r
+-- "saved" (282) or "loaded", so many bytes; of an image that is loaded, which part it has
+abbrev pub doneOn : Post → Bool → ℕ → ℕ → Row → Row
+doneOn Post.Save ba n count r = form 282 n 0 0 r
+doneOn Post.Load ba n count r = partOn ba (form 283 n 0 0 r)
+doneOn Post.SaveRaw ba n count r = form 282 n 0 0 r
+doneOn Post.LoadRaw ba n count r = form 283 n 0 0 r
+doneOn Post.CompareRaw ba n count r = comparedOn n count r
 
 -- what the system said; what was done; or `refused` and the number
-unfoldable pub answerOn : Post → ℕ → Report → Row → Row
-answerOn f number report r =
+unfoldable pub answerOn : Post → Bool → ℕ → Report → Row → Row
+answerOn f ba number report r =
     pick (troubled (report .trouble)) (form (troubleForm (report .trouble)) 0 0 0 r)
-    (pick (eqb number 0) (doneOn f (report .length) (report .difference .count) r) (form 21 number 0 0 r))
+    (pick (eqb number 0) (doneOn f ba (report .length) (report .difference .count) r) (form 21 number 0 0 r))
 
 -- the answer stands beside the line where there is room, else below it
-unfoldable pub headRow : ℕ → Post → ℕ → Report → List ℕ → Row
-headRow line f number report name =
-    pick (fits (leftRow line f name)) (answerOn f number report (form 7 0 0 0 (leftRow line f name))) (leftRow line f name)
+unfoldable pub headRow : ℕ → Post → Bool → ℕ → Report → List ℕ → Row
+headRow line f ba number report name =
+    pick (fits (leftRow line f name)) (answerOn f ba number report (form 7 0 0 0 (leftRow line f name))) (leftRow line f name)
 
-unfoldable pub secondRow : ℕ → Post → ℕ → Report → List ℕ → Row
-secondRow line f number report name = pick (fits (leftRow line f name)) blank (answerOn f number report (form 1 0 0 0 blank))
+unfoldable pub secondRow : ℕ → Post → Bool → ℕ → Report → List ℕ → Row
+secondRow line f ba number report name = pick (fits (leftRow line f name)) blank (answerOn f ba number report (form 1 0 0 0 blank))
 
 -- ---- the number's words
 
 -- of 1 as for an event; of 14 and 15 those of 02
 unfoldable pub numberForm : ℕ → ℕ
-numberForm n = pick (eqb n 14) 275 (pick (eqb n 15) 276 (24 + min n 13))
+numberForm n = pick (eqb n 15) 276 (24 + min n 14)
 
 unfoldable pub numberRow : Trouble → ℕ → Row
 numberRow t n = pick (troubled t || eqb n 0) blank (below (numberForm n) 0 0 0)
@@ -122,7 +122,7 @@ malformedRow f array security before n =
 
 unfoldable pub workRow : Works → Row
 workRow w =
-    pick (isNothing (w .running)) (form 311 0 0 0 (work (told (w .suspended)) (form 1 0 0 0 blank))) (form 60 0 0 0 (work (told (w .running)) (form 1 0 0 0 blank)))
+    pick (isNothing (w .running)) (form 310 0 0 0 (work (told (w .suspended)) (form 1 0 0 0 blank))) (form 60 0 0 0 (work (told (w .running)) (form 1 0 0 0 blank)))
 
 -- ---- where it is done: the first byte that differs
 
@@ -140,8 +140,8 @@ whyRow f array security before number report =
 
 abbrev pub partRow : Part → Playing → Post → Report → List ℕ → Row
 partRow Part.Remark p f r name = blank
-partRow Part.Head p f r name = headRow (p .bench .line) f (p .number) r name
-partRow Part.Second p f r name = secondRow (p .bench .line) f (p .number) r name
+partRow Part.Head p f r name = headRow (p .bench .line) f (p .bench .chip .rest .flags .ba) (p .number) r name
+partRow Part.Second p f r name = secondRow (p .bench .line) f (p .bench .chip .rest .flags .ba) (p .number) r name
 partRow Part.Bytes p f r name = blank
 partRow Part.More p f r name = blank
 partRow Part.Configuration p f r name = blank

@@ -41,7 +41,7 @@ fn trouble_form(t: Trouble) -> usize
     ensures { λ r. ⌜ r ≡ troubleForm t ⌝ }
 {
     match t {
-        Trouble::Nothing => 38,
+        Trouble::Nothing => 99,
         Trouble::Missing => 286,
         Trouble::Denied => 287,
         Trouble::Unopened => 288,
@@ -62,20 +62,20 @@ fn compared_on(r: Row, length: usize, count: usize) -> Row
     rows::form(r, 285, count as u64, 0, 0)
 }
 
-fn done_on(r: Row, f: Post, length: usize, count: usize) -> Row
-    ensures { λ q. ⌜ q ≡ doneOn f length count r ⌝ }
+fn done_on(r: Row, f: Post, ba: bool, length: usize, count: usize) -> Row
+    ensures { λ q. ⌜ q ≡ doneOn f ba length count r ⌝ }
 {
     match f {
         Post::Save => rows::form(r, 282, length as u64, 0, 0),
-        Post::Load => rows::form(r, 283, length as u64, 0, 0),
+        Post::Load => rows::part(rows::form(r, 283, length as u64, 0, 0), ba),
         Post::SaveRaw => rows::form(r, 282, length as u64, 0, 0),
         Post::LoadRaw => rows::form(r, 283, length as u64, 0, 0),
         Post::CompareRaw => compared_on(r, length, count),
     }
 }
 
-fn answer_on(r: Row, f: Post, number: u8, report: Report) -> Row
-    ensures { λ q. ⌜ q ≡ answerOn f number report r ⌝ }
+fn answer_on(r: Row, f: Post, ba: bool, number: u8, report: Report) -> Row
+    ensures { λ q. ⌜ q ≡ answerOn f ba number report r ⌝ }
 {
     let t = report.trouble;
     let d = report.difference;
@@ -84,31 +84,31 @@ fn answer_on(r: Row, f: Post, number: u8, report: Report) -> Row
         return rows::form(r, n, 0, 0, 0);
     }
     if number == 0 {
-        return done_on(r, f, report.length, d.count);
+        return done_on(r, f, ba, report.length, d.count);
     }
     rows::form(r, 21, number as u64, 0, 0)
 }
 
 // The line, and beside it, where there is room, the answer.
-pub fn head(line: u64, f: Post, number: u8, report: Report, name: &[u8]) -> Row
-    ensures { λ q. ⌜ q ≡ headRow line f number report (now (name .entry)) ⌝ }
+pub fn head(line: u64, f: Post, ba: bool, number: u8, report: Report, name: &[u8]) -> Row
+    ensures { λ q. ⌜ q ≡ headRow line f ba number report (now (name .entry)) ⌝ }
 {
     let l = left(line, f, name);
     if rows::fits(l) {
         let r = rows::form(l, 7, 0, 0, 0);
-        return answer_on(r, f, number, report);
+        return answer_on(r, f, ba, number, report);
     }
     l
 }
 
 // The answer that found no room.
-pub fn second(line: u64, f: Post, number: u8, report: Report, name: &[u8]) -> Row
-    ensures { λ q. ⌜ q ≡ secondRow line f number report (now (name .entry)) ⌝ }
+pub fn second(line: u64, f: Post, ba: bool, number: u8, report: Report, name: &[u8]) -> Row
+    ensures { λ q. ⌜ q ≡ secondRow line f ba number report (now (name .entry)) ⌝ }
 {
     let l = left(line, f, name);
     if rows::fits(l) {
         return rows::empty();
     }
     let r = rows::plain(1, 0, 0, 0);
-    answer_on(r, f, number, report)
+    answer_on(r, f, ba, number, report)
 }

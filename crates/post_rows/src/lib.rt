@@ -19,11 +19,12 @@ fn part_row(part: Part, p: Playing, f: Post, r: Report, name: &[u8]) -> Row
 {
     let bench = p.bench;
     let before = p.before;
+    let ba = bench.chip.rest.flags.ba;
     let t = r.trouble;
     match part {
         Part::Remark => rows::empty(),
-        Part::Head => heads::head(bench.line, f, p.number, r, name),
-        Part::Second => heads::second(bench.line, f, p.number, r, name),
+        Part::Head => heads::head(bench.line, f, ba, p.number, r, name),
+        Part::Second => heads::second(bench.line, f, ba, p.number, r, name),
         Part::Bytes => rows::empty(),
         Part::More => rows::empty(),
         Part::Configuration => rows::empty(),

@@ -16,9 +16,8 @@ fn number_form(number: u8) -> usize
     ensures { λ r. ⌜ r ≡ numberForm number ⌝ }
 {
     match number {
-        14 => 275,
         15 => 276,
-        _ => 24 + smaller(number as usize, 13),
+        _ => 24 + smaller(number as usize, 14),
     }
 }
 
@@ -86,7 +85,7 @@ fn at_work(w: Works) -> Row
     let r = rows::plain(1, 0, 0, 0);
     if blocks::is_nothing(run) {
         let q = rows::work(r, aside);
-        return rows::form(q, 311, 0, 0, 0);
+        return rows::form(q, 310, 0, 0, 0);
     }
     let q = rows::work(r, run);
     rows::form(q, 60, 0, 0, 0)

@@ -3,8 +3,10 @@
 use check::same;
 use keeping::told;
 
-// What the words so far ask for: where the name of the chip's file stands among them (0: nowhere), and whether the next word is that name.
+// What the words so far ask for: the part that a new chip is, where the name of the chip's file stands among them (0: nowhere), and whether the next word is
+// that name.
 struct Session {
+    ba: bool,
     disguise: bool,
     raw: bool,
     file: usize,
@@ -52,6 +54,10 @@ fn usage_told() {
     );
     io::write_all(
         2,
+        b"  --old                       a new chip of the sessions behind it is the old part, SST26WF016B; one in a file stays what it is\n",
+    );
+    io::write_all(
+        2,
         b"  --identity-of-sst26vf016b   the sessions behind it show the sibling's identity\n",
     );
 }
@@ -65,25 +71,26 @@ fn wrong_told(s: Session, word: &[u8], text: &[u8]) -> Session {
 }
 
 // On the chip of a file, or on a new one, all FF, where the file has no name; false where it cannot be read or saved.
-fn served(fd: i32, disguise: bool, raw: bool, name: &[u8]) -> bool {
+fn served(s: Session, fd: i32, name: &[u8]) -> bool {
     let mut array = [255u8; 2097152];
     let mut security = [255u8; 2048];
-    let came = keeping::load(raw, name, &mut array, &mut security);
+    let came = keeping::load(s.raw, name, &mut array, &mut security);
     if !came.right {
         return false;
     }
-    let old = came.chip;
-    let c = sessions::serve(fd, old, disguise, &mut array, &mut security);
-    keeping::save(raw, name, c, &array, &security)
+    let before = keeping::chip_of(came, s.ba);
+    keeping::part_told(before, came.kept, name);
+    let c = sessions::serve(fd, before, s.disguise, &mut array, &mut security);
+    keeping::save(s.raw, name, c, &array, &security)
 }
 
 fn descriptor_served(s: Session, fd: i32) -> bool {
     if s.file == 0 {
-        return served(fd, s.disguise, s.raw, b"");
+        return served(s, fd, b"");
     }
     let mut name = io::buffer();
     let n = os::arg(s.file, &mut name);
-    served(fd, s.disguise, s.raw, &name[..n])
+    served(s, fd, &name[..n])
 }
 
 fn session_served(s: Session, word: &[u8]) -> Session {
@@ -121,6 +128,10 @@ fn word_taken(s: Session, i: usize, word: &[u8]) -> Session {
         next.disguise = true;
         return next;
     }
+    if same(word, b"--old") {
+        next.ba = false;
+        return next;
+    }
     if same(word, b"--chip") {
         next.raw = false;
         next.naming = true;
@@ -146,6 +157,7 @@ fn argument_taken(s: Session, i: usize) -> Session {
 // Up to the first word that is wrong.
 fn arguments_taken(n: usize) -> Session {
     let mut s = Session {
+        ba: true,
         disguise: false,
         raw: false,
         file: 0,

@@ -3,22 +3,23 @@
 use Prim.Native.Nat.{ℕ, _+_, _-_, _^_, _≤_, _<_}
 use Prim.Native.String.{String}
 use mathlib.Core.Path.{_≡_, refl, sym, ap, _∙_}
-use mathlib.Core.Bool.{true, _&&_}
+use mathlib.Core.Bool.{Bool, true, not, _&&_, _||_}
 use mathlib.Core.List.{List, _++_}
 use native.Mathlib.Omega.{arith}
 use lib.Dec.{eqb, ltb, leb, lit<}
 use lib.ListN.{length, getD, take, drop, take-append-drop, length-append, length-drop}
 use lib.Seq.{take-all, take-at, drop-append-add, drop-drop}
-use borrow.Author.Tests.{eq-eqb, lt-ltb, le-leb, eqb-true, ltb-true, leb-true}
+use borrow.Author.Tests.{eq-eqb, le-leb, le-ltb, eqb-true, leb-true, not-true}
 use Rattle.rules.specs.declared.Chip.{Chip}
 use Rattle.rules.specs.declared.Rest.{Rest}
 use Rattle.rules.specs.Bursts.{burstByte, lastBurst, burstOf}
-use Rattle.rules.specs.Fields.{locksOf, worksOf, restOf, chipOf, flagsNumber, flagsIn, flagsBound}
-use Rattle.rules.proofs.Bools.{and-split, and-both}
+use Rattle.rules.specs.Fields.{locksOf, worksOf, restOf, chipOf, flagsNumber, flagsIn}
+use Rattle.rules.specs.Words.{bit}
+use Rattle.rules.proofs.Bools.{and-split, and-both, upto, upto-at}
 use Rattle.rules.proofs.Fields.{flags-back, flags-kept, burst-back, burst-kept}
 use Rattle.numbering.specs.Numbering.{kindOf, numberOf, workRight, workOf}
 use Rattle.numbering.proofs.Works.{work-back, work-small, work-kept}
-use Rattle.record_code.specs.Layout.{placeOf, sizeOf, recordSize, bytes, numberAt, fieldIn, restCode, code, restIn, isCode, NothingReserved, chipIn, decode, TypedRest, Typed}
+use Rattle.record_code.specs.Layout.{placeOf, sizeOf, recordSize, bytes, numberAt, fieldIn, restCode, code, restIn, isCode, NothingReserved, chipIn, decode, TypedRest, Typed, PartIn, NewCodes}
 use Rattle.record_code.proofs.Laws.{number-past, number-bytes, bytes-number, bytes-none, parts}
 
 -- the page and what stands behind it
@@ -67,7 +68,6 @@ module _ (l : List ℕ) (r : Rest) (h : Holds l r) where
         h .suspended-kind,
         h .suspended-number,
         work-back (r .works .suspended) .0,
-        lt-ltb (fieldIn l "flags") flagsBound (rw (h .flags) (flags-back (r .flags) .0)),
         le-leb (fieldIn l "burst") lastBurst (rw (h .burst) (burst-back (r .burst) .0)),
         eq-eqb (fieldIn l "reserved") 0 (h .reserved),
       )
@@ -162,13 +162,20 @@ pub known-length : (l : List ℕ) → isCode l ≡ true → length l ≡ recordS
 unfolding isCode
 known-length l e = eqb-true (length l) recordSize (and-split (eqb (length l) recordSize) _ e .0)
 
-known-holds : (l : List ℕ) → isCode l ≡ true → Holds l (restIn l)
+known-none : (l : List ℕ) → isCode l ≡ true → fieldIn l "reserved" ≡ 0
+unfolding isCode
+known-none l e =
+    let w = workRight (fieldIn l "running kind") (fieldIn l "running number") && workRight (fieldIn l "suspended kind") (fieldIn l "suspended number") in
+    let z = and-split (w && leb (fieldIn l "burst") lastBurst) (eqb (fieldIn l "reserved") 0) (and-split (eqb (length l) recordSize) _ e .1) in
+    eqb-true (fieldIn l "reserved") 0 (z .1)
+
+known-holds : (l : List ℕ) → ((i : ℕ) → getD l i 0 < 256) → isCode l ≡ true → Holds l (restIn l)
 unfolding isCode restIn
-known-holds l e =
+known-holds l small e =
     let z = and-split _ (eqb (fieldIn l "reserved") 0) (and-split (eqb (length l) recordSize) _ e .1) in
     let b = and-split _ (leb (fieldIn l "burst") lastBurst) (z .0) in
-    let f = and-split _ (ltb (fieldIn l "flags") flagsBound) (b .0) in
-    let w = and-split (workRight (fieldIn l "running kind") (fieldIn l "running number")) _ (f .0) in
+    let f = small (placeOf "flags") in
+    let w = and-split (workRight (fieldIn l "running kind") (fieldIn l "running number")) _ (b .0) in
     let w₁ = work-kept (fieldIn l "running number") (fieldIn l "running kind") (w .0) in
     let w₂ = work-kept (fieldIn l "suspended number") (fieldIn l "suspended kind") (w .1) in
     record {
@@ -178,13 +185,13 @@ known-holds l e =
       suspended-number = sym (w₂ .1);
       running-kind = sym (w₁ .0);
       suspended-kind = sym (w₂ .0);
-      flags = sym (flags-kept (fieldIn l "flags") (ltb-true (fieldIn l "flags") flagsBound (f .1)));
+      flags = sym (flags-kept (fieldIn l "flags") (omega arith));
       burst = sym (burst-kept (fieldIn l "burst") (leb-true (fieldIn l "burst") lastBurst (b .1)));
-      reserved = eqb-true (fieldIn l "reserved") 0 (z .1);
+      reserved = known-none l e;
     }
 
 pub known-reserved : (l : List ℕ) → isCode l ≡ true → NothingReserved l
-known-reserved l e = bytes-none l (placeOf "reserved") (sizeOf "reserved") (known-length l e) (known-holds l e .reserved)
+known-reserved l e = bytes-none l (placeOf "reserved") (sizeOf "reserved") (known-length l e) (known-none l e)
 
 -- a page changed in place leaves them
 pub reserved-kept : (p l : List ℕ) → length p ≡ sizeOf "page" → NothingReserved l → NothingReserved (p ++ drop (sizeOf "page") l)
@@ -197,4 +204,28 @@ reserved-kept p l size h =
 pub code-decode : (l : List ℕ) → ((i : ℕ) → getD l i 0 < 256) → isCode l ≡ true → code (chipIn l) ≡ l
 unfolding code chipIn
 code-decode l small e =
-    ap (λ (xs : List ℕ). take 256 l ++ xs) (holds-bytes l (restIn l) (known-holds l e) small (known-length l e)) ∙ take-append-drop 256 l
+    ap (λ (xs : List ℕ). take 256 l ++ xs) (holds-bytes l (restIn l) (known-holds l small e) small (known-length l e)) ∙ take-append-drop 256 l
+
+-- ---- the part
+
+low : upto 128 (λ x. not (bit 7 x)) ≡ true
+unfolding bit
+low = refl
+
+high : upto 256 (λ x. ltb x 128 || bit 7 x) ≡ true
+unfolding bit
+high = refl
+
+pub part-in : (l : List ℕ) → PartIn l
+unfolding restIn
+part-in l =
+    record {
+      old-part = λ h. not-true _ (upto-at 128 (λ x. not (bit 7 x)) low (fieldIn l "flags") h);
+      ba-part = λ h k.
+          let e = le-ltb (fieldIn l "flags") 128 h in
+          ap (λ (b : Bool). b || bit 7 (fieldIn l "flags")) (sym e) ∙ upto-at 256 (λ x. ltb x 128 || bit 7 x) high (fieldIn l "flags") k;
+    }
+
+pub new-codes : NewCodes
+unfolding bytes restCode
+new-codes = record { old-chip = refl; ba-chip = refl }

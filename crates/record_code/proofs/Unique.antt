@@ -8,7 +8,6 @@ use denote.Ref.{RefT}
 use Rattle.rules.specs.declared.Rest.{Rest}
 use Rattle.record_code.proofs.is_code.Reads as is-code
 use Rattle.record_code.proofs.rest_in.Reads as rest-in
-use Rattle.record_code.proofs.put_new.Reads as put-new
 use Rattle.record_code.proofs.put_rest.Reads as put-rest
 use Rattle.record_code.proofs.put_idle.Reads as put-idle
 use Rattle.record_code.proofs.is_idle.Reads as is-idle
@@ -19,9 +18,6 @@ is-code-one κ a x y r r′ p q = p ∙ sym q
 
 pub rest-in-one : (κ : List ℕ × Unit {0}) (a x y : RefT (List ℕ) × Unit {0}) (r r′ : Rest) → rest-in.Post κ a r x → rest-in.Post κ a r′ y → r ≡ r′
 rest-in-one κ a x y r r′ p q = p ∙ sym q
-
-pub put-new-one : (κ : List ℕ × Unit {0}) (a x y : RefT (List ℕ) × Unit {0}) → put-new.Post κ a tt x → put-new.Post κ a tt y → x .0 .now ≡ y .0 .now
-put-new-one κ a x y p q = p ∙ sym q
 
 pub put-rest-one : (κ : List ℕ × Unit {0}) (a x y : RefT (List ℕ) × (Rest × Unit {0})) → put-rest.Post κ a tt x → put-rest.Post κ a tt y → x .0 .now ≡ y .0 .now
 put-rest-one κ a x y p q = p ∙ sym q

@@ -1,16 +1,17 @@
 -- A chip record as 320 bytes: what crosses the boundary to other languages, fit to be stored. Numbers stand low byte first.
-use Prim.Native.Nat.{ℕ, zero, suc, _+_, _*_, _/_, _%_, _^_, _<_}
+use Prim.Native.Nat.{ℕ, zero, suc, _+_, _*_, _/_, _%_, _^_, _≤_, _<_}
 use Prim.Native.String.{String, compare}
 use mathlib.Core.Path.{_≡_}
-use mathlib.Core.Bool.{Bool, _&&_}
+use mathlib.Core.Bool.{Bool, true, false, _&&_}
 use mathlib.Core.List.{List, [], _∷_, _++_}
-use lib.Dec.{eqb, isEq, ltb, leb}
+use lib.Dec.{eqb, isEq, leb}
 use lib.ListN.{length, getD, take, drop}
 use Rattle.rules.specs.declared.Chip.{Chip}
 use Rattle.rules.specs.declared.Rest.{Rest}
 use Rattle.rules.specs.Bursts.{burstByte, lastBurst, burstOf}
-use Rattle.rules.specs.Fields.{locksOf, worksOf, restOf, chipOf, flagsNumber, flagsIn, flagsBound}
+use Rattle.rules.specs.Fields.{locksOf, worksOf, restOf, chipOf, flagsNumber, flagsIn}
 use Rattle.rules.specs.Words.{pick}
+use Rattle.rules.specs.Commands.{newChip, newOldChip}
 use Rattle.numbering.specs.Numbering.{kindOf, numberOf, workRight, workOf}
 
 -- ---- the layout
@@ -102,13 +103,12 @@ code c = c .buffer ++ restCode (c .rest)
 
 -- ---- the record of a code
 
--- two works that are right, no bit beyond the flags, a byte that sets a burst, and 0 in the reserved bytes
+-- two works that are right, a byte that sets a burst, and 0 in the reserved bytes; every byte is some flags'
 unfoldable pub isCode : List ℕ → Bool
 isCode l =
     eqb (length l) recordSize
     && (workRight (fieldIn l "running kind") (fieldIn l "running number")
     && workRight (fieldIn l "suspended kind") (fieldIn l "suspended number")
-    && ltb (fieldIn l "flags") flagsBound
     && leb (fieldIn l "burst") lastBurst
     && eqb (fieldIn l "reserved") 0)
 
@@ -141,3 +141,15 @@ pub record TypedRest (r : Rest) : Type 0 where
 pub record Typed (c : Chip) : Type 0 where
   pub buffer : length (c .buffer) ≡ 256
   pub rest : TypedRest (c .rest)
+
+-- ---- the part, 02, W-204
+
+-- a stored record with 0 at the part's place, the highest bit of the flags, is an old part
+pub record PartIn (l : List ℕ) : Type 0 where
+  pub old-part : fieldIn l "flags" < 128 → restIn l .flags .ba ≡ false
+  pub ba-part : 128 ≤ fieldIn l "flags" → fieldIn l "flags" < 256 → restIn l .flags .ba ≡ true
+
+-- a new chip of the old part: the protection register and 0 in every other place; a BA has IOC and the part besides
+pub record NewCodes : Type 0 where
+  pub old-chip : restCode (newOldChip .rest) ≡ bytes 8 0x5555_FFFF_FFFF ++ bytes 56 0
+  pub ba-chip : restCode (newChip .rest) ≡ bytes 8 0x5555_FFFF_FFFF ++ bytes 26 0 ++ 0x84 ∷ bytes 29 0

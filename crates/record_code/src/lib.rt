@@ -3,7 +3,6 @@
 use numbering::burst_byte;
 use numbering::flags_number;
 use numbering::flags_of;
-use numbering::flags_right;
 use numbering::kind_of;
 use numbering::number_of;
 use rules::Burst;
@@ -18,7 +17,6 @@ ghost use Prim.Native.Nat.{_+_, _*_, _≤_};
 ghost use lib.Dec.{eqb, leb};
 ghost use lib.ListN.{length, take, drop};
 ghost use Rattle.rules.specs.Bursts.{lastBurst, burstOf};
-ghost use Rattle.rules.specs.Commands.{newChip};
 ghost use Rattle.rules.specs.Fields.{worksOf, restOf};
 ghost use Rattle.rules.specs.declared.Work.the-variants.{Nothing};
 ghost use Rattle.numbering.specs.Numbering.{workRight, workOf};
@@ -38,15 +36,6 @@ fn put_number(coded: &mut [u8], at: usize, n: usize, x: u64)
         left = left / 256;
         i += 1;
     }
-}
-
-// What stands behind the page becomes a new chip's.
-pub fn put_new(coded: &mut [u8])
-    requires { ⌜ length (now coded) ≡ 320 ⌝ }
-    ensures { λ _. ⌜ now (coded .exit) ≡ take 256 (now (coded .entry)) ++ restCode (newChip .rest) ⌝ }
-{
-    put_number(coded, 256, 8, 0x5555_ffff_ffff);
-    put_number(coded, 264, 56, 0);
 }
 
 // What stands behind the page becomes the record's. The reserved bytes are 0 already.
@@ -171,11 +160,7 @@ pub fn is_code(coded: &[u8]) -> bool
     }
     let running = work_right(coded[288], get_word(coded, 272));
     let suspended = work_right(coded[289], get_word(coded, 280));
-    running
-        & suspended
-        & flags_right(coded[290])
-        & burst_right(coded[291])
-        & nothing_reserved(coded)
+    running & suspended & burst_right(coded[291]) & nothing_reserved(coded)
 }
 
 // What the record of the bytes holds behind its page.

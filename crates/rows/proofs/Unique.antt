@@ -4,6 +4,7 @@ use Rattle.rules.proofs.Outcomes.{OneResult}
 use Rattle.rows.proofs.events.plain.Reads as plain
 use Rattle.rows.proofs.events.numbered.Reads as numbered
 use Rattle.rows.proofs.events.below.Reads as below
+use Rattle.rows.proofs.events.part.Reads as part
 use Rattle.rows.proofs.events.sent.Reads as sent
 use Rattle.rows.proofs.events.fits.Reads as fits
 use Rattle.rows.proofs.events.ended.Reads as ended
@@ -25,6 +26,9 @@ numbered-one κ a x y r r′ p q = one p q
 
 pub below-one : OneResult below.Post
 below-one κ a x y r r′ p q = one p q
+
+pub part-one : OneResult part.Post
+part-one κ a x y r r′ p q = one p q
 
 pub sent-one : OneResult sent.Post
 sent-one κ a x y r r′ p q = one p q

@@ -20,6 +20,10 @@ numbered line n a b c = form n a b c (form 0 line 0 0 blank)
 abbrev pub below : ℕ → ℕ → ℕ → ℕ → Row
 below n a b c = form n a b c (form 1 0 0 0 blank)
 
+-- which part the chip is (W-204): BA (98) or the old one
+unfoldable pub partOn : Bool → Row → Row
+partOn ba r = pick ba (form 98 0 0 0 r) (form 97 0 0 0 r)
+
 -- ---- a frame
 
 -- a script's count of bytes stops at 65,537, one more than a frame and a reply can have

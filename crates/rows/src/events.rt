@@ -14,7 +14,7 @@ use writing::pad;
 ghost use mathlib.Core.Path.{_≡_};
 ghost use Rattle.page.specs.Page.{form};
 ghost use Rattle.writing.specs.Rows.{blank};
-ghost use Rattle.rows.specs.Events.{numbered, below, countOn, bytesOn, sentRow, fits, endedOn, cutOn, replyRow, expectedRow, remarkRow, dumpRow, quoted, wordOn};
+ghost use Rattle.rows.specs.Events.{numbered, below, partOn, countOn, bytesOn, sentRow, fits, endedOn, cutOn, replyRow, expectedRow, remarkRow, dumpRow, quoted, wordOn};
 
 // A form on a row of its own.
 pub fn plain(n: usize, a: u64, b: u64, c: u64) -> Row
@@ -37,6 +37,16 @@ pub fn below(n: usize, a: u64, b: u64, c: u64) -> Row
 {
     let r = plain(1, 0, 0, 0);
     form(r, n, a, b, c)
+}
+
+// The part of a chip.
+pub fn part(r: Row, ba: bool) -> Row
+    ensures { λ q. ⌜ q ≡ partOn ba r ⌝ }
+{
+    if ba {
+        return form(r, 98, 0, 0, 0);
+    }
+    form(r, 97, 0, 0, 0)
 }
 
 // ---- a frame

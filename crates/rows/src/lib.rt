@@ -15,6 +15,7 @@ pub use events::ended;
 pub use events::expected;
 pub use events::fits;
 pub use events::numbered;
+pub use events::part;
 pub use events::plain;
 pub use events::remark;
 pub use events::reply;

@@ -4,7 +4,7 @@ use Prim.Native.Nat.{ℕ}
 use Prim.Native.String.{String}
 use mathlib.Core.Path.{_≡_, refl, sym, _∙_}
 use mathlib.Core.Bool.{Bool, true, false, _&&_}
-use mathlib.Core.List.{List, [], _∷_}
+use mathlib.Core.List.{List, [], _∷_, _++_}
 use native.Mathlib.Omega.{arith}
 use lib.Dec.{eqb}
 use borrow.Author.Tests.{eqb-true}
@@ -26,9 +26,14 @@ unfoldable pub failingOf : State → List Case → List String
 failingOf s [] = []
 failingOf s (c ∷ cs) = let rest = failingOf s cs in pick (caseHolds s c) rest (c .sentence ∷ rest)
 
+-- of a section on a chip of each of its parts
+abbrev failingOn : List Bool → Section → List String
+failingOn [] t = []
+failingOn (p ∷ ps) t = quickAfter (newState p) (t .start) (λ s. failingOf s (t .cases)) ++ failingOn ps t
+
 -- of a section: its title where the events in front of it do not fit
 unfoldable pub failing : Section → List String
-failing t = pick (every fits (t .start)) (quickAfter newState (t .start) (λ s. failingOf s (t .cases))) (t .title ∷ [])
+failing t = pick (every fits (t .start)) (failingOn (t .parts) t) (t .title ∷ [])
 
 -- section by section, so that an error shows which one fails
 abbrev pub NoneFails : List Section → Type 0
@@ -61,12 +66,21 @@ cases-hold s (c ∷ cs) r e =
     let h = none-in-front (caseHolds s c) (c .sentence) (failingOf s cs) (failingOf s cs) e in
     case-holds s c r (h .0) next cases-hold s cs r (h .1)
 
-section-holds : (t : Section) → failing t ≡ [] → CasesHold (stateAfter newState (t .start)) (t .cases)
+none-of-both : (xs ys : List String) → xs ++ ys ≡ [] → (xs ≡ []) × (ys ≡ [])
+none-of-both [] ys e = (refl, e)
+none-of-both (x ∷ xs) ys e = absurd (let z : _≡_ {A = ℕ} 0 1 = cc in omega arith)
+
+section-holds : (t : Section) → failing t ≡ [] → Each (λ p. CasesHold (stateAfter (newState p) (t .start)) (t .cases)) (t .parts)
 unfolding failing
-section-holds t e =
-    let k = none-in-front (every fits (t .start)) (t .title) _ [] e in
-    cases-hold (stateAfter newState (t .start)) (t .cases) (after-right newState (t .start) new-right)
-    (sym (after-is newState (t .start) (λ s. failingOf s (t .cases)) new-right (k .0)) ∙ k .1)
+section-holds t e = let k = none-in-front (every fits (t .start)) (t .title) _ [] e in each (t .parts) (k .0) (k .1)
+  where
+    each : (ps : List Bool) → every fits (t .start) ≡ true → failingOn ps t ≡ [] → Each (λ p. CasesHold (stateAfter (newState p) (t .start)) (t .cases)) ps
+    each [] f e = end
+    each (p ∷ ps) f e =
+        let h = none-of-both (quickAfter (newState p) (t .start) (λ s. failingOf s (t .cases))) (failingOn ps t) e in
+        cases-hold (stateAfter (newState p) (t .start)) (t .cases) (after-right (newState p) (t .start) (new-right p))
+        (sym (after-is (newState p) (t .start) (λ s. failingOf s (t .cases)) (new-right p) f) ∙ h .0)
+        next each ps f (h .1)
 
 pub sections-hold : {ts : List Section} → NoneFails ts → SectionsHold ts
 sections-hold end = end

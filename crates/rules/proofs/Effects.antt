@@ -21,8 +21,8 @@ use Rattle.rules.specs.Works.{isErase, isProgram, finished, finish}
 use Rattle.rules.specs.Frames.{frames, find, formOf, opcode, six}
 use Rattle.rules.specs.Reading.{known, unknown, placeCell}
 use Rattle.rules.specs.Programs.{blank, fill}
-use Rattle.rules.specs.Fields.{locksOf, worksOf, restOf, chipOf, noFlags, withProtection, withPermanent, withRunning, withSuspended, withSqi, withWel, withIoc, withWpen, withSec, withEnable, withBurst}
-use Rattle.rules.specs.Commands.{powerUpIoc, powerUpBurst, act, bufferAfter, settled, rested, newChip}
+use Rattle.rules.specs.Fields.{locksOf, worksOf, restOf, chipOf, noFlags, withProtection, withPermanent, withRunning, withSuspended, withSqi, withWel, withIoc, withWpen, withSec, withEnable, withBa, withBurst}
+use Rattle.rules.specs.Commands.{powerUpIoc, powerUpBurst, act, bufferAfter, settled, rested, newOf, newChip, newOldChip}
 use Rattle.rules.specs.Numbers.{State, Frame}
 use Rattle.rules.specs.Machine.{Outcome, frame, completion, powerCut}
 use Rattle.rules.proofs.Bools.{upto, upto-at}
@@ -139,21 +139,24 @@ completion-buffer s e = ap (λ (o : Outcome). o .chip .buffer) (completion-done-
 -- ---- the record after a reset: the protocol, WEL, IOC, the burst, the enable, what runs and what is suspended are as at power-up, and nothing else moves
 
 pub reset-leaves : (s : State) (f : Frame) → frame s f .number ≡ 0 → opcode (f .sent) ≡ 0x99
-    → frame s f .chip ≡ chipOf blank (withSqi false (withWel false (withIoc powerUpIoc (withBurst powerUpBurst (withEnable false (withRunning Work.Nothing (withSuspended Work.Nothing (s .chip .rest))))))))
+    → frame s f .chip ≡ chipOf blank (withSqi false (withWel false (withIoc (powerUpIoc (s .chip .rest .flags .ba)) (withBurst powerUpBurst (withEnable false (withRunning Work.Nothing (withSuspended Work.Nothing (s .chip .rest))))))))
 unfolding formOf find frames
 reset-leaves s f e o =
     ap (λ (q : Outcome). q .chip) (frame-done-whole s f e)
     ∙ ap (λ (x : ℕ). chipOf (bufferAfter (formOf x .kind) (f .sent) (s .chip .buffer)) (act (formOf x .kind) (f .sent) (withEnable false (s .chip .rest)))) o
 
--- ---- the record of a new chip; after a power cut it is that again, but for SEC, WPEN and the permanent register, which stay as the work left them
+-- ---- the record of a new chip, of the old part and of BA; after a power cut it is that of its part again, but for SEC, WPEN and the permanent register, which stay as the work left them
 
-pub new-is : newChip ≡ chipOf blank (restOf (locksOf 0x5555_FFFF_FFFF 0) (worksOf Work.Nothing Work.Nothing) noFlags Burst.Eight)
+pub new-old-is : newOldChip ≡ chipOf blank (restOf (locksOf 0x5555_FFFF_FFFF 0) (worksOf Work.Nothing Work.Nothing) noFlags Burst.Eight)
+new-old-is = refl
+
+pub new-is : newChip ≡ chipOf blank (withBa true (withIoc true (newOldChip .rest)))
 new-is = refl
 
 pub cut-leaves : (s : State) (k : ℕ) → powerCut s k .number ≡ 0
     → let left = pick (ltb 0 k) (settled (s .chip .rest .works .running) (s .chip .rest)) (s .chip .rest) in
     powerCut s k .chip
-    ≡ chipOf blank (withSec (left .flags .sec) (withWpen (left .flags .wpen) (withPermanent (left .locks .permanent) (newChip .rest))))
+    ≡ chipOf blank (withSec (left .flags .sec) (withWpen (left .flags .wpen) (withPermanent (left .locks .permanent) (newOf (left .flags .ba) .rest))))
 cut-leaves s k e = ap (λ (q : Outcome). q .chip) (cut-done-whole s k e)
 
 -- ---- 42, 98 and E8, bit by bit

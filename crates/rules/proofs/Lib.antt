@@ -21,6 +21,7 @@ pub mod Keys
 pub mod Quick
 pub mod Cases
 pub mod Sentences
+pub mod Parts
 pub mod Opcodes
 pub mod Records
 pub mod KeyCases

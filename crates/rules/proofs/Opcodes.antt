@@ -53,44 +53,54 @@ quickNumbers s (f ∷ fs) = quick s (send f) (λ o. o .number ∷ quickNumbers s
 -- what antt computes of a line
 abbrev Computed : Line → Type 0
 Computed l =
-    (every fits (l .start) && every (λ f. fits (send f)) (l .tried) ≡ true) × (quickAfter newState (l .start) (λ s. quickNumbers s (l .tried)) ≡ l .numbers)
+    (every fits (l .start) && every (λ f. fits (send f)) (l .tried) ≡ true) × Each (λ p. quickAfter (newState p) (l .start) (λ s. quickNumbers s (l .tried)) ≡ l .numbers) (l .parts)
 
 computed : Each Computed numbersByOpcode
 unfolding quickNumbers numbersByOpcode inSpi inSqi bit holds wide blocks seek blockOf blockAt writeLocked readLocked finish frames find formOf blank fill pageBuffer securityBuffer reaches reachesFirst commandTests frameChip workedArray workedSecurity completedChip cutChip framed completed cut quick readChip onward quickAfter
 computed =
-    (refl, refl)
-    next (refl, refl)
-    next (refl, refl)
-    next (refl, refl)
-    next (refl, refl)
-    next (refl, refl)
-    next (refl, refl)
-    next (refl, refl)
-    next (refl, refl)
-    next (refl, refl)
-    next (refl, refl)
-    next (refl, refl)
-    next (refl, refl)
-    next (refl, refl)
-    next (refl, refl)
-    next (refl, refl)
-    next (refl, refl)
-    next (refl, refl)
-    next (refl, refl)
-    next (refl, refl)
-    next (refl, refl)
-    next (refl, refl)
-    next (refl, refl)
-    next (refl, refl)
-    next (refl, refl)
-    next (refl, refl)
-    next (refl, refl)
-    next (refl, refl)
-    next (refl, refl)
-    next (refl, refl)
-    next (refl, refl)
-    next (refl, refl)
-    next (refl, refl)
+    (refl, refl next end)
+    next (refl, refl next refl next end)
+    next (refl, refl next end)
+    next (refl, refl next end)
+    next (refl, refl next end)
+    next (refl, refl next end)
+    next (refl, refl next end)
+    next (refl, refl next end)
+    next (refl, refl next end)
+    next (refl, refl next end)
+    next (refl, refl next end)
+    next (refl, refl next end)
+    next (refl, refl next end)
+    next (refl, refl next end)
+    next (refl, refl next end)
+    next (refl, refl next refl next end)
+    next (refl, refl next refl next end)
+    next (refl, refl next refl next end)
+    next (refl, refl next end)
+    next (refl, refl next end)
+    next (refl, refl next end)
+    next (refl, refl next end)
+    next (refl, refl next refl next end)
+    next (refl, refl next refl next end)
+    next (refl, refl next refl next end)
+    next (refl, refl next refl next end)
+    next (refl, refl next refl next end)
+    next (refl, refl next refl next end)
+    next (refl, refl next refl next end)
+    next (refl, refl next refl next end)
+    next (refl, refl next end)
+    next (refl, refl next refl next end)
+    next (refl, refl next refl next end)
+    next (refl, refl next refl next end)
+    next (refl, refl next refl next end)
+    next (refl, refl next refl next end)
+    next (refl, refl next refl next end)
+    next (refl, refl next refl next end)
+    next (refl, refl next refl next end)
+    next (refl, refl next refl next end)
+    next (refl, refl next refl next end)
+    next (refl, refl next refl next end)
+    next (refl, refl next refl next end)
     next end
 
 -- the same of the machine itself
@@ -101,13 +111,20 @@ numbers-are s (f ∷ fs) r h =
     let k = and-split (fits (send f)) (every (λ f. fits (send f)) fs) h in
     ap (λ (ns : List ℕ). step s (send f) .number ∷ ns) (numbers-are s fs r (k .1)) ∙ sym (quick-is s (send f) (λ o. o .number ∷ quickNumbers s fs) r (k .0))
 
-lines-hold : {ls : List Line} → Each Computed ls → Each (λ l. numbersOn (stateAfter newState (l .start)) (l .tried) ≡ l .numbers) ls
+line-holds : (l : Line) (ps : List Bool) → every fits (l .start) ≡ true → every (λ f. fits (send f)) (l .tried) ≡ true
+    → Each (λ p. quickAfter (newState p) (l .start) (λ s. quickNumbers s (l .tried)) ≡ l .numbers) ps
+    → Each (λ p. numbersOn (stateAfter (newState p) (l .start)) (l .tried) ≡ l .numbers) ps
+line-holds l [] f g end = end
+line-holds l (p ∷ ps) f g (e next es) =
+    (numbers-are (stateAfter (newState p) (l .start)) (l .tried) (after-right (newState p) (l .start) (new-right p)) g
+    ∙ sym (after-is (newState p) (l .start) (λ s. quickNumbers s (l .tried)) (new-right p) f)
+    ∙ e)
+    next line-holds l ps f g es
+
+lines-hold : {ls : List Line} → Each Computed ls → Each (λ l. Each (λ p. numbersOn (stateAfter (newState p) (l .start)) (l .tried) ≡ l .numbers) (l .parts)) ls
 lines-hold end = end
 lines-hold (_next_ {x = l} e es) =
-    let k = and-split (every fits (l .start)) (every (λ f. fits (send f)) (l .tried)) (e .0) in
-    (numbers-are (stateAfter newState (l .start)) (l .tried) (after-right newState (l .start) new-right) (k .1)
-    ∙ sym (after-is newState (l .start) (λ s. quickNumbers s (l .tried)) new-right (k .0))
-    ∙ e .1)
+    let k = and-split (every fits (l .start)) (every (λ f. fits (send f)) (l .tried)) (e .0) in line-holds l (l .parts) (k .0) (k .1) (e .1)
     next lines-hold es
 
 pub numbers-by-opcode : NumbersByOpcode

@@ -181,5 +181,5 @@ unfolding stateAfter
 after-right s [] r = r
 after-right s (e ∷ es) r = after-right (left (step s e)) es (stays-right s e r)
 
-pub new-right : stateRight newState ≡ true
-new-right = and-both (and-both new-well-formed refl) refl
+pub new-right : (p : Bool) → stateRight (newState p) ≡ true
+new-right p = and-both (and-both (new-well-formed p) refl) refl

@@ -34,6 +34,7 @@ of-starred =
     next refl
     next refl
     next refl
+    next refl
     next end
 
 of-bursts : NoneFails bursts

@@ -24,7 +24,7 @@ use Rattle.rules.specs.Works.{isNothing, isErase, isProgram, canSuspend,
 use Rattle.rules.specs.Frames.{formOf, opcode, address, securityAddress, six}
 use Rattle.rules.specs.Programs.{blank, fill, securityBuffer, reaches, reachesFirst}
 use Rattle.rules.specs.Fields.{locksOf, worksOf, chipOf, withProtection, withRunning, withFlags, withWel, withEnable}
-use Rattle.rules.specs.Commands.{newChip, act, bufferAfter, settled, rested, bufferRested, afterCut}
+use Rattle.rules.specs.Commands.{newOf, act, bufferAfter, settled, rested, bufferRested, afterCut}
 use Rattle.rules.specs.WellFormed.{numbersRight, locksRight, suspendedRight, besideRight, firstFF, securityRight, bufferRight, worksRight, wellFormed}
 use Rattle.rules.specs.Numbers.{State, first, frameTests, completionTests, cutTests}
 use Rattle.rules.specs.Machine.{frameChip, frame, completedChip, completion, cutChip, powerCut, Event, sends, completes, cuts, step}
@@ -547,10 +547,10 @@ step-well-formed s (sends f) h = well-right _ (frame-well (first (frameTests s f
 step-well-formed s completes h = well-right _ (completed-well (s .chip) (well-of (s .chip) h) (first (completionTests s)))
 step-well-formed s (cuts k) h = well-right _ (cut-well (s .chip) (well-of (s .chip) h) (first (cutTests s)) k)
 
--- a new chip is well-formed
-pub new-well-formed : wellFormed newChip ≡ true
+-- a new chip is well-formed, of either part
+pub new-well-formed : (ba : Bool) → wellFormed (newOf ba) ≡ true
 unfolding locksRight
-new-well-formed = well-right newChip record { registers = registers-of powerUpLocks 0 start; works = at-rest powerUpLocks false blank blank-clean }
+new-well-formed ba = well-right (newOf ba) record { registers = registers-of powerUpLocks 0 start; works = at-rest powerUpLocks false blank blank-clean }
   where
     start : locksRight (locksOf powerUpLocks 0) ≡ true
     start = refl

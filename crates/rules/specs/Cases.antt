@@ -3,6 +3,7 @@ use Prim.Native.Nat.{ℕ, _+_, _-_, _*_}
 use Prim.Native.Char.{code}
 use Prim.Native.String.{String}
 use mathlib.Core.Path.{_≡_}
+use mathlib.Core.Bool.{Bool, true, false}
 use mathlib.Core.List.{List, [], _∷_, _++_}
 use lib.Dec.{eqb, ltb}
 use lib.ListN.{length, getD, replicate}
@@ -14,7 +15,7 @@ use Rattle.rules.specs.Texts.{ascii}
 use Rattle.rules.specs.Blocks.{arraySize, securitySize}
 use Rattle.rules.specs.Works.{arrayRange}
 use Rattle.rules.specs.Bursts.{burstLength}
-use Rattle.rules.specs.Commands.{newChip}
+use Rattle.rules.specs.Commands.{newOf}
 use Rattle.rules.specs.Numbers.{State}
 use Rattle.rules.specs.Machine.{Outcome, Event, sends, completes, cuts, step, left, run}
 
@@ -119,10 +120,13 @@ SEC = 32
 abbrev pub ENABLE : ℕ
 ENABLE = 64
 
+abbrev pub BA : ℕ
+BA = 128
+
 abbrev pub flagsSum : Flags → ℕ
 flagsSum f =
     SQI * num (f .sqi) + WEL * num (f .wel) + IOC * num (f .ioc) + WPEN * num (f .wpen) + WPLD * num (f .wpld) + SEC * num (f .sec)
-    + ENABLE * num (f .enable)
+    + ENABLE * num (f .enable) + BA * num (f .ba)
 
 -- 32 runs as 02 does
 abbrev pub opcodeOf : Work → ℕ
@@ -195,20 +199,31 @@ infixl 20 _gives_
 abbrev pub _gives_ : Asked → List Seen → Case
 a gives ss = record { sentence = a .sentence; events = a .events; seen = ss }
 
--- cases of one part of 01, on the chip that a new one is after some events
+-- the part that a new chip is: the old one, BA, or each of the two
+abbrev pub old : List Bool
+old = false ∷ []
+
+abbrev pub ba : List Bool
+ba = true ∷ []
+
+abbrev pub either : List Bool
+either = false ∷ true ∷ []
+
+-- cases of one part of a paper, on what a new chip is after some events
 pub record Section : Type 0 where
+  pub parts : List Bool
   pub title : String
   pub start : List Event
   pub cases : List Case
 
-abbrev pub section : String → String → List Case → Section
-section t start cs = record { title = t; start = events start; cases = cs }
+abbrev pub section : List Bool → String → String → List Case → Section
+section ps t start cs = record { parts = ps; title = t; start = events start; cases = cs }
 
 -- ---- the statement over a table
 
--- the chip new, the array and the Security ID FF
-abbrev pub newState : State
-newState = record { chip = newChip; array = written arraySize (λ i. 0xFF); security = written securitySize (λ i. 0xFF) }
+-- a chip of a part, new, the array and the Security ID FF
+abbrev pub newState : Bool → State
+newState p = record { chip = newOf p; array = written arraySize (λ i. 0xFF); security = written securitySize (λ i. 0xFF) }
 
 unfoldable pub stateAfter : State → List Event → State
 stateAfter s [] = s
@@ -229,7 +244,7 @@ abbrev pub CasesHold : State → List Case → Type 0
 CasesHold s cs = Each (λ c. AllSeen (outcomeAfter s (c .events)) (c .seen)) cs
 
 abbrev pub SectionsHold : List Section → Type 0
-SectionsHold ts = Each (λ t. CasesHold (stateAfter newState (t .start)) (t .cases)) ts
+SectionsHold ts = Each (λ t. Each (λ p. CasesHold (stateAfter (newState p) (t .start)) (t .cases)) (t .parts)) ts
 
 -- how many values the cases of each section look at
 abbrev pub valuesOf : List Case → ℕ

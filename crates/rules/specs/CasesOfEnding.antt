@@ -1,11 +1,11 @@
 -- The sentences of 01 on "Suspension", "Reset" and "Power cut k", and on the numbers given back, each on both sides. Proved in proofs/Sentences.
 use Prim.Native.Nat.{_+_}
 use mathlib.Core.List.{List, [], _∷_}
-use Rattle.rules.specs.Cases.{Section, section, _on_, _gives_, _is_, number, byte, mark, place, secured, from, to, flags, protected, permanent, runs, aside, buffered, replies, marked, leaves, WEL, IOC, WPEN, WPLD, SEC, ENABLE}
+use Rattle.rules.specs.Cases.{Section, old, section, _on_, _gives_, _is_, number, byte, mark, place, secured, from, to, flags, protected, permanent, runs, aside, buffered, replies, marked, leaves, WEL, IOC, WPEN, WPLD, SEC, ENABLE}
 
 unfoldable pub sentencesOfEnding : List Section
 sentencesOfEnding =
-    section "Suspension" "open, 06" (
+    section old "Suspension" "open, 06" (
     ("B0 puts aside a running 20 at once: BUSY 0, WSE 1, WEL unchanged." on "20 00 10 00, B0, 05" gives (byte 0 is 0x06 ∷ []))
     ∷ ("B0 puts aside a running D8 at once: BUSY 0, WSE 1, WEL unchanged." on "D8 00 10 00, B0, 05" gives (byte 0 is 0x06 ∷ []))
     ∷ ("B0 puts aside a running 02 at once: BUSY 0, WSP 1, WEL unchanged." on "02 00 10 00 00, B0, 05" gives (byte 0 is 0x0A ∷ []))
@@ -20,7 +20,7 @@ sentencesOfEnding =
     ∷ ("The suspended range is the page" on "02 01 00 80 00, B0, 03 00 FF FF" gives marked "01 00")
     ∷ ("The suspended range is the page" on "02 01 00 80 00, B0, 03 01 00 FF" gives marked "00 01")
     ∷ [])
-    ∷ section "8: with WSE 1, 20 and D8, and 02 or 32 into the range" "open, 06, 01 00 02, completion, 06, D8 00 40 00, B0" (
+    ∷ section old "8: with WSE 1, 20 and D8, and 02 or 32 into the range" "open, 06, 01 00 02, completion, 06, D8 00 40 00, B0" (
     ("20 anywhere" on "20 10 00 00" gives (number is 8 ∷ []))
     ∷ ("D8 anywhere" on "D8 10 00 00" gives (number is 8 ∷ []))
     ∷ ("02 into the range" on "02 00 40 00 00" gives (number is 8 ∷ []))
@@ -30,7 +30,7 @@ sentencesOfEnding =
     ∷ ("32 into the range" on "32 00 40 00 00" gives (number is 8 ∷ []))
     ∷ ("32 outside the range" on "32 00 60 00 00" gives (number is 0 ∷ []))
     ∷ [])
-    ∷ section "8: with WSP 1, 02 and 32, and 20 or D8 whose range holds the page" "open, 06, 01 00 02, completion, 06, 02 00 4F 00 00, B0" (
+    ∷ section old "8: with WSP 1, 02 and 32, and 20 or D8 whose range holds the page" "open, 06, 01 00 02, completion, 06, 02 00 4F 00 00, B0" (
     ("02 anywhere" on "02 10 00 00 00" gives (number is 8 ∷ []))
     ∷ ("32 anywhere" on "32 10 00 00 00" gives (number is 8 ∷ []))
     ∷ ("20 whose range holds the page" on "20 00 40 00" gives (number is 8 ∷ []))
@@ -40,7 +40,7 @@ sentencesOfEnding =
     ∷ ("D8 whose range holds the page" on "D8 00 50 00" gives (number is 8 ∷ []))
     ∷ ("D8 whose range does not hold the page" on "D8 00 60 00" gives (number is 0 ∷ []))
     ∷ [])
-    ∷ section "Reset" "open, 06" (
+    ∷ section old "Reset" "open, 06" (
     ("Reset (99): SPI" on "38, 66, 99, 9F" gives (number is 0 ∷ []))
     ∷ ("WEL 0" on "66, 99, 05" gives (byte 0 is 0x00 ∷ []))
     ∷ ("BUSY 0, running work dropped with its target unchanged" on "02 00 10 00 00, 66, 99" gives (place 0x1000 is 0xFF ∷ buffered 0 is 0xFF ∷ flags is 0 ∷ runs is 0x00 ∷ aside is 0x00 ∷ []))
@@ -55,7 +55,7 @@ sentencesOfEnding =
     ∷ ("01 dropped does not act" on "01 00 82, 66, 99" gives (flags is 0 ∷ []))
     ∷ ("E8 dropped does not act" on "E8 00 00 00 00 00 01, 66, 99" gives (permanent is 0 ∷ protected is 0 ∷ []))
     ∷ [])
-    ∷ section "Reset: the enable" "" (
+    ∷ section old "Reset: the enable" "" (
     ("66 then grants it" on "66, 99" gives (number is 0 ∷ []))
     ∷ ("99 uses it up too" on "66, 99, 99" gives (number is 6 ∷ []))
     ∷ ("Every frame uses up the enable" on "66, 05, 99" gives (number is 6 ∷ []))
@@ -74,7 +74,7 @@ sentencesOfEnding =
     ∷ ("a completion refused with 12 changes nothing at all" on "66, completion, 99" gives (number is 0 ∷ []))
     ∷ ("after a power cut: no reset enable" on "66, cut 0, 99" gives (number is 6 ∷ []))
     ∷ [])
-    ∷ section "Power cut k: a program" "open, 06, 02 00 10 01 00 00 00" (
+    ∷ section old "Power cut k: a program" "open, 06, 02 00 10 01 00 00 00" (
     ("the first k bytes finished and the rest unchanged" on "cut 0" gives (number is 0 ∷ place 0x1001 is 0xFF ∷ []))
     ∷ ("The range of 02, 32 and A5 is the whole page." on "cut 1" gives (place 0x1000 is 0xFF ∷ place 0x1001 is 0xFF ∷ []))
     ∷ ("the first k bytes finished and the rest unchanged" on "cut 2" gives (place 0x1001 is 0x00 ∷ place 0x1002 is 0xFF ∷ []))
@@ -83,20 +83,20 @@ sentencesOfEnding =
     ∷ ("Then power-up" on "cut 3" gives leaves 0 0x5555_FFFF_FFFF 0 0x00 0x00)
     ∷ ("Then power-up" on "cut 3" gives (buffered 1 is 0xFF ∷ []))
     ∷ [])
-    ∷ section "Power cut k: 32 and A5" "open, 06, 01 00 02, completion, 06" (
+    ∷ section old "Power cut k: 32 and A5" "open, 06, 01 00 02, completion, 06" (
     ("The range of 32 is the whole page." on "32 00 10 01 00, cut 1" gives (place 0x1001 is 0xFF ∷ []))
     ∷ ("The range of 32 is the whole page." on "32 00 10 01 00, cut 2" gives (place 0x1001 is 0x00 ∷ []))
     ∷ ("The range of A5 is the whole page." on "A5 01 08 00 00, cut 8" gives (secured 0x108 is 0xFF ∷ []))
     ∷ ("The range of A5 is the whole page." on "A5 01 08 00 00, cut 9" gives (secured 0x107 is 0xFF ∷ secured 0x108 is 0x00 ∷ secured 0x109 is 0xFF ∷ []))
     ∷ [])
-    ∷ section "Power cut k: an erase" "open, 06, 02 00 0F FF 00, completion, 06, 02 00 10 00 00 00 00 00, completion, 06, 02 00 1F FE 00 00, completion, 06, 02 00 20 00 00, completion, 06" (
+    ∷ section old "Power cut k: an erase" "open, 06, 02 00 0F FF 00, completion, 06, 02 00 10 00 00 00 00 00, completion, 06, 02 00 1F FE 00 00, completion, 06, 02 00 20 00 00, completion, 06" (
     ("20: in rising address order" on "20 00 10 00, cut 3" gives (place 0x0FFF is 0x00 ∷ place 0x1002 is 0xFF ∷ place 0x1003 is 0x00 ∷ []))
     ∷ ("20: the rest unchanged" on "20 00 10 00, cut 4095" gives (place 0x1FFE is 0xFF ∷ place 0x1FFF is 0x00 ∷ []))
     ∷ ("20: all finished if k is larger" on "20 00 10 00, cut 8192" gives (place 0x1FFF is 0xFF ∷ place 0x2000 is 0x00 ∷ []))
     ∷ ("D8" on "D8 00 10 00, cut 4097" gives (place 0x0FFF is 0xFF ∷ place 0x1000 is 0xFF ∷ place 0x1001 is 0x00 ∷ []))
     ∷ ("C7" on "C7, cut 4098" gives (place 0x1001 is 0xFF ∷ place 0x1002 is 0x00 ∷ []))
     ∷ [])
-    ∷ section "Power cut k: 85, 01, E8" "06" (
+    ∷ section old "Power cut k: 85, 01, E8" "06" (
     ("85 acts fully if k is 1 or more" on "85, cut 1" gives (flags is SEC ∷ []))
     ∷ ("else not" on "85, cut 0" gives (flags is 0 ∷ []))
     ∷ ("01 acts fully if k is 1 or more, then IOC 0" on "01 00 82, cut 1" gives (flags is WPEN ∷ []))
@@ -105,14 +105,14 @@ sentencesOfEnding =
     ∷ ("E8 acts fully" on "E8 00 00 00 00 00 03, cut 9" gives (permanent is 3 ∷ []))
     ∷ ("else not" on "E8 00 00 00 00 00 03, cut 0" gives (permanent is 0 ∷ []))
     ∷ [])
-    ∷ section "Power cut k: what stays" "06, 85, completion, 06, 01 00 82, completion, 06, E8 00 00 00 00 00 05, completion, 06, 42 8A 20 00 00 00 F0, 06, 8D, 06" (
+    ∷ section old "Power cut k: what stays" "06, 85, completion, 06, 01 00 82, completion, 06, E8 00 00 00 00 00 05, completion, 06, 42 8A 20 00 00 00 F0, 06, 8D, 06" (
     ("SPI, WPLD 0, WEL 0, IOC 0, no reset enable, protection 5555FFFFFFFF; SEC, WPEN and the permanent register stay." on "66, cut 5" gives leaves (WPEN + SEC) 0x5555_FFFF_FFFF 5 0x00 0x00)
     ∷ ("SPI" on "38, cut 5" gives leaves (WPEN + SEC) 0x5555_FFFF_FFFF 5 0x00 0x00)
     ∷ ("nothing running" on "20 00 20 00, cut 5" gives leaves (WPEN + SEC) 0x5555_FFFF_FFFF 5 0x00 0x00)
     ∷ ("Suspended work is dropped." on "02 00 20 00 00, B0, cut 256" gives (number is 0 ∷ place 0x2000 is 0xFF ∷ aside is 0x00 ∷ buffered 0 is 0xFF ∷ []))
     ∷ ("k speaks of the running range only" on "02 00 20 00 00, B0, 20 00 40 00, cut 9999" gives (place 0x2000 is 0xFF ∷ runs is 0x00 ∷ aside is 0x00 ∷ []))
     ∷ [])
-    ∷ section "Numbers: what they leave" "open, 06, 66" (
+    ∷ section old "Numbers: what they leave" "open, 06, 66" (
     ("12: completion with nothing running" on "completion" gives (number is 12 ∷ flags is (WEL + ENABLE) ∷ []))
     ∷ ("12 only with nothing running" on "C7, completion" gives (number is 0 ∷ []))
     ∷ ("2: frame empty" on "empty" gives (number is 2 ∷ flags is (WEL + ENABLE) ∷ []))
@@ -125,7 +125,7 @@ sentencesOfEnding =
     ∷ ("Refusals 2 to 11: nothing else changes" on "30" gives (number is 8 ∷ leaves WEL 0 0 0x00 0x00))
     ∷ ("Refusals 2 to 11: nothing else changes" on "04, 98" gives (number is 9 ∷ leaves 0 0 0 0x00 0x00))
     ∷ [])
-    ∷ section "Numbers: 10" "open, 06" (
+    ∷ section old "Numbers: 10" "open, 06" (
     ("A5 that sends a byte to places 0 to 7" on "A5 00 00 FF" gives (number is 10 ∷ []))
     ∷ ("A5 that sends a byte to places 0 to 7: by wrap, also one that is replaced" on "A5 00 08 00*249" gives (number is 10 ∷ []))
     ∷ ("A5 that sends none there" on "A5 00 08 00*248" gives (number is 0 ∷ []))
@@ -137,7 +137,7 @@ sentencesOfEnding =
     ∷ ("42 or 98 with WPLD 1" on "8D, 06, 98" gives (number is 10 ∷ []))
     ∷ ("8D with WPLD 1 is done" on "8D, 06, 8D" gives (number is 0 ∷ flags is WPLD ∷ []))
     ∷ [])
-    ∷ section "Numbers: 11" "06" (
+    ∷ section old "Numbers: 11" "06" (
     ("20 in a write-locked block" on "42 00 04 00 00 00 00, 06, 20 00 20 00" gives (number is 11 ∷ []))
     ∷ ("20 beside it" on "42 00 04 00 00 00 00, 06, 20 00 1F FF" gives (number is 0 ∷ []))
     ∷ ("D8 in a write-locked block" on "42 00 04 00 00 00 00, 06, D8 00 3F FF" gives (number is 11 ∷ []))
@@ -146,7 +146,7 @@ sentencesOfEnding =
     ∷ ("C7 with a write lock set: a read lock is none" on "42 AA AA 00 00 00 00, 06, C7" gives (number is 0 ∷ []))
     ∷ ("C7 with a write lock set: the highest" on "42 40 00 00 00 00 00, 06, C7" gives (number is 11 ∷ []))
     ∷ [])
-    ∷ section "If several apply to an event, the lowest is given." "" (
+    ∷ section old "If several apply to an event, the lowest is given." "" (
     ("3 before 4: not in this protocol, and of a wrong length" on "AF" gives (number is 3 ∷ []))
     ∷ ("3 before 5" on "open, 06, C7, 07" gives (number is 3 ∷ []))
     ∷ ("4 before 5" on "open, 06, C7, 06 00" gives (number is 4 ∷ []))
@@ -159,7 +159,7 @@ sentencesOfEnding =
     ∷ ("9 before 10" on "A5 00 00 00" gives (number is 9 ∷ []))
     ∷ ("9 before 11" on "02 00 00 00 00" gives (number is 9 ∷ []))
     ∷ [])
-    ∷ section "Both sides of each edge, the line without *" "open, 06" (
+    ∷ section old "Both sides of each edge, the line without *" "open, 06" (
     ("03 1F FF FF, two bytes: the last place, then the first." on "02 1F FF FF 11, completion, 06, 02 00 00 00 22, completion, 03 1F FF FF" gives replies "11 22")
     ∷ ("a later byte replaces an earlier one: 257 data bytes at a page's start: place 0 gets the last one." on "02 00 10 00 11*256 22, completion" gives (place 0x1000 is 0x22 ∷ place 0x1001 is 0x11 ∷ place 0x10FF is 0x11 ∷ place 0x1100 is 0xFF ∷ []))
     ∷ [])

@@ -1,11 +1,11 @@
 -- The sentences of 01 from "The chip on the bench" to "Reads", each on both sides. Proved in proofs/Sentences.
 use Prim.Native.Nat.{_+_}
 use mathlib.Core.List.{List, [], _∷_, _++_}
-use Rattle.rules.specs.Cases.{Section, section, _on_, _gives_, _is_, number, byte, mark, place, secured, from, to, protected, permanent, buffered, replies, marked, leaves, WEL}
+use Rattle.rules.specs.Cases.{Section, old, section, _on_, _gives_, _is_, number, byte, mark, place, secured, from, to, protected, permanent, buffered, replies, marked, leaves, WEL}
 
 unfoldable pub sentencesOfReading : List Section
 sentencesOfReading =
-    section "The chip on the bench" "" (
+    section old "The chip on the bench" "" (
     ("A new chip record is the power-up state with SEC 0, WPEN 0 and nothing permanent." on "00"
     gives leaves 0 0x5555_FFFF_FFFF 0 0x00 0x00)
     ∷ ("The buffer of a new chip is all FF." on "00" gives (buffered 0 is 0xFF ∷ buffered 255 is 0xFF ∷ []))
@@ -13,7 +13,7 @@ sentencesOfReading =
     ∷ ("continuous read is not modelled (a mode byte in a 0B frame is ignored)" on "38, 0B 00 00 00 A5 00 00, 0B 00 00 00 5A 00 00"
     gives (number is 0 ∷ byte 0 is 0xFF ∷ mark 0 is 1 ∷ []))
     ∷ [])
-    ∷ section "Protection blocks: locks of single blocks" "06" (
+    ∷ section old "Protection blocks: locks of single blocks" "06" (
     ("47/46: 8 KB from 1FE000; the odd bit is the read lock" on "42 80 00 00 00 00 00, 03 1F DF FF" gives replies "FF 00")
     ∷ ("47/46: 8 KB from 1FE000; the odd bit is the read lock" on "42 80 00 00 00 00 00, 03 1F FF FF" gives replies "00 FF")
     ∷ ("the even bit the write lock" on "42 40 00 00 00 00 00, 03 1F FF FF" gives replies "FF FF")
@@ -47,12 +47,12 @@ sentencesOfReading =
     ∷ ("29 down to 0: 64 KB; bit n from (n + 1) × 10000" on "42 00 00 00 00 00 01, 06, 02 02 00 00 00" gives (number is 0 ∷ []))
     ∷ ("Single bits are write locks." on "42 00 00 FF FF FF FF, 03 00 7F FF" gives replies "FF FF")
     ∷ [])
-    ∷ section "Protection blocks: the registers" "" (
+    ∷ section old "Protection blocks: the registers" "" (
     ("At power-up the register is 5555FFFFFFFF." on "00" gives (protected is 0x5555_FFFF_FFFF ∷ []))
     ∷ ("It travels as six bytes, highest first." on "06, 42 12 34 56 78 9A BC, 72" gives (protected is 0x1234_5678_9ABC ∷ replies "12 34 56 78 9A BC"))
     ∷ ("A permanent register has a bit for each write lock and 0 at the read locks." on "06, E8 FF FF FF FF FF FF, completion" gives (permanent is 0x5555_FFFF_FFFF ∷ []))
     ∷ [])
-    ∷ section "The registers as read: status" "" (
+    ∷ section old "The registers as read: status" "" (
     ("bit 0 BUSY, 7 BUSY again" on "open, 06, C7, 05" gives (byte 0 is 0x83 ∷ []))
     ∷ ("1 WEL" on "06, 05" gives (byte 0 is 0x02 ∷ []))
     ∷ ("1 WEL" on "06, 04, 05" gives (byte 0 is 0x00 ∷ []))
@@ -62,7 +62,7 @@ sentencesOfReading =
     ∷ ("5 SEC" on "06, 85, completion, 05" gives (byte 0 is 0x20 ∷ []))
     ∷ ("bits 0, 1, 2, 4, 5, 7 at once, 6 zero" on "06, 85, completion, open, 06, 8D, 06, 20 00 10 00, B0, 02 00 20 00 00, 05" gives (byte 0 is 0xB7 ∷ []))
     ∷ [])
-    ∷ section "The registers as read: configuration" "06" (
+    ∷ section old "The registers as read: configuration" "06" (
     ("bit 1 IOC" on "01 00 02, completion, 35" gives (byte 0 is 0x0A ∷ []))
     ∷ ("bit 7 WPEN" on "01 00 80, completion, 35" gives (byte 0 is 0x88 ∷ []))
     ∷ ("others zero" on "01 FF FF, completion, 35" gives (byte 0 is 0x8A ∷ []))
@@ -72,7 +72,7 @@ sentencesOfReading =
     ∷ ("BPNV is 1 exactly while the permanent register is zero." on "E8 AA AA 00 00 00 00, completion, 35" gives (byte 0 is 0x08 ∷ []))
     ∷ ("IOC is 0 at power-up." on "01 00 02, completion, cut 0, 35" gives (byte 0 is 0x08 ∷ []))
     ∷ [])
-    ∷ section "Frames: addresses" "open, 06" (
+    ∷ section old "Frames: addresses" "open, 06" (
     ("Address bytes are highest first" on "02 01 23 45 5A, completion" gives (place 0x01_2345 is 0x5A ∷ []))
     ∷ ("Address bytes are highest first" on "02 01 23 45 5A, completion, 03 01 23 45" gives (byte 0 is 0x5A ∷ []))
     ∷ ("Address bytes are highest first" on "20 01 23 45" gives (from is 0x01_2000 ∷ to is 0x01_2FFF ∷ []))
@@ -84,7 +84,7 @@ sentencesOfReading =
     ∷ ("two address bytes, highest first" on "A5 01 23 5A, completion, 88 01 22 00" gives replies "FF 5A FF")
     ∷ ("two address bytes, highest first" on "A5 01 23 5A, completion, 88 F9 23 00" gives replies "5A")
     ∷ [])
-    ∷ section "Frames: identity, and what repeats" "" (
+    ∷ section old "Frames: identity, and what repeats" "" (
     ("The identity bytes are BF, 26 and the device byte printed in 002; they repeat" on "9F" gives replies "BF 26 51 BF 26 51 BF")
     ∷ ("AF: the same" on "38, AF 00" gives replies "BF 26 51 BF 26 51 BF")
     ∷ ("as 05 and 35 do" on "06, 05" gives (byte 0 is 0x02 ∷ byte 1 is 0x02 ∷ byte 15 is 0x02 ∷ []))
@@ -94,19 +94,19 @@ sentencesOfReading =
     ∷ ("in SQI as in SPI" on "38, 35 00" gives replies "08 08")
     ∷ ("in SQI as in SPI" on "38, 72 00" gives replies "55 55 FF FF FF FF 00")
     ∷ [])
-    ∷ section "Reads: places" "open, 06, 02 1F FF FE 11 22, completion, 06, 02 00 00 00 33 44, completion, 06, 01 00 02, completion" (
+    ∷ section old "Reads: places" "open, 06, 02 1F FF FE 11 22, completion, 06, 02 00 00 00 33 44, completion, 06, 01 00 02, completion" (
     ("03: Reads go up one place a byte; after the last array place comes place 0" on "03 1F FF FD" gives replies "FF 11 22 33 44 FF")
     ∷ ("0B reads the array" on "0B 1F FF FD 00" gives replies "FF 11 22 33 44 FF")
     ∷ ("0B reads the array, in SQI too" on "38, 0B 1F FF FD 00 00 00" gives replies "FF 11 22 33 44 FF")
     ∷ ("6B reads the array" on "6B 1F FF FD 00" gives replies "FF 11 22 33 44 FF")
     ∷ ("6B reads the array, needs IOC 1" on "66, 99, 6B 1F FF FD 00" gives (number is 7 ∷ []))
     ∷ [])
-    ∷ section "Reads: Security ID" "06, A5 00 08 33, completion, 06, A5 07 FE 11 22, completion" (
+    ∷ section old "Reads: Security ID" "06, A5 00 08 33, completion, 06, A5 07 FE 11 22, completion" (
     ("88 reads the Security ID; after the last place comes place 0" on "88 07 FD 00" gives replies "FF 11 22 FF FF FF FF FF FF FF FF 33 FF")
     ∷ ("in SQI too" on "38, 88 07 FD 00 00 00" gives replies "FF 11 22 FF")
     ∷ ("the stored byte, mark 1" on "88 07 FD 00" gives (mark 0 is 1 ∷ mark 15 is 1 ∷ []))
     ∷ [])
-    ∷ section "Reads: read-locked, suspended, stored" "open, 06, 02 00 1F FE 11 22, completion, 06, 02 00 20 00 33 44, completion, 06, 42 00 02 00 00 00 00, 06" (
+    ∷ section old "Reads: read-locked, suspended, stored" "open, 06, 02 00 1F FE 11 22, completion, 06, 02 00 20 00 33 44, completion, 06, 42 00 02 00 00 00 00, 06" (
     ("A byte in a read-locked block reads 00, mark 1." on "03 00 1F FE" gives (replies "00 00 33 44" ++ marked "01 01 01 01"))
     ∷ ("Otherwise a byte in the suspended range reads 00, mark 0" on "20 00 20 00, B0, 03 00 1F FE" gives (replies "00 00 00 00" ++ marked "01 01 00 00"))
     ∷ ("Otherwise: the read lock comes first" on "20 00 10 00, B0, 03 00 1F FE" gives (replies "00 00 33 44" ++ marked "01 01 01 01"))
@@ -115,7 +115,7 @@ sentencesOfReading =
     ∷ ("The suspended range is the page" on "02 00 20 00 00, B0, 03 00 20 FF" gives (replies "00 FF" ++ marked "00 01"))
     ∷ ("a running range is not suspended: a read then is refused" on "20 00 20 00, 03 00 20 00" gives (number is 5 ∷ []))
     ∷ [])
-    ∷ section "Reads: marks" "" (
+    ∷ section old "Reads: marks" "" (
     ("Register and identity bytes have mark 1." on "05" gives (mark 0 is 1 ∷ mark 15 is 1 ∷ []))
     ∷ ("Register and identity bytes have mark 1." on "35" gives (mark 0 is 1 ∷ mark 15 is 1 ∷ []))
     ∷ ("Register and identity bytes, and the 00 after 72's six, have mark 1." on "72" gives (mark 0 is 1 ∷ mark 5 is 1 ∷ mark 6 is 1 ∷ mark 15 is 1 ∷ []))

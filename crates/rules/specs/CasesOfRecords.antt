@@ -73,7 +73,7 @@ t fails-of r = record { sentence = t; chip = recordOf r; formed = false }
 unfoldable pub records : List RecordCase
 records =
     ("A new chip" holds-of "new")
-    ∷ ("whatever the flags are" holds-of "new, flags 7F")
+    ∷ ("whatever the flags are" holds-of "new, flags FF")
     -- Page numbers below 8,192, in the Security ID below 8; erase ranges are a sector, a block or the array.
     ∷ ("Page numbers below 8,192" holds-of "runs 02 8191")
     ∷ ("Page numbers below 8,192" fails-of "runs 02 8192")

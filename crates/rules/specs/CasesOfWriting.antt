@@ -1,11 +1,11 @@
 -- The sentences of 01 on "Programs" and on "Long and short", what each frame does to the record, each on both sides. Proved in proofs/Sentences.
 use Prim.Native.Nat.{_+_}
 use mathlib.Core.List.{List, [], _∷_}
-use Rattle.rules.specs.Cases.{Section, section, _on_, _gives_, _is_, byte, place, secured, from, to, flags, permanent, buffered, leaves, SQI, WEL, IOC, WPEN, WPLD, SEC, ENABLE}
+use Rattle.rules.specs.Cases.{Section, old, section, _on_, _gives_, _is_, byte, place, secured, from, to, flags, permanent, buffered, leaves, SQI, WEL, IOC, WPEN, WPLD, SEC, ENABLE}
 
 unfoldable pub sentencesOfWriting : List Section
 sentencesOfWriting =
-    section "Programs: the page buffer" "open, 06" (
+    section old "Programs: the page buffer" "open, 06" (
     ("Programs fill a page buffer of 256 bytes, all FF at first." on "02 00 10 05 5A" gives (buffered 0 is 0xFF ∷ buffered 4 is 0xFF ∷ buffered 5 is 0x5A ∷ buffered 6 is 0xFF ∷ buffered 255 is 0xFF ∷ []))
     ∷ ("all FF at first" on "02 00 10 05 5A, completion, 06, 02 00 10 06 A5" gives (buffered 5 is 0xFF ∷ buffered 6 is 0xA5 ∷ []))
     ∷ ("Data go to rising places in the page and wrap from its end to its start" on "02 00 10 FE 11 22 33 44" gives (buffered 253 is 0xFF ∷ buffered 254 is 0x11 ∷ buffered 255 is 0x22 ∷ buffered 0 is 0x33 ∷ buffered 1 is 0x44 ∷ buffered 2 is 0xFF ∷ []))
@@ -13,7 +13,7 @@ sentencesOfWriting =
     ∷ ("A5: wraps in its page" on "A5 01 FE 11 22 33" gives (buffered 253 is 0xFF ∷ buffered 254 is 0x11 ∷ buffered 255 is 0x22 ∷ buffered 0 is 0x33 ∷ buffered 1 is 0xFF ∷ []))
     ∷ ("11*3 stands for 11 11 11" on "02 00 10 00 11*3" gives (buffered 0 is 0x11 ∷ buffered 2 is 0x11 ∷ buffered 3 is 0xFF ∷ []))
     ∷ [])
-    ∷ section "Programs: at completion" "open, 06, 02 00 0F FF 33, completion, 06, 02 00 10 00 33 33, completion, 06, 02 00 20 00 33, completion, 06" (
+    ∷ section old "Programs: at completion" "open, 06, 02 00 0F FF 33, completion, 06, 02 00 10 00 33 33, completion, 06, 02 00 20 00 33, completion, 06" (
     ("At completion each page byte becomes its old value AND the buffer byte." on "02 00 10 00 0F, completion" gives (place 0x0FFF is 0x33 ∷ place 0x1000 is 0x03 ∷ place 0x1001 is 0x33 ∷ place 0x1002 is 0xFF ∷ []))
     ∷ ("At completion, and only then" on "02 00 10 00 0F" gives (place 0x1000 is 0x33 ∷ []))
     ∷ ("32: the same" on "01 00 02, completion, 06, 32 00 10 01 0F, completion" gives (place 0x1000 is 0x33 ∷ place 0x1001 is 0x03 ∷ []))
@@ -29,7 +29,7 @@ sentencesOfWriting =
     ∷ ("C7: erase array" on "C7" gives (from is 0 ∷ to is 0x1F_FFFF ∷ []))
     ∷ [])
     -- each frame on a chip with every flag 0, WEL too where it may be, and no lock; the enable is used up by each but 66
-    ∷ section "Frames: the record after each, with few flags" "open" (
+    ∷ section old "Frames: the record after each, with few flags" "open" (
     ("00: none" on "00" gives leaves 0 0 0 0x00 0x00)
     ∷ ("66: enable reset" on "66" gives leaves ENABLE 0 0 0x00 0x00)
     ∷ ("99: reset" on "66, 99" gives leaves 0 0 0 0x00 0x00)
@@ -63,7 +63,7 @@ sentencesOfWriting =
     ∷ ("B0 and 30 leave WEL also where it is 0" on "06, 20 00 10 00, B0, 04, 30" gives leaves 0 0 0 0x20 0x00)
     ∷ [])
     -- each frame on a chip with every flag but SQI, some locks, of which bits 0 and 2 are permanent
-    ∷ section "Frames: the record after each, with every flag" "06, 85, completion, 06, 01 00 82, completion, 06, E8 00 00 00 00 00 05, completion, 06, 42 8A 21 00 00 00 F0, 06, 8D, 06, 66" (
+    ∷ section old "Frames: the record after each, with every flag" "06, 85, completion, 06, 01 00 82, completion, 06, E8 00 00 00 00 00 05, completion, 06, 42 8A 21 00 00 00 F0, 06, 8D, 06, 66" (
     ("00: none" on "00" gives leaves (WEL + IOC + WPEN + WPLD + SEC) 0x8A21_0000_00F5 5 0x00 0x00)
     ∷ ("66: enable reset" on "66" gives leaves (WEL + IOC + WPEN + WPLD + SEC + ENABLE) 0x8A21_0000_00F5 5 0x00 0x00)
     ∷ ("99: reset" on "99" gives leaves (WPEN + WPLD + SEC) 0x8A21_0000_00F5 5 0x00 0x00)
@@ -101,7 +101,7 @@ sentencesOfWriting =
     ∷ ("Completion clears WEL also beside a suspension, and keeps what is suspended" on "02 00 20 00 00, B0, 20 00 40 00, completion" gives leaves (IOC + WPEN + WPLD + SEC) 0x8A21_0000_00F5 5 0x00 0x02)
     ∷ ("A completion that is refused changes nothing at all." on "completion" gives leaves (WEL + IOC + WPEN + WPLD + SEC + ENABLE) 0x8A21_0000_00F5 5 0x00 0x00)
     ∷ [])
-    ∷ section "Frames: the record after each, in SQI" "open, 38" (
+    ∷ section old "Frames: the record after each, in SQI" "open, 38" (
     ("00: none" on "00" gives leaves SQI 0 0 0x00 0x00)
     ∷ ("66: enable reset" on "66" gives leaves (SQI + ENABLE) 0 0 0x00 0x00)
     ∷ ("99: reset" on "66, 99" gives leaves 0 0 0 0x00 0x00)
@@ -120,7 +120,7 @@ sentencesOfWriting =
     ∷ ("E8: at completion" on "06, E8 00 00 00 00 00 01, completion" gives leaves SQI 1 1 0x00 0x00)
     ∷ [])
     -- completions that set a flag, on a chip with few
-    ∷ section "Long: what completion sets" "06" (
+    ∷ section old "Long: what completion sets" "06" (
     ("85: lock Security ID" on "85, completion" gives leaves SEC 0x5555_FFFF_FFFF 0 0x00 0x00)
     ∷ ("01: second sets IOC and WPEN" on "01 00 82, completion" gives leaves (IOC + WPEN) 0x5555_FFFF_FFFF 0 0x00 0x00)
     ∷ ("A5: Completion sets BUSY and WEL to 0." on "A5 00 08 00, completion" gives leaves 0 0x5555_FFFF_FFFF 0 0x00 0x00)
@@ -132,7 +132,7 @@ sentencesOfWriting =
     ∷ ("an erase beside a suspended program keeps the buffer" on "98, 06, 02 00 10 08 00, B0, 20 00 40 00, completion" gives (buffered 8 is 0x00 ∷ []))
     ∷ ("an erase beside a suspended program keeps the buffer" on "98, 06, 02 00 10 08 00, B0, 20 00 40 00, completion, 30, completion" gives (place 0x1008 is 0x00 ∷ buffered 8 is 0xFF ∷ []))
     ∷ [])
-    ∷ section "42, 98, E8" "06, E8 00 01 00 00 00 02, completion, 06" (
+    ∷ section old "42, 98, E8" "06, E8 00 01 00 00 00 02, completion, 06" (
     ("42 replaces all 48 bits, but a write lock with its permanent bit set stays 1." on "42 00 00 00 00 00 00" gives leaves 0 0x0001_0000_0002 0x0001_0000_0002 0x00 0x00)
     ∷ ("42 replaces all 48 bits" on "42 FF FF FF FF FF FF" gives leaves 0 0xFFFF_FFFF_FFFF 0x0001_0000_0002 0x00 0x00)
     ∷ ("42 replaces all 48 bits" on "42 FF FF FF FF FF FF, 06, 42 80 00 00 00 00 00" gives leaves 0 0x8001_0000_0002 0x0001_0000_0002 0x00 0x00)

@@ -1,4 +1,4 @@
--- 01, Long and short; 42, 98, E8; Suspension; Reset; power-up; 02, W-201, C0: the record after a command, and after work ends.
+-- 01, Long and short; 42, 98, E8; Suspension; Reset; power-up; 02, W-201, C0; 02, W-204, the part: the record after a command, and after work ends.
 use Prim.Native.Nat.{ℕ, _/_}
 use mathlib.Core.Bool.{Bool, true, false}
 use mathlib.Core.List.{List}
@@ -16,28 +16,37 @@ use Rattle.rules.specs.Blocks.{blockOf, writeLocks, readLocks, allLocks,
 use Rattle.rules.specs.Works.{isProgram}
 use Rattle.rules.specs.Frames.{sentByte, address, securityAddress, six}
 use Rattle.rules.specs.Bursts.{burstOf}
-use Rattle.rules.specs.Fields.{locksOf, worksOf, restOf, chipOf, noFlags, withProtection, withPermanent, withRunning, withSuspended, withSqi, withWel, withIoc, withWpen, withWpld, withSec, withEnable, withBurst}
+use Rattle.rules.specs.Fields.{locksOf, worksOf, restOf, chipOf, noFlags, withProtection, withPermanent, withRunning, withSuspended, withSqi, withWel, withIoc, withWpen, withWpld, withSec, withEnable, withBa, withBurst}
 use Rattle.rules.specs.Programs.{blank, pageBuffer, securityBuffer}
 
 -- ---- power-up and reset
 
-abbrev pub powerUpIoc : Bool
-powerUpIoc = false
+-- by the part: 1 of a BA, 0 of the old one
+abbrev pub powerUpIoc : Bool → Bool
+powerUpIoc ba = ba
 
 abbrev pub powerUpBurst : Burst
 powerUpBurst = Burst.Eight
 
--- the power-up state: idle, nothing suspended, every flag 0 but for IOC, the burst 8; SEC, WPEN and the permanent register are what they were
-abbrev pub poweredUp : Bool → Bool → ℕ → Rest
-poweredUp sec wpen permanent =
-    withSec sec (withWpen wpen (withIoc powerUpIoc (restOf (locksOf powerUpLocks permanent) (worksOf Work.Nothing Work.Nothing) noFlags powerUpBurst)))
+-- the power-up state: idle, nothing suspended, every flag 0 but for IOC, the burst 8; the part, SEC, WPEN and the permanent register are what they were
+abbrev pub poweredUp : Bool → Bool → Bool → ℕ → Rest
+poweredUp ba sec wpen permanent =
+    withBa ba (withSec sec (withWpen wpen (withIoc (powerUpIoc ba) (restOf (locksOf powerUpLocks permanent) (worksOf Work.Nothing Work.Nothing) noFlags powerUpBurst))))
 
+-- a new chip of a part
+abbrev pub newOf : Bool → Chip
+newOf ba = chipOf blank (poweredUp ba false false 0)
+
+-- "Make that the default. A bench call that names the old part still gets 0."
 abbrev pub newChip : Chip
-newChip = chipOf blank (poweredUp false false 0)
+newChip = newOf true
 
--- running and suspended work dropped; WPLD, SEC, WPEN and both protection registers stay
+abbrev pub newOldChip : Chip
+newOldChip = newOf false
+
+-- running and suspended work dropped; the part, WPLD, SEC, WPEN and both protection registers stay
 abbrev pub afterReset : Rest → Rest
-afterReset r = withRunning Work.Nothing (withSuspended Work.Nothing (withSqi false (withWel false (withIoc powerUpIoc (withBurst powerUpBurst r)))))
+afterReset r = withRunning Work.Nothing (withSuspended Work.Nothing (withSqi false (withWel false (withIoc (powerUpIoc (r .flags .ba)) (withBurst powerUpBurst r)))))
 
 -- ---- long commands
 
@@ -135,4 +144,4 @@ bufferRested suspended b = pick (isProgram suspended) b blank
 
 -- power-up after a cut
 abbrev pub afterCut : Rest → Rest
-afterCut r = poweredUp (r .flags .sec) (r .flags .wpen) (r .locks .permanent)
+afterCut r = poweredUp (r .flags .ba) (r .flags .sec) (r .flags .wpen) (r .locks .permanent)

@@ -19,11 +19,11 @@ locksOf p q = record { protection = p; permanent = q }
 abbrev pub worksOf : Work → Work → Works
 worksOf r s = record { running = r; suspended = s }
 
-abbrev pub flagsOf : Bool → Bool → Bool → Bool → Bool → Bool → Bool → Flags
-flagsOf sqi wel ioc wpen wpld sec enable = record { sqi = sqi; wel = wel; ioc = ioc; wpen = wpen; wpld = wpld; sec = sec; enable = enable }
+abbrev pub flagsOf : Bool → Bool → Bool → Bool → Bool → Bool → Bool → Bool → Flags
+flagsOf sqi wel ioc wpen wpld sec enable ba = record { sqi = sqi; wel = wel; ioc = ioc; wpen = wpen; wpld = wpld; sec = sec; enable = enable; ba = ba }
 
 abbrev pub noFlags : Flags
-noFlags = flagsOf false false false false false false false
+noFlags = flagsOf false false false false false false false false
 
 abbrev pub restOf : Locks → Works → Flags → Burst → Rest
 restOf l w f b = record { locks = l; works = w; flags = f; burst = b }
@@ -49,38 +49,38 @@ abbrev pub withFlags : Flags → Rest → Rest
 withFlags f r = restOf (r .locks) (r .works) f (r .burst)
 
 abbrev pub withSqi : Bool → Rest → Rest
-withSqi b r = withFlags (flagsOf b (r .flags .wel) (r .flags .ioc) (r .flags .wpen) (r .flags .wpld) (r .flags .sec) (r .flags .enable)) r
+withSqi b r = withFlags (flagsOf b (r .flags .wel) (r .flags .ioc) (r .flags .wpen) (r .flags .wpld) (r .flags .sec) (r .flags .enable) (r .flags .ba)) r
 
 abbrev pub withWel : Bool → Rest → Rest
-withWel b r = withFlags (flagsOf (r .flags .sqi) b (r .flags .ioc) (r .flags .wpen) (r .flags .wpld) (r .flags .sec) (r .flags .enable)) r
+withWel b r = withFlags (flagsOf (r .flags .sqi) b (r .flags .ioc) (r .flags .wpen) (r .flags .wpld) (r .flags .sec) (r .flags .enable) (r .flags .ba)) r
 
 abbrev pub withIoc : Bool → Rest → Rest
-withIoc b r = withFlags (flagsOf (r .flags .sqi) (r .flags .wel) b (r .flags .wpen) (r .flags .wpld) (r .flags .sec) (r .flags .enable)) r
+withIoc b r = withFlags (flagsOf (r .flags .sqi) (r .flags .wel) b (r .flags .wpen) (r .flags .wpld) (r .flags .sec) (r .flags .enable) (r .flags .ba)) r
 
 abbrev pub withWpen : Bool → Rest → Rest
-withWpen b r = withFlags (flagsOf (r .flags .sqi) (r .flags .wel) (r .flags .ioc) b (r .flags .wpld) (r .flags .sec) (r .flags .enable)) r
+withWpen b r = withFlags (flagsOf (r .flags .sqi) (r .flags .wel) (r .flags .ioc) b (r .flags .wpld) (r .flags .sec) (r .flags .enable) (r .flags .ba)) r
 
 abbrev pub withWpld : Bool → Rest → Rest
-withWpld b r = withFlags (flagsOf (r .flags .sqi) (r .flags .wel) (r .flags .ioc) (r .flags .wpen) b (r .flags .sec) (r .flags .enable)) r
+withWpld b r = withFlags (flagsOf (r .flags .sqi) (r .flags .wel) (r .flags .ioc) (r .flags .wpen) b (r .flags .sec) (r .flags .enable) (r .flags .ba)) r
 
 abbrev pub withSec : Bool → Rest → Rest
-withSec b r = withFlags (flagsOf (r .flags .sqi) (r .flags .wel) (r .flags .ioc) (r .flags .wpen) (r .flags .wpld) b (r .flags .enable)) r
+withSec b r = withFlags (flagsOf (r .flags .sqi) (r .flags .wel) (r .flags .ioc) (r .flags .wpen) (r .flags .wpld) b (r .flags .enable) (r .flags .ba)) r
 
 abbrev pub withEnable : Bool → Rest → Rest
-withEnable b r = withFlags (flagsOf (r .flags .sqi) (r .flags .wel) (r .flags .ioc) (r .flags .wpen) (r .flags .wpld) (r .flags .sec) b) r
+withEnable b r = withFlags (flagsOf (r .flags .sqi) (r .flags .wel) (r .flags .ioc) (r .flags .wpen) (r .flags .wpld) (r .flags .sec) b (r .flags .ba)) r
+
+abbrev pub withBa : Bool → Rest → Rest
+withBa b r = withFlags (flagsOf (r .flags .sqi) (r .flags .wel) (r .flags .ioc) (r .flags .wpen) (r .flags .wpld) (r .flags .sec) (r .flags .enable) b) r
 
 abbrev pub withBurst : Burst → Rest → Rest
 withBurst b r = restOf (r .locks) (r .works) (r .flags) b
 
--- ---- the flags as bits, from bit 0 on: SQI, WEL, IOC, WPEN, WPLD, SEC, and whether a 99 is taken next
+-- ---- the flags as bits, from bit 0 on: SQI, WEL, IOC, WPEN, WPLD, SEC, whether a 99 is taken next, and the part, 1 for BA
 
 abbrev pub flagsNumber : Flags → ℕ
 flagsNumber f =
     num (f .sqi) + 2 * num (f .wel) + 4 * num (f .ioc) + 8 * num (f .wpen) + 16 * num (f .wpld) + 32 * num (f .sec) + 64 * num (f .enable)
+    + 128 * num (f .ba)
 
 abbrev pub flagsIn : ℕ → Flags
-flagsIn x = flagsOf (bit 0 x) (bit 1 x) (bit 2 x) (bit 3 x) (bit 4 x) (bit 5 x) (bit 6 x)
-
--- the first number that has a bit beyond them
-abbrev pub flagsBound : ℕ
-flagsBound = 128
+flagsIn x = flagsOf (bit 0 x) (bit 1 x) (bit 2 x) (bit 3 x) (bit 4 x) (bit 5 x) (bit 6 x) (bit 7 x)

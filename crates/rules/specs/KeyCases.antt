@@ -19,7 +19,7 @@ keyed locks down key =
     record {
       chip = chipOf (newChip .buffer) (withProtection locks (withWpld down (newChip .rest)));
       array = written arraySize (λ a. pick (ltb a 0x2000) key 0xFF);
-      security = newState .security;
+      security = newState true .security;
     }
 
 -- the block's read lock is bit 33, its write lock bit 32

@@ -1,4 +1,4 @@
--- Document 01 as definitions, in its order; Bursts is document 02's. Words hold the tools; Starred holds the cases marked * under one statement.
+-- Document 01 as definitions, in its order; Bursts and Parts are document 02's. Words hold the tools; Starred holds the cases marked * under one statement.
 pub mod Words
 pub mod Texts
 pub mod Blocks
@@ -18,6 +18,7 @@ pub mod Promises
 pub mod Demands
 pub mod Cases
 pub mod Starred
+pub mod Parts
 pub mod CasesOfBursts
 pub mod CasesOfReading
 pub mod CasesOfWriting

@@ -29,6 +29,8 @@ pub struct Works {
 }
 
 pub struct Flags {
+    // the part: BA, else the old one. No event changes it, and it stands first: behind those that frames change, a frame takes more instructions
+    pub ba: bool,
     pub wpld: bool,
     pub sec: bool,
     pub ioc: bool,

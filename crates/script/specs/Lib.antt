@@ -7,12 +7,12 @@
 --     a frame      BYTES [ > N [ / M ] [ = EXPECTED | = kept ] ] [ ! R ]       or  > N .. alone: the empty frame
 --     an event     done [ ! R ]          cut N [ ! R ]
 --     a question   status [ = EXPECTED ]     work     locks     dump [id] A N [ = EXPECTED ]
---     the chip     new     fill [id] A N BYTE     buffer A N BYTE     pattern     lend N N     record FIELDS     is FIELDS
+--     the chip     new [old]     fill [id] A N BYTE     buffer A N BYTE     pattern     lend N N     record FIELDS     is FIELDS
 --     files        save FILE [ ! R ]     load FILE [ ! R ]     save raw FILE [ ! R ]     load raw FILE [ ! R ]     compare raw FILE
 --     showing      full     short     strict     or nothing but a remark
 --
 -- BYTES is one or more of BYTE or BYTE * N, that byte N times. EXPECTED is one or more of BYTE, ?? for any and ~ BYTE for a byte that is unknown and reads so; each may
--- be followed by * N. FIELDS, in any order, are protect H, perm H, run KIND, aside KIND and the flags sqi wel ioc wpen wpld sec enable. KIND is sector H,
+-- be followed by * N. FIELDS, in any order, are protect H, perm H, run KIND, aside KIND and the flags sqi wel ioc wpen wpld sec enable ba. KIND is sector H,
 -- block H, array, page H, id H, lock, config H or bits H.
 -- BYTE is two hex digits; N and M are decimal numbers, from 1 after *; R is a decimal number from 0 to 15; A is one to six hex digits, H one to sixteen; hex
 -- digits are of either case, words of lower case only.

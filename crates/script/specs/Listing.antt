@@ -6,8 +6,8 @@ use mathlib.Core.List.{List, [], _∷_}
 use lib.ListN.{replicate, set, take}
 use Rattle.rules.specs.Words.{pick}
 use Rattle.rules.specs.Texts.{ascii}
-use Rattle.grammar.specs.Places.{lineStart, afterByte, afterByteStar, afterBytes, afterReply, afterReplyCount, afterSlash, afterMarkCount, afterEqual, afterExpected, afterTilde, afterExpectedStar, afterExpectedTimes, afterRefuse, lineDone, afterEvent, afterCut, afterQuestion, afterAsked, afterAnswer, afterAnswerTilde, afterAnswerStar, afterAnswerTimes, afterDump, afterDumpId, afterDumpPlace, afterFill, afterFillId, afterFillPlace, afterFillCount, afterLend, afterLendArray, inFields, afterProtect, afterPerm, afterRun, afterAside, afterRunKind, afterAsideKind, afterNoReply, afterNoReplySlash, afterAny, afterAnyStar, afterAnyTimes, afterAnswerAny, afterAnswerAnyStar, afterAnswerAnyTimes, afterBurst, afterSave, afterLoad, afterRaw, afterCompare, afterCompareRaw}
-use Rattle.grammar.specs.Slots.{verb, wanted, marksGiven, marks, expecting, judged, refused, from, size, filling, burst, ofId, protection, permanent, runKind, runNumber, asideKind, asideNumber, sqi, wel, ioc, wpen, wpld, sec, enable}
+use Rattle.grammar.specs.Places.{lineStart, afterByte, afterByteStar, afterBytes, afterReply, afterReplyCount, afterSlash, afterMarkCount, afterEqual, afterExpected, afterTilde, afterExpectedStar, afterExpectedTimes, afterRefuse, lineDone, afterEvent, afterCut, afterQuestion, afterAsked, afterAnswer, afterAnswerTilde, afterAnswerStar, afterAnswerTimes, afterDump, afterDumpId, afterDumpPlace, afterFill, afterFillId, afterFillPlace, afterFillCount, afterLend, afterLendArray, inFields, afterProtect, afterPerm, afterRun, afterAside, afterRunKind, afterAsideKind, afterNoReply, afterNoReplySlash, afterAny, afterAnyStar, afterAnyTimes, afterAnswerAny, afterAnswerAnyStar, afterAnswerAnyTimes, afterBurst, afterSave, afterLoad, afterRaw, afterCompare, afterCompareRaw, afterNew}
+use Rattle.grammar.specs.Slots.{verb, wanted, marksGiven, marks, expecting, judged, refused, from, size, filling, burst, ofId, old, protection, permanent, runKind, runNumber, asideKind, asideNumber, sqi, wel, ioc, wpen, wpld, sec, enable, ba}
 use Rattle.grammar.specs.Verbs as verbs
 use Rattle.script.specs.declared.Line.{Line}
 use Rattle.script.specs.declared.Reading.{Reading}
@@ -126,6 +126,7 @@ lines =
     ∷ sends "02 00 00 00 00 ! 11         # a refusal is expected" (0x02 ∷ 0x00 ∷ 0x00 ∷ 0x00 ∷ 0x00 ∷ []) (λ l. with judged 1 (with refused 11 l))
     ∷ plain "cut 100                     # power cut after 100 bytes" verbs.cut (with from 100)
     ∷ plain "new                         # a new chip, array all FF" verbs.new alone
+    ∷ plain "new old                     # the same of the old part" verbs.new (with old 1)
     ∷ plain "" verbs.blank alone
     ∷ sends "\t0b\tFe# x" (0x0B ∷ 0xFE ∷ []) alone
     ∷ sends "5A*3" (0x5A ∷ 0x5A ∷ 0x5A ∷ []) alone
@@ -167,6 +168,9 @@ lines =
     ∷ plain "is burst 32" verbs.is (with burst 2)
     ∷ plain "is burst 16" verbs.is (with burst 1)
     ∷ plain "is burst 8" verbs.is alone
+    ∷ plain "record ba ioc" verbs.records (λ l. with ba 1 (with ioc 1 l))
+    ∷ plain "is run id 4 ba" verbs.is (λ l. with runKind 5 (with runNumber 4 (with ba 1 l)))
+    ∷ sends "ba BA" (0xBA ∷ 0xBA ∷ []) alone
     ∷ plain "full" verbs.full alone
     ∷ plain "short" verbs.short alone
     ∷ plain "strict" verbs.strict alone
@@ -217,8 +221,12 @@ wrongLines =
     ∷ wrong "03 > 1 = 11*2*" afterExpectedTimes "*" 1 14
     ∷ wrong "05 > 1 != 00" afterRefuse "=" 1 9
     ∷ wrong "02 ! 16" afterRefuse "16" 2 6
-    ∷ wrong "new  a chip" lineDone "a" 1 6
-    ∷ wrong "new ! 0" lineDone "!" 1 5
+    ∷ wrong "new  a chip" afterNew "a" 1 6
+    ∷ wrong "new ! 0" afterNew "!" 1 5
+    ∷ wrong "new ba" afterNew "ba" 2 5
+    ∷ wrong "new old old" lineDone "old" 3 9
+    ∷ wrong "old" lineStart "old" 3 1
+    ∷ wrong "record old" inFields "old" 3 8
     ∷ wrong "done 5" afterEvent "5" 1 6
     ∷ wrong "cut" afterCut "" 0 4
     ∷ wrong "cut ten" afterCut "ten" 3 5
@@ -279,6 +287,7 @@ hints =
     ∷ hinted "Done" lowerCase
     ∷ hinted "STATUS" lowerCase
     ∷ hinted "record WEL" lowerCase
+    ∷ hinted "new OLD" lowerCase
     ∷ hinted "compare RAW x" lowerCase
     ∷ hinted "Finish" noHint
     ∷ hinted "0G" noHint

@@ -1,7 +1,8 @@
-// A bench chip, the SST26WF016B, written from the rules of the bench chip (document 01), the requests for burst reads (W-201)
-// and for chips sent by post (W-203), and the part's data sheet (002). One flat state, and three events over it: a frame, a
-// completion, a power cut; beside them a chip is written to a file and read from one. The text goes through document 01 in its
-// order; the words in quotation marks are its own, or a request's where a comment or the section's title says so.
+// A bench chip, the SST26WF016BA or the old part SST26WF016B, written from the rules of the bench chip (document 01), the
+// requests for burst reads (W-201), for chips sent by post (W-203) and for the BA part (W-204), and the two parts' data sheet
+// (002). One flat state, and three events over it: a frame, a completion, a power cut; beside them a chip is written to a file
+// and read from one. The text goes through document 01 in its order; the words in quotation marks are its own, or a request's
+// where a comment or the section's title says so.
 // Every function is proved to be safe and to end, and says nothing more than that.
 ghost use Prim.Native.Nat.{_≤_, _<_};
 
@@ -27,6 +28,8 @@ pub struct Flat {
     pub enable: bool,
     // the burst, by the byte that C0 sends for it: 0, 1, 2, 3 for 8, 16, 32, 64 bytes
     pub burst: u8,
+    // W-204: "The chip record keeps the part": true for the BA part, false for the old one. No event changes it.
+    pub ba: bool,
 }
 
 // What an event gives back: its number, 0 for done, and the record after it.
@@ -55,8 +58,14 @@ const WRITE_LOCKS: u64 = 0x5555FFFFFFFF;
 // The read locks: the odd bits of the pairs.
 const READ_LOCKS: u64 = 0xAAAA00000000;
 
+// W-204: "SST26WF016BA powers up with the hold and protect pins disabled, so IOC is 1 after power-up and after reset.", and
+// the old part "still gets 0". A new chip, a power cut and a reset ask here.
+fn power_up_ioc(ba: bool) -> bool {
+    ba
+}
+
 // "A new chip record is the power-up state with SEC 0, WPEN 0 and nothing permanent." W-201: "Power-up and reset set 8"
-pub fn fresh() -> Flat {
+fn new_chip(ba: bool) -> Flat {
     Flat {
         buffer: [255u8; 256],
         protection: 0x5555FFFFFFFF,
@@ -67,13 +76,24 @@ pub fn fresh() -> Flat {
         sus_number: 0,
         sqi: false,
         wel: false,
-        ioc: false,
+        ioc: power_up_ioc(ba),
         wpen: false,
         wpld: false,
         sec: false,
         enable: false,
         burst: 0,
+        ba,
     }
+}
+
+// W-204: "We now buy the BA part." "Make that the default."
+pub fn fresh() -> Flat {
+    new_chip(true)
+}
+
+// W-204: "A bench call that names the old part still gets 0."
+pub fn fresh_old() -> Flat {
+    new_chip(false)
 }
 
 // "array 2,097,152 bytes", "Security ID 2,048 bytes".
@@ -677,7 +697,7 @@ fn reset(s: Flat) -> Flat {
     let mut next = dropped(s);
     next.sqi = false;
     next.wel = false;
-    next.ioc = false;
+    next.ioc = power_up_ioc(s.ba);
     next.burst = 0;
     next
 }
@@ -819,13 +839,13 @@ fn completed(s: Flat) -> Flat {
 }
 
 // "Then power-up: SPI, WPLD 0, WEL 0, IOC 0, nothing running, no reset enable, protection 5555FFFFFFFF; SEC, WPEN and the
-// permanent register stay." "Suspended work is dropped." W-201: "Power-up and reset set 8"
+// permanent register stay." "Suspended work is dropped." W-201: "Power-up and reset set 8". By W-204 "IOC 0" is the old part's.
 fn powered_up(s: Flat) -> Flat {
     let mut next = dropped(s);
     next.sqi = false;
     next.wpld = false;
     next.wel = false;
-    next.ioc = false;
+    next.ioc = power_up_ioc(s.ba);
     next.enable = false;
     next.protection = 0x5555FFFFFFFF;
     next.burst = 0;
@@ -1239,7 +1259,8 @@ pub fn power_cut(s: Flat, array: &mut [u8], security: &mut [u8], k: u64) -> Step
 
 // ---- W-203: chips sent by post ----
 
-// The words in quotation marks are W-203's from here on. A place counts the bytes of a file from 0.
+// The words in quotation marks are W-203's from here on, or W-204's where a comment says so. A place counts the bytes of a
+// file from 0.
 
 // "That is 2,148,374 bytes, written into a lent buffer of exactly that length."
 const FILE_BYTES: usize = 2148374;
@@ -1355,10 +1376,11 @@ fn page_place(page: usize, index: usize) -> usize {
     page % 8192 * 256 + index % 256
 }
 
-// "Flags from bit 0: SQI, WEL, IOC, WPEN, WPLD, SEC, reset enable, 0."
+// "Flags from bit 0: SQI, WEL, IOC, WPEN, WPLD, SEC, reset enable", and W-204: "bit 7 of W-203's flags now holds" the part,
+// "1 for BA".
 fn flags_of(s: Flat) -> u8 {
     let low = flag(s.sqi, 1) | flag(s.wel, 2) | flag(s.ioc, 4) | flag(s.wpen, 8);
-    low | flag(s.wpld, 16) | flag(s.sec, 32) | flag(s.enable, 64)
+    low | flag(s.wpld, 16) | flag(s.sec, 32) | flag(s.enable, 64) | flag(s.ba, 128)
 }
 
 fn head_of(s: Flat) -> Head {
@@ -1470,7 +1492,8 @@ fn head_in(file: &[u8]) -> Head {
     }
 }
 
-// "a whole idle chip": nothing runs and nothing is suspended, and so the buffer is all FF.
+// "a whole idle chip": nothing runs and nothing is suspended, and so the buffer is all FF. Its IOC is the file's: reading is no
+// power-up. W-204: "so old files stay old parts"
 fn idle_chip(head: Head) -> Flat {
     let flags = head.flags as u64;
     Flat {
@@ -1489,21 +1512,18 @@ fn idle_chip(head: Head) -> Flat {
         sec: has_bit(flags, 5),
         enable: has_bit(flags, 6),
         burst: head.burst,
+        ba: has_bit(flags, 7),
     }
 }
 
-// Not "a wrong mark, sum, page number, code, flag bit 7 or register that breaks the well-formed rules".
+// Not "a wrong mark, sum, page number, code, .. or register that breaks the well-formed rules". W-204: bit 7 "now holds" the
+// part, so no flag bit is wrong.
 fn file_fits(file: &[u8]) -> bool {
     if !records_fit(file) {
         return false;
     }
-    let head = head_in(file);
-    // "flag bit 7"
-    if 127 < head.flags {
-        return false;
-    }
     // the code and the registers: all else of an idle chip is well-formed
-    well_formed(idle_chip(head))
+    well_formed(idle_chip(head_in(file)))
 }
 
 // A byte of the file goes to the Security ID, to the array, or to neither.

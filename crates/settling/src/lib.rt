@@ -71,7 +71,12 @@ pub fn cut(r: Rest, some: bool) -> Rest
 {
     if some {
         let left = settle(r);
-        return power::powered_up(left.flags.sec, left.flags.wpen, left.locks.permanent);
+        return power::powered_up(
+            left.flags.ba,
+            left.flags.sec,
+            left.flags.wpen,
+            left.locks.permanent,
+        );
     }
-    power::powered_up(r.flags.sec, r.flags.wpen, r.locks.permanent)
+    power::powered_up(r.flags.ba, r.flags.sec, r.flags.wpen, r.locks.permanent)
 }

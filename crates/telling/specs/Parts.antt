@@ -43,7 +43,7 @@ partRow Part.More i p l sent expected known remark reply marks array security =
 partRow Part.Configuration i p l sent expected known remark reply marks array security = configurationRow (l .verb) (p .bench .chip .rest)
 partRow Part.Bits i p l sent expected known remark reply marks array security = bitRow (l .verb) (p .bench .chip .rest) i
 partRow Part.Protocol i p l sent expected known remark reply marks array security =
-    protocolTold (l .verb) (p .bench .chip .rest .flags .sqi) (p .bench .chip .rest .flags .enable) (p .bench .chip .rest .burst)
+    protocolTold (l .verb) (p .bench .chip .rest .flags .sqi) (p .bench .chip .rest .flags .enable) (p .bench .chip .rest .flags .ba) (p .bench .chip .rest .burst)
 partRow Part.Number i p l sent expected known remark reply marks array security = numberRow (l .verb) (p .number)
 partRow Part.Why i p l sent expected known remark reply marks array security =
     whyRow (l .verb) (p .number) (p .bench .array) (p .bench .security) (slot (l .slots) slots.wanted) (marksWanted Event.Frame (l .slots)) (p .before) sent

@@ -91,7 +91,7 @@ fn part_row(
         ),
         Part::Configuration => heads::configuration(l.verb, rest),
         Part::Bits => heads::bit(l.verb, rest, i),
-        Part::Protocol => heads::protocol(l.verb, flags.sqi, flags.enable, burst),
+        Part::Protocol => heads::protocol(l.verb, flags.sqi, flags.enable, flags.ba, burst),
         Part::Number => reasons::number(l.verb, p.number),
         Part::Why => reasons::why(
             l.verb,

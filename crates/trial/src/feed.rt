@@ -226,6 +226,7 @@ fn plant_said(plant: u64) {
         4 => say(b", other marks"),
         5 => say(b", another array"),
         6 => say(b", another Security ID"),
+        7 => say(b", another part"),
         _ => {}
     }
 }
@@ -250,7 +251,7 @@ fn ended(f: Feed, now: Playing) -> Feed {
         next.differences = std::num::wrapping_add_u64(f.differences, differences(f, now));
         return next;
     }
-    if f.plant < 6 {
+    if f.plant < 7 {
         next.word = std::num::wrapping_sub_usize(f.word, 1);
         next.plant = std::num::wrapping_add_u64(f.plant, 1);
         return next;
@@ -362,6 +363,15 @@ fn any_form(
     source::any_form(input, seed, forms, index, false, letter)
 }
 
+// Of which part the chip is that a run began with: it keeps it.
+fn begun(f: Feed, now: Playing, counts: &mut Counts) {
+    let b = now.bench;
+    let c = b.chip;
+    if (f.line == 1) & !f.printed {
+        report::run_counted(counts, f.series, c.rest.flags.ba);
+    }
+}
+
 fn random(f: Feed, now: Playing, forms: &[u8], index: &Counts, input: &mut [u8]) -> Feed {
     if forms_of(f.series) < f.line {
         return next_run(f, now, source::total(index, b'x'));
@@ -395,6 +405,9 @@ pub fn more(
         PART => part(f, input),
         ENDED => ended(f, now),
         FORMS => indexed(f, forms, counts),
-        _ => random(f, now, forms, counts, input),
+        _ => {
+            begun(f, now, counts);
+            random(f, now, forms, counts, input)
+        }
     }
 }

@@ -5,23 +5,29 @@ use script::Line;
 use second::Flat;
 use standing::Playing;
 
-// Places of what is counted: frames by opcode, done ones, events by number, by what runs, by what is suspended; burst reads by their length; the checklist's
-// lines.
+// Places of what is counted: frames by opcode; done ones, of the old part and of BA; events by number, by what runs, by what is suspended; burst reads by
+// their length; runs by how they begin and by the part; the checklist's lines.
 const SENT: usize = 4096;
 
 const DONE: usize = 4352;
 
-const NUMBERS: usize = 4608;
+const DONE_BA: usize = 4608;
 
-const RUNNING: usize = 4626;
+const NUMBERS: usize = 4864;
 
-const SUSPENDED: usize = 4636;
+const NUMBERS_BA: usize = 4880;
 
-const BESIDE: usize = 4646;
+const RUNNING: usize = 4896;
 
-const BURSTS: usize = 4660;
+const SUSPENDED: usize = 4906;
 
-const LINES: usize = 4696;
+const BESIDE: usize = 4916;
+
+const BURSTS: usize = 4930;
+
+const RUNS: usize = 4946;
+
+const LINES: usize = 4960;
 
 fn plus(base: usize, n: usize) -> usize {
     std::num::wrapping_add_usize(base, n)
@@ -41,9 +47,26 @@ fn count(tally: &Counts, i: usize) -> u64 {
     0
 }
 
+// The place of the part.
+fn by_part(ba: bool, old_part: usize, ba_part: usize) -> usize {
+    if ba {
+        return ba_part;
+    }
+    old_part
+}
+
+// A random run, by its series and the part of the chip that it begins with.
+pub fn run_counted(tally: &mut Counts, series: u64, ba: bool) {
+    let n = (series % 4 * 2) as usize;
+    bump(tally, plus(by_part(ba, RUNS, RUNS + 1), n));
+}
+
 // An event of a random run, with the record before it.
 pub fn event_counted(tally: &mut Counts, before: Flat, l: Line, frame: &[u8], number: u8) {
-    bump(tally, plus(NUMBERS, number as usize));
+    bump(
+        tally,
+        plus(by_part(before.ba, NUMBERS, NUMBERS_BA), number as usize),
+    );
     bump(tally, plus(RUNNING, before.run_kind as usize));
     bump(tally, plus(SUSPENDED, before.sus_kind as usize));
     if before.sus_kind != 0 {
@@ -53,7 +76,7 @@ pub fn event_counted(tally: &mut Counts, before: Flat, l: Line, frame: &[u8], nu
         let opcode = at(frame, 0) as usize;
         bump(tally, plus(SENT, opcode));
         if number == 0 {
-            bump(tally, plus(DONE, opcode));
+            bump(tally, plus(by_part(before.ba, DONE, DONE_BA), opcode));
             if (opcode == 0x0c) | (opcode == 0xec) {
                 bump(tally, plus(BURSTS, before.burst as usize));
             }
@@ -136,6 +159,15 @@ fn untried(tally: &Counts) -> u64 {
     n
 }
 
+// How many runs of a series began with each part.
+fn runs_said(tally: &Counts, series: usize, name: &[u8]) {
+    let n = plus(RUNS, plus(series, series));
+    say(name);
+    say_number(b": old part ", count(tally, n));
+    say_number(b", BA ", count(tally, plus(n, 1)));
+    say(b"\n");
+}
+
 pub fn counts_said(tally: &Counts) {
     let listed =
         b"\x00\x66\x99\x38\xff\x05\x35\x72\x9f\xaf\x03\x0b\x6b\x88\x06\x04\x20\xd8\xc7\x02\x32\xa5\x85\x01\x42\xe8\x8d\x98\xb0\x30\xc0\x0c\xec";
@@ -143,13 +175,11 @@ pub fn counts_said(tally: &Counts) {
     say_number(b"checklist: lines 1 to 81, not tried: ", n);
     say(b"\n");
     kinds_said(tally, SENT, listed, b"opcodes sent");
-    kinds_said(tally, DONE, listed, b"opcodes done");
-    kinds_said(
-        tally,
-        NUMBERS,
-        b"\x00\x01\x02\x03\x04\x05\x06\x07\x08\x09\x0a\x0b\x0c\x0d",
-        b"numbers",
-    );
+    kinds_said(tally, DONE, listed, b"opcodes done, old part");
+    kinds_said(tally, DONE_BA, listed, b"opcodes done, BA");
+    let numbers = b"\x00\x01\x02\x03\x04\x05\x06\x07\x08\x09\x0a\x0b\x0c\x0d";
+    kinds_said(tally, NUMBERS, numbers, b"numbers, old part");
+    kinds_said(tally, NUMBERS_BA, numbers, b"numbers, BA");
     kinds_said(
         tally,
         RUNNING,
@@ -164,6 +194,10 @@ pub fn counts_said(tally: &Counts) {
         b"work beside a suspension",
     );
     kinds_said(tally, BURSTS, b"\x00\x01\x02\x03", b"burst reads");
+    runs_said(tally, 0, b"runs from new chips");
+    runs_said(tally, 1, b"runs from records");
+    runs_said(tally, 2, b"runs from broken records");
+    kinds_said(tally, RUNS, b"\x00\x01\x02\x03\x04\x05", b"runs by part");
 }
 
 // ---- a line

@@ -1,4 +1,4 @@
-//! The SST26WF016B flash chip for firmware benches: a safe wrapper of the proved library.
+//! The SST26WF016BA flash chip, and the old part SST26WF016B, for firmware benches: a safe wrapper of the proved library.
 //!
 //! The library reads and writes lent bytes only, for every input of every length, so nothing here can be used wrongly: the types hold
 //! the sizes, and references hold that no two lent parts overlap.
@@ -16,6 +16,7 @@ pub const SECURITY: usize = 2_048;
 mod library {
     extern "C" {
         pub fn fulkibono_new(record: *mut u8, record_len: usize) -> u8;
+        pub fn fulkibono_new_old(record: *mut u8, record_len: usize) -> u8;
         pub fn fulkibono_frame(
             record: *mut u8,
             record_len: usize,
@@ -185,11 +186,20 @@ impl Default for Record {
 }
 
 impl Record {
-    /// A new chip.
+    /// A new chip: a BA, whose IOC is 1 at power-up and after a reset. 6B, 32 and EC are taken at once, and 35 reads 0A. `flag(FLAG_BA)` tells the part.
     pub fn new() -> Record {
         let mut r = Record([0; RECORD_SIZE]);
         // Safety: the record's own bytes, with their length, which is the right one.
         let n = unsafe { library::fulkibono_new(r.0.as_mut_ptr(), RECORD_SIZE) };
+        debug_assert_eq!(n, 0);
+        r
+    }
+
+    /// The same of the old part, whose IOC is 0 then: 6B, 32 and EC get 7 until 01 sets it, and 35 reads 08.
+    pub fn new_old() -> Record {
+        let mut r = Record([0; RECORD_SIZE]);
+        // Safety: as in `new`.
+        let n = unsafe { library::fulkibono_new_old(r.0.as_mut_ptr(), RECORD_SIZE) };
         debug_assert_eq!(n, 0);
         r
     }

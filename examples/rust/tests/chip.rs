@@ -8,7 +8,11 @@ struct Bench {
 
 impl Bench {
     fn new() -> Bench {
-        Bench { chip: Record::new(), array: vec![0xFF; ARRAY], security: vec![0xFF; SECURITY] }
+        Bench::of(Record::new())
+    }
+
+    fn of(chip: Record) -> Bench {
+        Bench { chip, array: vec![0xFF; ARRAY], security: vec![0xFF; SECURITY] }
     }
 
     fn send(&mut self, sent: &[u8], n: usize) -> (u8, Vec<u8>, Vec<u8>) {
@@ -36,16 +40,109 @@ impl Bench {
         let security = Security::of(&mut self.security).unwrap();
         self.chip.completion(array, security).err().map_or(0, |r| r.number())
     }
+
+    fn cut(&mut self, k: u64) -> u8 {
+        let array = Array::of(&mut self.array).unwrap();
+        let security = Security::of(&mut self.security).unwrap();
+        self.chip.power_cut(array, security, k).err().map_or(0, |r| r.number())
+    }
+
+    /// The byte that 35 reads.
+    fn configuration(&mut self) -> u8 {
+        let (number, reply, marks) = self.send(&[0x35], 1);
+        assert_eq!((number, marks), (0, vec![1]));
+        reply[0]
+    }
+}
+
+/// A new chip of each part, and the bit of 35 that is its IOC at power-up and after a reset.
+fn parts() -> [(Record, u8); 2] {
+    [(Record::new(), 0x02), (Record::new_old(), 0x00)]
 }
 
 #[test]
 fn a_new_chip() {
     let mut b = Bench::new();
     assert_eq!(b.send(&[0x05], 1), (0, vec![0x00], vec![1]));
-    assert_eq!(b.send(&[0x35], 1), (0, vec![0x08], vec![1]));
+    assert_eq!(b.send(&[0x35], 1), (0, vec![0x0A], vec![1]));
     assert_eq!(b.send(&[0x72], 6), (0, vec![0x55, 0x55, 0xFF, 0xFF, 0xFF, 0xFF], vec![1; 6]));
     assert_eq!(b.send(&[], 2), (2, vec![0xFF; 2], vec![0; 2]));
     assert_eq!(b.complete(), 12);
+}
+
+#[test]
+fn a_new_old_part() {
+    let mut b = Bench::of(Record::new_old());
+    assert_eq!(b.send(&[0x05], 1), (0, vec![0x00], vec![1]));
+    assert_eq!(b.send(&[0x35], 1), (0, vec![0x08], vec![1]));
+    let (ba, old) = (Record::new(), Record::new_old());
+    assert!(ba.flag(FLAG_BA) && ba.flag(FLAG_IOC) && !old.flag(FLAG_BA) && !old.flag(FLAG_IOC));
+    // they differ in the flags alone
+    for place in 0..RECORD_SIZE {
+        assert_eq!(ba.bytes()[place] ^ old.bytes()[place], if place == PLACE_FLAGS { FLAG_BA | FLAG_IOC } else { 0 });
+    }
+}
+
+#[test]
+fn quad_frames_on_each_part() {
+    for (chip, ioc) in parts() {
+        let mut b = Bench::of(chip);
+        let number = if ioc == 0 { 7 } else { 0 };
+        let mark = u8::from(number == 0);
+        assert_eq!(b.send(&[0x6B, 0, 0, 0, 0], 2), (number, vec![0xFF; 2], vec![mark; 2]));
+        assert_eq!(b.send(&[0xEC, 0, 0, 0, 0, 0, 0], 2), (number, vec![0xFF; 2], vec![mark; 2]));
+        b.send(&[0x06], 0);
+        b.send(&[0x98], 0);
+        b.send(&[0x06], 0);
+        assert_eq!(b.send(&[0x32, 0, 0, 0, 0x5A], 0).0, number);
+        assert_eq!(b.complete(), if number == 0 { 0 } else { 12 });
+        assert_eq!(b.array[0], if number == 0 { 0x5A } else { 0xFF });
+    }
+}
+
+#[test]
+fn a_reset_and_a_power_up_give_the_part_its_ioc() {
+    for (chip, ioc) in parts() {
+        for said in [0x00, 0x02, 0x80, 0x82] {
+            let running = || {
+                let mut b = Bench::of(chip.clone());
+                b.send(&[0x06], 0);
+                assert_eq!(b.send(&[0x01, 0xFF, said], 0).0, 0);
+                b
+            };
+            // done: both as 01 says; then a reset, or a cut of the idle chip, sets IOC back and leaves WPEN
+            let mut b = running();
+            assert_eq!((b.complete(), b.configuration()), (0, 0x08 | said));
+            let mut other = Bench::of(b.chip.clone());
+            assert_eq!((b.send(&[0x66], 0).0, b.send(&[0x99], 0).0), (0, 0));
+            assert_eq!(b.configuration(), 0x08 | ioc | said & 0x80);
+            assert_eq!((other.cut(0), other.configuration()), (0, 0x08 | ioc | said & 0x80));
+            // in flight: a reset and a cut at 0 lose it, a cut at 1 leaves WPEN
+            let mut b = running();
+            assert_eq!((b.send(&[0x66], 0).0, b.send(&[0x99], 0).0, b.configuration()), (0, 0, 0x08 | ioc));
+            let mut b = running();
+            assert_eq!((b.cut(0), b.configuration()), (0, 0x08 | ioc));
+            let mut b = running();
+            assert_eq!((b.cut(1), b.configuration()), (0, 0x08 | ioc | said & 0x80));
+            assert!(b.chip.flag(FLAG_BA) == chip.flag(FLAG_BA));
+        }
+    }
+}
+
+#[test]
+fn a_record_stored_before_is_an_old_part() {
+    let mut stored = [0; RECORD_SIZE];
+    stored[PLACE_PAGE..PLACE_PROTECTION].fill(0xFF);
+    stored[PLACE_PROTECTION..PLACE_PROTECTION + 6].copy_from_slice(&[0xFF, 0xFF, 0xFF, 0xFF, 0x55, 0x55]);
+    let mut b = Bench::of(Record::from_bytes(stored));
+    assert!(b.chip == Record::new_old());
+    assert_eq!(b.configuration(), 0x08);
+    // with IOC 1, as 01 left it
+    stored[PLACE_FLAGS] = FLAG_IOC;
+    b.chip = Record::from_bytes(stored);
+    assert_eq!(b.configuration(), 0x0A);
+    assert_eq!((b.cut(0), b.configuration()), (0, 0x08));
+    assert!(b.chip == Record::new_old());
 }
 
 #[test]
@@ -69,9 +166,7 @@ fn a_power_cut_in_an_erase() {
     b.array[0x2000..0x3000].fill(0);
     b.send(&[0x06], 0);
     assert_eq!(b.send(&[0x20, 0x00, 0x20, 0x00], 0).0, 0);
-    let array = Array::of(&mut b.array).unwrap();
-    let security = Security::of(&mut b.security).unwrap();
-    assert!(b.chip.power_cut(array, security, 10).is_ok());
+    assert_eq!(b.cut(10), 0);
     assert!(b.array[0x2000..0x200A].iter().all(|&x| x == 0xFF) && b.array[0x200A..0x3000].iter().all(|&x| x == 0));
     assert!(b.chip == Record::new());
 }
@@ -93,7 +188,6 @@ fn a_burst_wraps_in_its_group() {
 fn bytes_that_are_no_record() {
     let mut b = Bench::new();
     let wrong = [
-        (PLACE_FLAGS, 128),
         (PLACE_BURST, 4),
         (PLACE_RUNNING_KIND, KIND_PERMANENT_BITS + 1),
         (PLACE_RUNNING_NUMBER, 1),
@@ -113,6 +207,20 @@ fn bytes_that_are_no_record() {
     b.chip = Record::from_bytes(bytes);
     assert_eq!(b.send(&[0x05], 1).0, 0);
     assert_eq!(b.chip.bytes(), &bytes);
+}
+
+#[test]
+fn every_byte_is_some_flags() {
+    let mut b = Bench::new();
+    for flags in 0..=255 {
+        let mut bytes = *Record::new().bytes();
+        bytes[PLACE_FLAGS] = flags;
+        b.chip = Record::from_bytes(bytes);
+        assert_eq!((b.chip.flag(FLAG_SQI), b.chip.flag(FLAG_BA)), (flags & 1 != 0, flags >= 128));
+        assert_eq!(b.send(&[0x00], 0).0, 0);
+        bytes[PLACE_FLAGS] = flags & !FLAG_RESET_ENABLE;
+        assert_eq!(b.chip.bytes(), &bytes);
+    }
 }
 
 #[test]
@@ -172,7 +280,7 @@ fn an_image_gives_the_chip_back() {
     b.security[9] = 0xA5;
     let file = b.image().unwrap();
     assert_eq!(file.len(), IMAGE);
-    assert_eq!(file[..18], [b'R', b'G', 0x00, 0x00, 0x00, 0x00, 0x00, 0x00, 0, 0, 0, 0, 0, 0, 0x02, 0x00, 0x00, 0x02]);
+    assert_eq!(file[..18], [b'R', b'G', 0x00, 0x00, 0x00, 0x00, 0x00, 0x00, 0, 0, 0, 0, 0, 0, 0x86, 0x00, 0x00, 0x86]);
     assert_eq!((&file[18..20], file[29]), (&b"SI"[..], 0xA5));
     // the last page, blank: its sum wraps
     assert_eq!(file[IMAGE - 262..IMAGE - 258], [b'P', b'G', 0x1F, 0xFF]);
@@ -188,13 +296,37 @@ fn an_image_gives_the_chip_back() {
 }
 
 #[test]
+fn an_image_keeps_the_part() {
+    for (chip, flags) in [(Record::new(), FLAG_BA | FLAG_IOC), (Record::new_old(), 0)] {
+        let mut b = Bench::of(chip.clone());
+        let file = b.image().unwrap();
+        assert_eq!(file[14], flags);
+        for there in [Record::new(), Record::new_old()] {
+            b.chip = there;
+            assert_eq!(b.read_image(&file), 0);
+            assert!(b.chip == chip);
+        }
+    }
+    // each of the 256 bytes is read, with its sum: 55 55 FF FF FF FF and the flags
+    let mut b = Bench::new();
+    let mut file = b.image().unwrap();
+    for flags in 0..=255 {
+        file[14] = flags;
+        file[16..18].copy_from_slice(&(0x04A6 + u16::from(flags)).to_be_bytes());
+        assert_eq!(b.read_image(&file), 0);
+        assert_eq!((b.chip.bytes()[PLACE_FLAGS], b.chip.flag(FLAG_BA)), (flags, flags >= 128));
+    }
+    assert!(b.image().unwrap() == file);
+}
+
+#[test]
 fn a_refused_image_changes_nothing() {
     let mut b = Bench::new();
     let file = b.image().unwrap();
     b.send(&[0x06], 0);
     b.array[7] = 7;
     let (chip, array) = (b.chip.clone(), b.array.clone());
-    // mark, flag bit 7, burst code, sum of RG; mark of SI; number, page and sum of PG
+    // mark, flags and burst code with the old sum, sum of RG; mark of SI; number, page and sum of PG
     for at in [0, 14, 15, 16, 18, 2072, 2074, 2331, IMAGE - 1] {
         let mut wrong = file.clone();
         wrong[at] ^= 0x80;

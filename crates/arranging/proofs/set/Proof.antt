@@ -6,8 +6,11 @@ use Rattle.arranging.proofs.set.Tie as tie
 enum-told : tie.Need-enum-told
 enum-told c = search needs
 
-new-requires : tie.Need-new-requires
-new-requires c κs = search needs
+array-read-new-of : tie.Need-array-read-new-of
+array-read-new-of c = search needs
+
+new-of-requires : tie.Need-new-of-requires
+new-of-requires c κs = search needs
 
 enum-told-2 : tie.Need-enum-told-2
 enum-told-2 c = search needs
@@ -61,7 +64,7 @@ enum-told-9 : tie.Need-enum-told-9
 enum-told-9 c = search needs
 
 returns : tie.Need-returns
-returns c = rw (c .before .enum-told .given .1, c .new .ensures)
+returns c = rw (c .before .enum-told .given .1, c .new-of .ensures)
 
 returns-2 : tie.Need-returns-2
 returns-2 c = rw (c .enum-told2 .given .1)
@@ -92,7 +95,8 @@ set-spec =
     tie.close
     (tie.spec
     enum-told
-    new-requires
+    array-read-new-of
+    new-of-requires
     enum-told-2
     enum-told-3
     enum-told-4

@@ -54,12 +54,6 @@ enum-told-8 c = search needs
 form-requires-3 : tie.Need-form-requires-3
 form-requires-3 c κs = search needs
 
-enum-told-9 : tie.Need-enum-told-9
-enum-told-9 c = search needs
-
-form-requires-4 : tie.Need-form-requires-4
-form-requires-4 c κs = search needs
-
 returns : tie.Need-returns
 returns c = rw (c .before .enum-told .given .1) (c .empty .ensures)
 
@@ -84,9 +78,6 @@ returns-7 c = rw (c .before .enum-told7 .given .1, ← c .before .before .before
 returns-8 : tie.Need-returns-8
 returns-8 c = rw (c .before .enum-told8 .given .1, ← c .before .before .before .record-row .ensures) (c .form3 .ensures)
 
-returns-9 : tie.Need-returns-9
-returns-9 c = rw (c .before .enum-told9 .given .1, ← c .before .before .before .record-row .ensures) (c .form4 .ensures)
-
 pub fault-spec : {M : Type 1} → statement M
 fault-spec =
     tie.close
@@ -108,8 +99,6 @@ fault-spec =
     form-requires-2
     enum-told-8
     form-requires-3
-    enum-told-9
-    form-requires-4
     returns
     returns-2
     returns-3
@@ -117,5 +106,4 @@ fault-spec =
     returns-5
     returns-6
     returns-7
-    returns-8
-    returns-9)
+    returns-8)

@@ -51,6 +51,9 @@ array-read-t43 c = search needs
 array-read-t47 : tie.Need-array-read-t47
 array-read-t47 c = search needs
 
+array-read-t51 : tie.Need-array-read-t51
+array-read-t51 c = search needs
+
 array-read-burst-of : tie.Need-array-read-burst-of
 array-read-burst-of c = search needs
 
@@ -80,6 +83,7 @@ record-of-spec =
     array-read-t39
     array-read-t43
     array-read-t47
+    array-read-t51
     array-read-burst-of
     burst-of-requires
     returns)

@@ -26,9 +26,12 @@ same-flag-requires-6 c κs = search needs
 same-flag-requires-7 : tie.Need-same-flag-requires-7
 same-flag-requires-7 c κs = search needs
 
+same-flag-requires-8 : tie.Need-same-flag-requires-8
+same-flag-requires-8 c κs = search needs
+
 returns : tie.Need-returns
 unfolding sameFlags
-returns c = rw (c .before .before .before .before .before .before .same-flag .ensures, c .before .before .before .before .before .same-flag2 .ensures, c .before .before .before .before .same-flag3 .ensures, c .before .before .before .same-flag4 .ensures, c .before .before .same-flag5 .ensures, c .before .same-flag6 .ensures, c .same-flag7 .ensures)
+returns c = rw (c .before .before .before .before .before .before .before .same-flag .ensures, c .before .before .before .before .before .before .same-flag2 .ensures, c .before .before .before .before .before .same-flag3 .ensures, c .before .before .before .before .same-flag4 .ensures, c .before .before .before .same-flag5 .ensures, c .before .before .same-flag6 .ensures, c .before .same-flag7 .ensures, c .same-flag8 .ensures)
 
 pub same-flags-spec : {M : Type 1} → statement M
 same-flags-spec =
@@ -41,4 +44,5 @@ same-flags-spec =
     same-flag-requires-5
     same-flag-requires-6
     same-flag-requires-7
+    same-flag-requires-8
     returns)

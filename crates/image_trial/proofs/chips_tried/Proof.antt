@@ -10,7 +10,7 @@ Inv-loop counts₀ array₀ security₀ file₀ other₀ security2₀ k₀ t9 co
 
 abbrev μ-loop : tie.MeasureT-loop
 μ-loop counts₀ array₀ security₀ file₀ other₀ security2₀ k₀ t9 counts array security file other security2 k =
-    128 - k
+    256 - k
 
 loop-holds : tie.Need-loop-holds Inv-loop μ-loop
 loop-holds c = search needs

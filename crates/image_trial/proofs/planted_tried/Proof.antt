@@ -10,7 +10,7 @@ Inv-loop counts₀ array₀ security₀ file₀ other₀ security2₀ plant₀ c
 
 abbrev μ-loop : tie.MeasureT-loop
 μ-loop counts₀ array₀ security₀ file₀ other₀ security2₀ plant₀ counts array security file other security2 plant =
-    17 - plant
+    18 - plant
 
 loop-holds : tie.Need-loop-holds Inv-loop μ-loop
 loop-holds c = search needs

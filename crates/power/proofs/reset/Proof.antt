@@ -1,5 +1,5 @@
 -- Six fields are set. Assumes nothing.
-use mathlib.Core.Path.{refl}
+use borrow.Author.Needs.{needs}
 use Rattle.power.proofs.reset.Statement.{statement}
 use Rattle.power.proofs.reset.Tie as tie
 
@@ -7,4 +7,5 @@ pub reset-spec : {M : Type 1} → statement M
 reset-spec =
     tie.close
     (tie.spec
-    (λ c. refl))
+    (λ c κs. search needs)
+    (λ c. rw (c .power-up-ioc .ensures)))

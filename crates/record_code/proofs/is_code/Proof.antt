@@ -28,12 +28,6 @@ get-word-requires-2 c κs = omega arith
 work-right-requires-2 : tie.Need-work-right-requires-2
 work-right-requires-2 c κs = tt
 
-shared-slice-read-flags-right : tie.Need-shared-slice-read-flags-right
-shared-slice-read-flags-right c = omega arith
-
-flags-right-requires : tie.Need-flags-right-requires
-flags-right-requires c κs = tt
-
 shared-slice-read-burst-right : tie.Need-shared-slice-read-burst-right
 shared-slice-read-burst-right c = omega arith
 
@@ -45,8 +39,7 @@ nothing-reserved-requires c κs = omega arith
 
 returns-2 : tie.Need-returns-2
 unfolding isCode
-returns-2 c = let f = c .before .before .before in
-    let w₂ = f .before .before in
+returns-2 c = let w₂ = c .before .before .before in
     let w₁ = w₂ .before .before .before in
     rw (
       eq-eqb _ 320 (w₁ .before .before .before .if1 .left),
@@ -54,7 +47,6 @@ returns-2 c = let f = c .before .before .before in
       w₁ .before .get-word .ensures,
       w₂ .work-right2 .ensures,
       w₂ .before .get-word2 .ensures,
-      f .flags-right .ensures,
       c .before .burst-right .ensures,
       c .nothing-reserved .ensures,
     ) (simp add-zero)
@@ -70,8 +62,6 @@ is-code-spec =
     shared-slice-read-work-right-2
     get-word-requires-2
     work-right-requires-2
-    shared-slice-read-flags-right
-    flags-right-requires
     shared-slice-read-burst-right
     burst-right-requires
     nothing-reserved-requires

@@ -1,4 +1,4 @@
--- With the burst behind it. Assumes nothing.
+-- With the burst and the part behind it. Assumes nothing.
 use Rattle.heads.specs.Statuses.{protocolRow}
 use borrow.Author.Needs.{needs}
 use Rattle.heads.proofs.statuses.protocol_row.Statement.{statement}
@@ -13,9 +13,12 @@ burst-length-requires c κs = search needs
 form-requires : tie.Need-form-requires
 form-requires c κs = search needs
 
+part-requires : tie.Need-part-requires
+part-requires c κs = search needs
+
 returns : tie.Need-returns
 unfolding protocolRow
-returns c = rw (← c .before .before .enable-row .ensures, ← c .before .burst-length .ensures) (c .form .ensures)
+returns c = rw (← c .before .before .before .enable-row .ensures, ← c .before .before .burst-length .ensures, ← c .before .form .ensures) (c .part .ensures)
 
 pub protocol-row-spec : {M : Type 1} → statement M
-protocol-row-spec = tie.close (tie.spec enable-row-requires burst-length-requires form-requires returns)
+protocol-row-spec = tie.close (tie.spec enable-row-requires burst-length-requires form-requires part-requires returns)

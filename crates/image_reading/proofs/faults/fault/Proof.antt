@@ -28,9 +28,6 @@ returns-2 c = let k = c .before .before .before in
 shared-slice-read-registers-fault : tie.Need-shared-slice-read-registers-fault
 shared-slice-read-registers-fault c = search needs
 
-shared-slice-read-registers-fault-2 : tie.Need-shared-slice-read-registers-fault-2
-shared-slice-read-registers-fault-2 c = search needs
-
 registers-fault-requires : tie.Need-registers-fault-requires
 registers-fault-requires c κs = search needs
 
@@ -39,7 +36,7 @@ is-none-requires-2 c κs = search needs
 
 returns-3 : tie.Need-returns-3
 returns-3 c = let s = c .before .before in
-    let p = s .before .before .before in
+    let p = s .before .before in
     let k = p .before .before .before in
     let l = k .before .before .before .args .l .now in
     told l _ (low-of l _ (k .locks-in .ensures .0) (k .locks-in .ensures .1))
@@ -55,7 +52,7 @@ is-none-requires-3 c κs = search needs
 returns-4 : tie.Need-returns-4
 returns-4 c = let q = c .before .before .before in
     let s = q .before .before in
-    let p = s .before .before .before in
+    let p = s .before .before in
     let k = p .before .before .before in
     let l = k .before .before .before .args .l .now in
     told l _ (low-of l _ (k .locks-in .ensures .0) (k .locks-in .ensures .1))
@@ -70,7 +67,7 @@ returns-5 : tie.Need-returns-5
 returns-5 c = let t = c .before in
     let q = t .before .before .before in
     let s = q .before .before in
-    let p = s .before .before .before in
+    let p = s .before .before in
     let k = p .before .before .before in
     let l = k .before .before .before .args .l .now in
     told l _ (low-of l _ (k .locks-in .ensures .0) (k .locks-in .ensures .1))
@@ -89,7 +86,6 @@ fault-spec =
     is-none-requires
     returns-2
     shared-slice-read-registers-fault
-    shared-slice-read-registers-fault-2
     registers-fault-requires
     is-none-requires-2
     returns-3

@@ -8,7 +8,7 @@ abbrev Inv-loop : tie.InvT-loop
 Inv-loop odd n₀ n = Unit {0}
 
 abbrev μ-loop : tie.MeasureT-loop
-μ-loop odd n₀ n = 17 - n
+μ-loop odd n₀ n = 18 - n
 
 loop-holds : tie.Need-loop-holds Inv-loop μ-loop
 loop-holds c = search needs

@@ -8,7 +8,7 @@ abbrev Inv-loop : tie.InvT-loop
 Inv-loop counts₀ array security file₀ other₀ n₀ counts file other n = Unit {0}
 
 abbrev μ-loop : tie.MeasureT-loop
-μ-loop counts₀ array security file₀ other₀ n₀ counts file other n = 7 - n
+μ-loop counts₀ array security file₀ other₀ n₀ counts file other n = 8 - n
 
 loop-holds : tie.Need-loop-holds Inv-loop μ-loop
 loop-holds c = search needs

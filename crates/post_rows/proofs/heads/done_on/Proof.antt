@@ -15,6 +15,9 @@ enum-told-2 c = search needs
 form-requires-2 : tie.Need-form-requires-2
 form-requires-2 c κs = search needs
 
+part-requires : tie.Need-part-requires
+part-requires c κs = search needs
+
 enum-told-3 : tie.Need-enum-told-3
 enum-told-3 c = search needs
 
@@ -37,7 +40,7 @@ returns : tie.Need-returns
 returns c = rw (c .before .enum-told .given .1) (c .form .ensures)
 
 returns-2 : tie.Need-returns-2
-returns-2 c = rw (c .before .enum-told2 .given .1) (c .form2 .ensures)
+returns-2 c = rw (c .before .before .enum-told2 .given .1, ← c .before .form2 .ensures) (c .part .ensures)
 
 returns-3 : tie.Need-returns-3
 returns-3 c = rw (c .before .enum-told3 .given .1) (c .form3 .ensures)
@@ -56,6 +59,7 @@ done-on-spec =
     form-requires
     enum-told-2
     form-requires-2
+    part-requires
     enum-told-3
     form-requires-3
     enum-told-4

@@ -17,11 +17,7 @@ returns c = rw (c .match .keys1)
 
 returns-2 : tie.Need-returns-2
 unfolding numberForm
-returns-2 c = rw (c .match .keys2)
-
-returns-3 : tie.Need-returns-3
-unfolding numberForm
-returns-3 c = rw (ne-eqb _ _ (c .before .match .rest .0 .1), ne-eqb _ _ (c .before .match .rest .1), c .smaller .ensures)
+returns-2 c = rw (ne-eqb _ _ (c .before .match .rest .1), c .smaller .ensures)
 
 pub number-form-spec : {M : Type 1} → statement M
-number-form-spec = tie.close (tie.spec smaller-requires add-result returns returns-2 returns-3)
+number-form-spec = tie.close (tie.spec smaller-requires add-result returns returns-2)
