@@ -499,7 +499,7 @@ fn file_lengths(way: u64, k: u64) -> Lengths {
     right_lengths()
 }
 
-// A file that is spoiled, in the k-th way: read, and where it is a right one written again.
+// A file that is changed, in the k-th way: read, and where it is a right one written again.
 pub fn file_case(
     k: u64,
     plant: u64,
@@ -512,13 +512,13 @@ pub fn file_case(
 ) -> u64 {
     let seed = seed_of(205, k);
     let way = k % spoiling::WAYS;
-    let c = chips::idle(seed, (seed / 2 % 256) as u8);
+    let n = k / spoiling::WAYS;
+    let c = chips::idle(seed, (seed / 2 % 128 + n % 2 * 128) as u8);
     counted(counts, 5, c);
     array_filled(seed % 64, array);
     security_filled(seed, security);
     set(file, BEFORE);
     first_writes(c, right_lengths(), array, security, file);
-    let n = k / spoiling::WAYS;
     let due = spoiling::spoiled(way, n, seed, file);
     let l = file_lengths(way, n);
     let before = chips::any(seed_of(seed, 52));

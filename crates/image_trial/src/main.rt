@@ -15,7 +15,7 @@ const CHIPS: u64 = 256;
 // Each lock is once the fault of a broken record.
 const REFUSED: u64 = 800;
 
-// Each way of spoiling a file eight times.
+// Each way of changing a file eight times, four of each part.
 const FILES: u64 = 144;
 
 fn chips_tried(
