@@ -1,5 +1,6 @@
 /* A small firmware-like driver: it writes a record across a page's end, as firmware written for a plain memory would, and shows what the
- * chip really did. The data wrap to the start of the page. Then the whole chip goes into an image file and comes back. */
+ * chip really did. The data wrap to the start of the page. Then a reset comes in the middle of a program, and the whole chip goes into an image file
+ * and comes back. */
 #include "fulkibono.h"
 #include <stdio.h>
 #include <string.h>
@@ -27,6 +28,17 @@ static uint8_t status(void)
     return byte;
 }
 
+/* A software reset while something runs: the first k bytes of its range are finished, and byte k is torn by m. */
+static uint8_t reset_at(uint64_t k, uint8_t m)
+{
+    const uint8_t enable[] = { 0x66 }, reset[] = { 0x99 };
+    fulkibono_circumstances x = { 0, 0 };
+    x.k = k;
+    x.m = m;
+    transfer("66 reset enable", enable, 1, NULL, 0);
+    return fulkibono_send_in(&chip, array, security, reset, 1, NULL, NULL, 0, x);
+}
+
 static void write_enable(void)
 {
     const uint8_t sent[] = { 0x06 };
@@ -43,6 +55,7 @@ int main(void)
 {
     const uint8_t open_all[] = { 0x98 };
     const uint8_t program[] = { 0x02, 0x00, 0x01, 0xFE, 0x11, 0x22, 0x33 };
+    const uint8_t program_again[] = { 0x02, 0x00, 0x03, 0x00, 0x11, 0x22, 0x33 };
     const uint8_t read_page[] = { 0x03, 0x00, 0x01, 0x00 };
     const uint8_t read_end[] = { 0x03, 0x00, 0x01, 0xFE };
     fulkibono_range page;
@@ -76,6 +89,13 @@ int main(void)
     transfer("03 read 000100, 1 byte", read_page, sizeof read_page, byte, 1);
     printf("  000100: %02X\n", byte[0]);
     wrong += expect("33 wrapped to the page start", byte[0] == 0x33);
+
+    /* a reset in the middle: of 11 22 33 only the first byte and the low half of the second */
+    write_enable();
+    transfer("02 at 000300: 11 22 33", program_again, sizeof program_again, NULL, 0);
+    wrong += expect("a reset in the middle", reset_at(1, 0xF0) == FULKIBONO_DONE && fulkibono_running(&chip).kind == FULKIBONO_KIND_NOTHING);
+    printf("  000300: %02X %02X %02X\n", array[0x300], array[0x301], array[0x302]);
+    wrong += expect("11, then 22 torn, then FF", array[0x300] == 0x11 && array[0x301] == 0xF2 && array[0x302] == 0xFF);
 
     /* the chip as a file; a driver that fails; the chip again as it was */
     wrong += expect("an image written", fulkibono_write_image(&chip, array, security, file) == FULKIBONO_DONE);

@@ -273,7 +273,7 @@ static uint64_t cut_at;
 static void cut_ours(void)
 {
     chip = ready;
-    fulkibono_cut(&chip, array, security, cut_at);
+    fulkibono_cut(&chip, array, security, cut_at, fulkibono_clean_m(&chip));
 }
 static void cut_limit(void)
 {

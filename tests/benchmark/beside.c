@@ -6,31 +6,64 @@
 #include <string.h>
 #include <time.h>
 
-#if !defined(BEFORE_RECORD_SIZE) || !defined(BEFORE_NEW_OLD)
-#error "the earlier record's size and the call for its old part are given by tests/benchmark/beside"
+#if !defined(BEFORE_RECORD_SIZE) || !defined(BEFORE_NEW_OLD) || !defined(BEFORE_VERSION)
+#error "the earlier record's size, its header's version and the call for its old part are given by tests/benchmark/beside"
 #endif
 #define TURNS 41
 #define LONGEST 65536
 
-/* the earlier library's functions, renamed */
+/* the earlier library's functions, renamed; before version 6 a frame and a power cut took no m */
+#if BEFORE_VERSION < 6
+#define EARLIER(x)
+#define EARLIER_M
+#define GIVEN(x)
+#define GIVEN_M(m)
+#else
+#define EARLIER(x) , x
+#define EARLIER_M , uint8_t
+#define GIVEN(x) , x
+#define GIVEN_M(m) , m
+#endif
 uint8_t BEFORE_NEW_OLD(uint8_t *, size_t);
-uint8_t before_frame(uint8_t *, size_t, uint8_t *, size_t, uint8_t *, size_t, const uint8_t *, size_t, uint8_t *, size_t, uint8_t *, size_t);
+uint8_t before_frame(uint8_t *, size_t, uint8_t *, size_t, uint8_t *, size_t, const uint8_t *, size_t, uint8_t *, size_t, uint8_t *, size_t EARLIER(fulkibono_circumstances));
 uint8_t before_completion(uint8_t *, size_t, uint8_t *, size_t, uint8_t *, size_t);
-uint8_t before_power_cut(uint8_t *, size_t, uint8_t *, size_t, uint8_t *, size_t, uint64_t);
+uint8_t before_power_cut(uint8_t *, size_t, uint8_t *, size_t, uint8_t *, size_t, uint64_t EARLIER_M);
 
 typedef struct {
-    uint8_t (*make)(uint8_t *, size_t);
-    uint8_t (*frame)(uint8_t *, size_t, uint8_t *, size_t, uint8_t *, size_t, const uint8_t *, size_t, uint8_t *, size_t, uint8_t *, size_t);
-    uint8_t (*completion)(uint8_t *, size_t, uint8_t *, size_t, uint8_t *, size_t);
-    uint8_t (*power_cut)(uint8_t *, size_t, uint8_t *, size_t, uint8_t *, size_t, uint64_t);
+    int earlier;
     size_t size;
     uint8_t *record, *ready, *array, *security, *reply, *marks;
 } side;
 
 static side sides[2] = {
-    { BEFORE_NEW_OLD, before_frame, before_completion, before_power_cut, BEFORE_RECORD_SIZE, 0, 0, 0, 0, 0, 0 },
-    { fulkibono_new_old, fulkibono_frame, fulkibono_completion, fulkibono_power_cut, FULKIBONO_RECORD_SIZE, 0, 0, 0, 0, 0, 0 },
+    { 1, BEFORE_RECORD_SIZE, 0, 0, 0, 0, 0, 0 },
+    { 0, FULKIBONO_RECORD_SIZE, 0, 0, 0, 0, 0, 0 },
 };
+
+/* the calls, each library's own */
+static uint8_t make(side *s) { return s->earlier ? BEFORE_NEW_OLD(s->record, s->size) : fulkibono_new_old(s->record, s->size); }
+
+static uint8_t frame(side *s, const uint8_t *sent, size_t n, size_t m)
+{
+    static const fulkibono_circumstances zero = { 0, 0 };
+    if (s->earlier)
+        return before_frame(s->record, s->size, s->array, FULKIBONO_ARRAY, s->security, FULKIBONO_SECURITY, sent, n, s->reply, m, s->marks, m GIVEN(zero));
+    return fulkibono_frame(s->record, s->size, s->array, FULKIBONO_ARRAY, s->security, FULKIBONO_SECURITY, sent, n, s->reply, m, s->marks, m, zero);
+}
+
+static uint8_t completion(side *s)
+{
+    if (s->earlier)
+        return before_completion(s->record, s->size, s->array, FULKIBONO_ARRAY, s->security, FULKIBONO_SECURITY);
+    return fulkibono_completion(s->record, s->size, s->array, FULKIBONO_ARRAY, s->security, FULKIBONO_SECURITY);
+}
+
+static uint8_t power_cut(side *s, uint64_t k)
+{
+    if (s->earlier)
+        return before_power_cut(s->record, s->size, s->array, FULKIBONO_ARRAY, s->security, FULKIBONO_SECURITY, k GIVEN_M(0));
+    return fulkibono_power_cut(s->record, s->size, s->array, FULKIBONO_ARRAY, s->security, FULKIBONO_SECURITY, k, 0);
+}
 
 static void must(int right, const char *what)
 {
@@ -57,13 +90,12 @@ static double now(void)
 
 static void sends(side *s, const uint8_t *sent, size_t n, size_t m)
 {
-    must(s->frame(s->record, s->size, s->array, FULKIBONO_ARRAY, s->security, FULKIBONO_SECURITY, sent, n, s->reply, m, s->marks, m) == 0,
-         "a frame was refused");
+    must(frame(s, sent, n, m) == 0, "a frame was refused");
 }
 
 static void ends(side *s)
 {
-    must(s->completion(s->record, s->size, s->array, FULKIBONO_ARRAY, s->security, FULKIBONO_SECURITY) == 0, "a completion was refused");
+    must(completion(s) == 0, "a completion was refused");
 }
 
 /* ---- how a row begins: a new chip, of the old part on both sides, opened, and what it then gets */
@@ -82,7 +114,7 @@ static void begin(side *s, const uint8_t *sent, size_t n)
 
 static void opened(side *s)
 {
-    must(s->make(s->record, s->size) == 0, "no new chip");
+    must(make(s) == 0, "no new chip");
     begin(s, unlock, 1);
 }
 
@@ -145,7 +177,7 @@ static void a_cut(side *s, size_t n)
 {
     (void)n;
     again(s);
-    must(s->power_cut(s->record, s->size, s->array, FULKIBONO_ARRAY, s->security, FULKIBONO_SECURITY, FULKIBONO_ARRAY / 2) == 0, "a cut was refused");
+    must(power_cut(s, FULKIBONO_ARRAY / 2) == 0, "a cut was refused");
 }
 
 /* mixed events, from an opened chip; what the chip refuses counts too */
@@ -160,9 +192,9 @@ static void mixed(side *s, size_t n)
         size_t sent = kind < 6 ? 4 : kind < 11 ? 1 : kind < 13 ? 12 : 4, back = kind < 6 ? 64 : kind < 9 ? 1 : 0;
         f[0] = kind < 6 ? 0x03 : kind < 9 ? 0x05 : kind < 11 ? 0x06 : kind < 13 ? 0x02 : 0x20;
         if (kind < 14)
-            s->frame(s->record, s->size, s->array, FULKIBONO_ARRAY, s->security, FULKIBONO_SECURITY, f, sent, s->reply, back, s->marks, back);
+            frame(s, f, sent, back);
         else
-            s->completion(s->record, s->size, s->array, FULKIBONO_ARRAY, s->security, FULKIBONO_SECURITY);
+            completion(s);
     }
 }
 

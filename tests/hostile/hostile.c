@@ -1,4 +1,4 @@
-/* Hostile arguments at the boundary: lengths off by one, huge frames, random record bytes, changed image files, every number. Each lent part stands between two
+/* Hostile arguments at the boundary: lengths off by one, huge frames, random record bytes, any k and m, changed image files, every number. Each lent part stands between two
  * pages that cannot be touched, now against the one and now against the other, so that a byte read or written outside it stops the program. */
 #define _DEFAULT_SOURCE
 #include "fulkibono.h"
@@ -148,6 +148,50 @@ static void taken_again(void)
         must(answer[i] == (uint8_t)(fulkibono_protection(&c) >> 8 * (5 - i)), "the protection register of a record");
 }
 
+/* what a reset or a power cut leaves in both memories, by the header's words: each place, from the record and the bytes before */
+static long torn_work[9];
+static void torn_right(uint64_t k, uint8_t m, const uint8_t *array_before)
+{
+    fulkibono_record c;
+    fulkibono_range r;
+    uint8_t *now = array.lent;
+    const uint8_t *was = array_before;
+    int program, right = 1;
+    memcpy(c.bytes, record.copy, sizeof c.bytes);
+    fulkibono_work w = fulkibono_running(&c);
+    torn_work[w.kind]++;
+    program = w.kind == FULKIBONO_KIND_PAGE_PROGRAM || w.kind == FULKIBONO_KIND_SECURITY_PROGRAM;
+    r = fulkibono_array_range(w);
+    if (w.kind == FULKIBONO_KIND_SECURITY_PROGRAM) {
+        must(memcmp(array_before, array.lent, array.n) == 0, "A5 changed the array");
+        r = fulkibono_security_range(w);
+        now = security.lent;
+        was = security.copy;
+    } else {
+        must(same(&security), "a reset or a cut changed the Security ID");
+    }
+    for (size_t i = 0; i < r.size; i++) {
+        uint8_t old = was[r.start + i], finished = program ? old & c.bytes[FULKIBONO_PLACE_PAGE + i] : 0xFF;
+        right &= now[r.start + i] == (i < k ? finished : i > k ? old : program ? old & (finished | m) : old | m);
+    }
+    must(right, "the range of what was stopped");
+    must(memcmp(was, now, r.start) == 0, "a place before the range");
+    must(memcmp(was + r.start + r.size, now + r.start + r.size, (now == array.lent ? array.n : security.n) - r.start - r.size) == 0,
+         "a place behind the range");
+}
+
+static uint64_t some_k(void)
+{
+    static const uint64_t ends[] = { 0, 1, 255, 256, 257, 4095, 4096, 4097, 8191, 8192, 65535, 65536, FULKIBONO_ARRAY - 1, FULKIBONO_ARRAY };
+    switch (below(4)) {
+    case 0: return below(5000);
+    case 1: return ends[below(sizeof ends / sizeof *ends)];
+    case 2: return UINT64_MAX;
+    default: return (uint64_t)any() << 32;
+    }
+}
+static uint8_t some_m(void) { return (uint8_t)(below(3) ? any() : below(2) ? 0xFF : 0x00); }
+
 static long counts[16];
 
 static void after(uint8_t number, int frame, const uint8_t *array_before)
@@ -163,8 +207,9 @@ static void after(uint8_t number, int frame, const uint8_t *array_before)
              && reply.n <= 65536 && reply.n == marks.n, "a wrong length was taken");
         for (size_t i = 0; i < marks.n; i++)
             must(marks.lent[i] <= 1, "a mark above 1");
-        must(memcmp(array_before, array.lent, array.n) == 0 && same(&security), "a frame changed the array");
     }
+    if (frame && !(number == 0 && sent.lent[0] == 0x99))
+        must(memcmp(array_before, array.lent, array.n) == 0 && same(&security), "a frame that is no reset changed the array");
     if (number == 2)
         must(sent.n == 0, "refusal 2 of a frame that is not empty");
     if (record.n == FULKIBONO_RECORD_SIZE && number != 1) {
@@ -396,9 +441,10 @@ int main(int argc, char **argv)
     /* nothing lent at all, with NULL, straight and by the header's functions */
     {
         fulkibono_record c;
+        const fulkibono_circumstances zero = { 0, 0 };
         must(fulkibono_new(NULL, 0) == 1 && fulkibono_new_old(NULL, 0) == 1 && fulkibono_meaning(3, NULL, 0) > 0, "NULL");
-        must(fulkibono_frame(NULL, 0, NULL, 0, NULL, 0, NULL, 0, NULL, 0, NULL, 0) == 1, "NULL frame");
-        must(fulkibono_completion(NULL, 0, NULL, 0, NULL, 0) == 1 && fulkibono_power_cut(NULL, 0, NULL, 0, NULL, 0, 9) == 1, "NULL events");
+        must(fulkibono_frame(NULL, 0, NULL, 0, NULL, 0, NULL, 0, NULL, 0, NULL, 0, zero) == 1, "NULL frame");
+        must(fulkibono_completion(NULL, 0, NULL, 0, NULL, 0) == 1 && fulkibono_power_cut(NULL, 0, NULL, 0, NULL, 0, 9, 0) == 1, "NULL events");
         array.lent = array.open;
         array.n = FULKIBONO_ARRAY;
         security.lent = security.open;
@@ -411,13 +457,14 @@ int main(int argc, char **argv)
         must(fulkibono_send(&c, array.lent, security.lent, NULL, 0, NULL, NULL, 0) == FULKIBONO_EMPTY, "empty frame");
         const uint8_t wren = 0x06;
         must(fulkibono_send(&c, array.lent, security.lent, &wren, 1, NULL, NULL, 0) == FULKIBONO_DONE, "no reply");
-        must(fulkibono_frame(c.bytes, sizeof c.bytes, array.lent, FULKIBONO_ARRAY, security.lent, FULKIBONO_SECURITY, &wren, 1, NULL, 0, NULL, 0) == 0,
+        must(fulkibono_frame(c.bytes, sizeof c.bytes, array.lent, FULKIBONO_ARRAY, security.lent, FULKIBONO_SECURITY, &wren, 1, NULL, 0, NULL, 0, zero) == 0,
              "NULL reply");
     }
 
     memcpy(before, array.open + array.size - FULKIBONO_ARRAY - 1, FULKIBONO_ARRAY + 1);
     for (long i = 0; i < rounds; i++) {
         uint8_t number;
+        fulkibono_circumstances x = { some_k(), some_m() };
         if (i % 50 == 0)
             image_round(before);
         some_record();
@@ -429,15 +476,20 @@ int main(int argc, char **argv)
             after(number, 0, before);
             break;
         case 1:
-            number = fulkibono_power_cut(record.lent, record.n, array.lent, array.n, security.lent, security.n,
-                                         below(3) ? below(5000) : below(2) ? UINT64_MAX : ((uint64_t)any() << 32));
+            number = fulkibono_power_cut(record.lent, record.n, array.lent, array.n, security.lent, security.n, x.k, x.m);
             after(number, 0, before);
+            if (number == 0)
+                torn_right(x.k, x.m, before);
             must(number != 0 || !(record.lent[FULKIBONO_PLACE_FLAGS] & FULKIBONO_FLAG_IOC) == !(record.lent[FULKIBONO_PLACE_FLAGS] & FULKIBONO_FLAG_BA),
                  "IOC at power-up is not the part's");
             break;
         default: {
             size_t n = some_length(), m = some_length(), o = below(sizeof opcodes);
             int meant = below(6) != 0;
+            if (kept[FULKIBONO_PLACE_FLAGS] & FULKIBONO_FLAG_RESET_ENABLE && below(2))
+                o = 2; /* 99 */
+            else if (kept[FULKIBONO_PLACE_RUNNING_KIND] && below(4) == 0)
+                o = 1; /* 66 */
             if (meant)
                 n = lengths[o];
             lend(&sent, n);
@@ -451,15 +503,20 @@ int main(int argc, char **argv)
             keep(&reply);
             keep(&marks);
             number = fulkibono_frame(record.lent, record.n, array.lent, array.n, security.lent, security.n, sent.lent, n, reply.lent, m,
-                                     marks.lent, marks.n);
+                                     marks.lent, marks.n, x);
             must(same(&sent), "the frame's own bytes changed");
             after(number, 1, before);
+            if (number == 0 && sent.lent[0] == 0x99)
+                torn_right(x.k, x.m, before);
         }
         }
     }
     printf("hostile: %ld rounds, no finding; numbers given:", rounds);
     for (int i = 0; i <= 15; i++)
         printf(" %d:%ld", i, counts[i]);
+    printf("; stopped by kind:");
+    for (int i = 0; i <= 8; i++)
+        printf(" %d:%ld", i, torn_work[i]);
     printf("\n");
     free(before);
     free(image);

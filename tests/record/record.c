@@ -1,5 +1,5 @@
 /* What the header says of a record, tried on the library, with a chip of each part: places, flags, kinds and their numbers, ranges, the order of the
- * blocks, what a refusal leaves, what a power cut's k means, which bytes are no record's code. */
+ * blocks, what a refusal leaves, what the k and m of a reset and of a power cut mean, which bytes are no record's code. */
 #include "fulkibono.h"
 #include <stdio.h>
 #include <stdlib.h>
@@ -74,6 +74,15 @@ static void runs(uint8_t kind, uint64_t number)
 {
     must(is(fulkibono_running(&chip), kind, number), "what runs");
     must(is(fulkibono_suspended(&chip), FULKIBONO_KIND_NOTHING, 0), "nothing is suspended");
+}
+
+/* what is said runs */
+static void run(uint8_t kind, uint64_t number)
+{
+    int i;
+    chip.bytes[FULKIBONO_PLACE_RUNNING_KIND] = kind;
+    for (i = 0; i < 8; i++)
+        chip.bytes[FULKIBONO_PLACE_RUNNING_NUMBER + i] = (uint8_t)(number >> 8 * i);
 }
 
 static void ends(void)
@@ -194,7 +203,129 @@ static void programs(void)
     ends();
 }
 
-/* ---- registers and flags; 85, 01, E8 and their cuts */
+/* ---- what stops the running operation */
+
+static uint8_t cut(uint64_t k) { return fulkibono_cut(&chip, array, security, k, fulkibono_clean_m(&chip)); }
+
+/* the frame 66 or 99, with k and m */
+static uint8_t reset_frame(uint8_t opcode, uint64_t k, uint8_t m)
+{
+    fulkibono_circumstances x = { 0, 0 };
+    x.k = k;
+    x.m = m;
+    return fulkibono_send_in(&chip, array, security, &opcode, 1, NULL, NULL, 0, x);
+}
+
+/* by a reset, or by a power cut */
+static void stopped(uint64_t k, uint8_t m, int by_cut)
+{
+    if (by_cut)
+        must(fulkibono_cut(&chip, array, security, k, m) == 0, "a cut");
+    else
+        must(reset_frame(0x66, k, m) == 0 && reset_frame(0x99, k, m) == 0, "a reset");
+    runs(FULKIBONO_KIND_NOTHING, 0);
+}
+
+/* what the header says of byte k, of those before it and of those behind it: each place of both memories, for each kind that has a range, the range's
+ * every end and each of some m */
+static void torn(void)
+{
+    static const struct { uint8_t kind; uint64_t number; } work[] = {
+        { FULKIBONO_KIND_SECTOR_ERASE, 3 },   { FULKIBONO_KIND_BLOCK_ERASE, 0 },      { FULKIBONO_KIND_PAGE_PROGRAM, 0x21 },
+        { FULKIBONO_KIND_PAGE_PROGRAM, 8191 }, { FULKIBONO_KIND_SECURITY_PROGRAM, 7 }, { FULKIBONO_KIND_ARRAY_ERASE, 0 },
+    };
+    static const uint8_t ms[] = { 0x00, 0xFF, 0xF0, 0x30 };
+    static uint8_t old[FULKIBONO_ARRAY], old_security[FULKIBONO_SECURITY];
+    unsigned w, at, j, i, by_cut;
+    for (i = 0; i < FULKIBONO_ARRAY; i++)
+        old[i] = (uint8_t)(i * 167 + i / 256);
+    for (i = 0; i < FULKIBONO_SECURITY; i++)
+        old_security[i] = (uint8_t)(i * 91 + 5);
+    for (w = 0; w < sizeof work / sizeof *work; w++)
+        for (at = 0; at < 7; at++)
+            for (j = 0; j < sizeof ms; j++)
+                for (by_cut = 0; by_cut < 2; by_cut++) {
+                    int program = work[w].kind == FULKIBONO_KIND_PAGE_PROGRAM || work[w].kind == FULKIBONO_KIND_SECURITY_PROGRAM, right = 1;
+                    uint8_t m = ms[j], *memory;
+                    const uint8_t *was;
+                    fulkibono_range r;
+                    uint64_t k;
+                    if (work[w].kind == FULKIBONO_KIND_ARRAY_ERASE && (at % 2 == 0 || j > 1))
+                        continue; /* long ones: fewer */
+                    opened();
+                    memcpy(array, old, sizeof array);
+                    memcpy(security, old_security, sizeof security);
+                    for (i = 0; i < 256; i++)
+                        chip.bytes[FULKIBONO_PLACE_PAGE + i] = (uint8_t)(i * 29 + 3);
+                    run(work[w].kind, work[w].number);
+                    r = fulkibono_array_range(fulkibono_running(&chip));
+                    memory = r.size ? array : security;
+                    was = r.size ? old : old_security;
+                    if (!r.size)
+                        r = fulkibono_security_range(fulkibono_running(&chip));
+                    k = at < 3 ? at : at == 6 ? UINT64_MAX : r.size + at - 4;
+                    must(fulkibono_clean_m(&chip) == (program ? 0xFF : 0x00), "the m that leaves byte k");
+                    stopped(k, m, (int)by_cut);
+                    for (i = 0; i < r.size; i++) {
+                        uint8_t finished = program ? was[r.start + i] & (uint8_t)(i * 29 + 3) : 0xFF;
+                        uint8_t there = i < k ? finished : i > k ? was[r.start + i]
+                                        : program ? was[r.start + i] & (finished | m) : was[r.start + i] | m;
+                        right &= memory[r.start + i] == there;
+                        memory[r.start + i] = was[r.start + i];
+                    }
+                    must(right, "the range of what was stopped");
+                    must(memcmp(array, old, sizeof array) == 0 && memcmp(security, old_security, sizeof security) == 0, "the other places");
+                }
+}
+
+/* k and m of every other frame: a 99 that is refused or stops nothing, and what is no 99 */
+static void not_used(void)
+{
+    static const uint64_t ks[] = { 0, 5, UINT64_MAX };
+    unsigned i;
+    for (i = 0; i < 3; i++) {
+        opened();
+        memset(array, 0x0F, sizeof array);
+        written(0x20, 0x3000, 4);
+        must(reset_frame(0x99, ks[i], 0xFF) == FULKIBONO_NO_ENABLE, "99 with no enable");
+        must(reset_frame(0x66, ks[i], 0xFF) == 0 && reset_frame(0x05, ks[i], 0xFF) == 0, "66 and 05");
+        must(reset_frame(0x99, ks[i], 0xFF) == FULKIBONO_NO_ENABLE, "99 with an enable that is used up");
+        must(reset_frame(0x66, ks[i], 0xFF) == 0 && reset_frame(0x03, ks[i], 0xFF) == FULKIBONO_WRONG_LENGTH, "03 while busy");
+        runs(FULKIBONO_KIND_SECTOR_ERASE, 3);
+        must(reset_frame(0xB0, ks[i], 0xFF) == 0, "B0");
+        stopped(ks[i], 0xFF, 0); /* only suspended work: it is dropped */
+        stopped(ks[i], 0xFF, 0); /* and an idle chip */
+        must(alone((fulkibono_range){ 0, FULKIBONO_ARRAY }, 0x0F), "k and m are not used");
+        /* beside a running program the suspended erase is dropped, its target unchanged */
+        written(0x20, 0x3000, 4);
+        must(reset_frame(0xB0, ks[i], 0xFF) == 0, "B0");
+        written(0x02, 0x005000000000, 7);
+        stopped(2, 0xF3, 0);
+        must(array[0x5000] == 0 && array[0x5001] == 0 && array[0x5002] == 0x03 && array[0x5003] == 0x0F, "the program beside it");
+        memset(array + 0x5000, 0x0F, 3);
+        must(alone((fulkibono_range){ 0, FULKIBONO_ARRAY }, 0x0F), "suspended work is dropped");
+    }
+}
+
+/* a struct of zeros: the target of an erase stays, the first byte of a program is finished */
+static void zeroed(void)
+{
+    fulkibono_circumstances x = { 0, 0 };
+    opened();
+    written(0x02, 0x004000112233, 7);
+    must(fulkibono_untorn(&chip).k == 0 && fulkibono_untorn(&chip).m == 0xFF, "what tears nothing of a program");
+    stopped(x.k, x.m, 0);
+    must(array[0x4000] == 0x11 && array[0x4001] == 0xFF, "a struct of zeros and a program's first byte");
+    written(0x20, 0x004000, 4);
+    must(fulkibono_untorn(&chip).k == 0 && fulkibono_untorn(&chip).m == 0, "what tears nothing of an erase");
+    stopped(x.k, x.m, 0);
+    must(array[0x4000] == 0x11 && array[0x4001] == 0xFF, "a struct of zeros and an erase");
+    written(0x02, 0x005000112233, 7);
+    must(frame(0x66, 0, 1) == 0 && frame(0x99, 0, 1) == 0, "a reset");
+    must(array[0x5000] == 0xFF && array[0x5001] == 0xFF && array[0x5002] == 0xFF, "fulkibono_send tears nothing");
+}
+
+/* ---- registers and flags; 85, 01, E8 and what stops them */
 
 static void flags(void)
 {
@@ -213,43 +344,50 @@ static void flags(void)
     must(fulkibono_protection(&chip) == 0x123456789ABC && fulkibono_permanent(&chip) == 0, "42");
 }
 
-/* ends by completion, or by a cut at k */
-static void ended(uint64_t k, int by_cut)
+enum way { COMPLETION, CUT, RESET };
+
+static void ended(uint64_t k, enum way by)
 {
-    if (!by_cut)
+    if (by == COMPLETION)
         ends();
     else
-        must(fulkibono_cut(&chip, array, security, k) == 0, "a cut");
-    runs(FULKIBONO_KIND_NOTHING, 0);
+        stopped(k, (uint8_t)(k ^ 0x5A), by == CUT);
 }
 
 static void no_range(void)
 {
     unsigned way;
-    for (way = 0; way < 4; way++) { /* completion; cuts at 0, 1 and far */
-        static const uint64_t ks[] = { 0, 0, 1, UINT64_MAX };
-        int cut = way > 0, acts = way != 1, said;
+    for (way = 0; way < 7; way++) { /* completion; cuts and resets at 0, 1 and far */
+        static const uint64_t ks[] = { 0, 0, 1, UINT64_MAX, 0, 1, UINT64_MAX };
+        enum way by = way == 0 ? COMPLETION : way < 4 ? CUT : RESET;
+        int acts = way == 0 || ks[way] > 0, said;
         begin();
         written(0x85, 0, 1);
         runs(FULKIBONO_KIND_SECURITY_LOCK, 0);
-        ended(ks[way], cut);
+        ended(ks[way], by);
         must(fulkibono_flag(&chip, FULKIBONO_FLAG_SEC) == acts, "85");
         for (said = 0; said < 4; said++) { /* a reset gives the part its IOC again, as the power-up of a cut does */
             int ioc = said & 1, wpen = said >> 1;
             begin();
             written(0x01, (uint64_t)(0xFF00 | ioc << 1 | wpen << 7), 3);
             runs(FULKIBONO_KIND_CONFIGURATION, said);
-            ended(ks[way], cut);
-            must(fulkibono_flag(&chip, FULKIBONO_FLAG_WPEN) == (acts && wpen) && fulkibono_flag(&chip, FULKIBONO_FLAG_IOC) == (cut ? ba : ioc), "01");
+            ended(ks[way], by);
+            must(fulkibono_flag(&chip, FULKIBONO_FLAG_WPEN) == (acts && wpen)
+                 && fulkibono_flag(&chip, FULKIBONO_FLAG_IOC) == (by == COMPLETION ? ioc : ba), "01");
             must(frame(0x66, 0, 1) == 0 && frame(0x99, 0, 1) == 0, "a reset");
             must(fulkibono_flag(&chip, FULKIBONO_FLAG_WPEN) == (acts && wpen) && fulkibono_flag(&chip, FULKIBONO_FLAG_IOC) == ba, "01, and a reset");
         }
         begin();
         written(0xE8, 0xC00000000001, 7);
         runs(FULKIBONO_KIND_PERMANENT_BITS, 0xC00000000001);
-        ended(ks[way], cut);
+        ended(ks[way], by);
         must(fulkibono_permanent(&chip) == (acts ? 0x400000000001 : 0), "E8");
         must(fulkibono_protection(&chip) == 0x5555FFFFFFFF, "E8 on a new chip's register");
+        opened();
+        written(0xE8, 0xC00000000001, 7);
+        ended(ks[way], by);
+        must(fulkibono_permanent(&chip) == (acts ? 0x400000000001 : 0), "E8");
+        must(fulkibono_protection(&chip) == (by == CUT ? 0x5555FFFFFFFF : acts ? 0x400000000001 : 0), "E8 on a register that 98 cleared");
     }
 }
 
@@ -260,17 +398,17 @@ static void idle_cut(void)
     begin();
     fresh = chip;
     for (k = 0; k < 3; k++) {
-        must(frame(0x06, 0, 1) == 0 && fulkibono_cut(&chip, array, security, k) == 0, "a cut of an idle chip");
+        must(frame(0x06, 0, 1) == 0 && cut(k) == 0, "a cut of an idle chip");
         must(memcmp(&chip, &fresh, sizeof chip) == 0, "power-up");
     }
     opened();
     written(0x20, 0, 4);
-    must(frame(0xB0, 0, 1) == 0 && fulkibono_cut(&chip, array, security, 9) == 0, "a cut beside suspended work");
+    must(frame(0xB0, 0, 1) == 0 && cut(9) == 0, "a cut beside suspended work");
     must(memcmp(&chip, &fresh, sizeof chip) == 0, "suspended work is dropped");
     opened();
     memset(array, 0, sizeof array);
     written(0x20, 0x3000, 4);
-    must(fulkibono_cut(&chip, array, security, 10) == 0, "a cut");
+    must(cut(10) == 0, "a cut");
     {
         fulkibono_range first = { 0x3000, 10 };
         must(alone(first, 0xFF), "the first bytes of the range");
@@ -313,17 +451,8 @@ static void refused(const char *what)
     const uint8_t status = 0x05;
     must(fulkibono_send(&chip, array, security, &status, 1, &reply, &mark, 1) == FULKIBONO_MALFORMED, what);
     must(fulkibono_complete(&chip, array, security) == FULKIBONO_MALFORMED, what);
-    must(fulkibono_cut(&chip, array, security, 1) == FULKIBONO_MALFORMED, what);
+    must(cut(1) == FULKIBONO_MALFORMED, what);
     must(memcmp(&chip, &before, sizeof chip) == 0 && reply == 0x12 && mark == 0x34, "what 1 leaves");
-}
-
-/* what is said runs */
-static void run(uint8_t kind, uint64_t number)
-{
-    int i;
-    chip.bytes[FULKIBONO_PLACE_RUNNING_KIND] = kind;
-    for (i = 0; i < 8; i++)
-        chip.bytes[FULKIBONO_PLACE_RUNNING_NUMBER + i] = (uint8_t)(number >> 8 * i);
 }
 
 /* an open chip with what is said running */
@@ -379,7 +508,7 @@ static void all_flags(void)
         idle = chip;
         must(fulkibono_flag(&chip, FULKIBONO_FLAG_BA) == ba, "bit 7");
         must(frame(0x00, 0, 1) == 0 && chip.bytes[FULKIBONO_PLACE_FLAGS] == (flags & ~FULKIBONO_FLAG_RESET_ENABLE), "any flags");
-        must(fulkibono_cut(&chip, array, security, 0) == 0 && chip.bytes[FULKIBONO_PLACE_FLAGS] == up, "any flags at power-up");
+        must(cut(0) == 0 && chip.bytes[FULKIBONO_PLACE_FLAGS] == up, "any flags at power-up");
         chip = idle;
         must(frame(0x66, 0, 1) == 0 && frame(0x99, 0, 1) == 0
              && chip.bytes[FULKIBONO_PLACE_FLAGS] == (up | (flags & FULKIBONO_FLAG_WPLD)), "any flags after a reset");
@@ -396,7 +525,7 @@ static void all_flags(void)
                 uint8_t number;
                 chip = idle;
                 run((uint8_t)i, i < sizeof last / sizeof *last ? last[i].most : 1);
-                number = n == 0 ? fulkibono_complete(&chip, array, security) : n < 3 ? fulkibono_cut(&chip, array, security, n - 1)
+                number = n == 0 ? fulkibono_complete(&chip, array, security) : n < 3 ? cut(n - 1)
                          : n == 3 ? frame(0xB0, 0, 1) : (frame(0x66, 0, 1), frame(0x99, 0, 1));
                 must(n == 3 || number == (broken ? FULKIBONO_MALFORMED : FULKIBONO_DONE), "work with any flags");
                 must(fulkibono_flag(&chip, FULKIBONO_FLAG_BA) == ba, "an event keeps the part");
@@ -439,6 +568,9 @@ int main(void)
         blocks();
         sector();
         programs();
+        torn();
+        not_used();
+        zeroed();
         flags();
         no_range();
         idle_cut();

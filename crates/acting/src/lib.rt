@@ -165,7 +165,7 @@ fn with_burst(r: Rest, b: Burst) -> Rest
 }
 
 fn at_once(s: Short, sent: &[u8], r: Rest) -> Rest
-    ensures { λ q. ⌜ q ≡ atOnce s (now (sent .entry)) (withEnable false r) ⌝ }
+    ensures { λ q. ⌜ q ≡ atOnce s (now (sent .entry)) 0 (withEnable false r) ⌝ }
 {
     match s {
         Short::Nothing => used(r),
@@ -192,9 +192,9 @@ fn at_once(s: Short, sent: &[u8], r: Rest) -> Rest
     }
 }
 
-// After a done frame.
+// After a done frame. Only a reset looks at k, and one that may stop work is settling's: here k is 0.
 pub fn acted(kind: Kind, sent: &[u8], r: Rest) -> Rest
-    ensures { λ q. ⌜ q ≡ act kind (now (sent .entry)) (withEnable false r) ⌝ }
+    ensures { λ q. ⌜ q ≡ act kind (now (sent .entry)) 0 (withEnable false r) ⌝ }
 {
     match kind {
         Kind::Show(_) => used(r),

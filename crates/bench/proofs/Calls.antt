@@ -1,28 +1,32 @@
 -- The calls in a row: the bytes read, the chip's turn with the page in place, the record written back, the number. Assumes nothing.
 use Prim.Native.Nat.{ℕ}
-use mathlib.Core.Path.{_≡_, refl, sym, ap, _∙_}
-use mathlib.Core.Bool.{Bool, true, false, not}
+use mathlib.Core.Path.{_≡_, refl, sym, ap, _∙_, subst}
+use mathlib.Core.Bool.{Bool, true, false, not, false≢true}
 use mathlib.Core.List.{List, [], _∷_, _++_}
 use native.Mathlib.Omega.{arith}
 use lib.ListN.{length, getD, take, drop}
 use lib.Seq.{length-take-le, length-front, take-at}
 use borrow.Author.Tests.{eq-eqb, ne-eqb, not-true, not-false}
 use Rattle.rules.specs.declared.Chip.{Chip}
+use Rattle.rules.specs.declared.Circumstances.{Circumstances}
 use Rattle.rules.specs.declared.Rest.{Rest}
 use Rattle.rules.specs.declared.Turn.{Turn}
-use Rattle.rules.specs.Fields.{chipOf}
+use Rattle.rules.specs.declared.Works.{Works}
+use Rattle.rules.specs.declared.Work.the-variants.{Nothing}
+use Rattle.rules.specs.Fields.{worksOf, restOf, chipOf}
 use Rattle.rules.specs.Commands.{newOf}
-use Rattle.rules.specs.Numbers.{answerNumber}
+use Rattle.rules.specs.Numbers.{answerNumber, stateRight}
 use Rattle.rules.specs.Machine.{Outcome, step, run}
-use Rattle.rules.specs.Promises.{Bench, Carried, Returned, benchOf, returnedOf, afterOf, stateOf, outcomeOf}
+use Rattle.rules.specs.Promises.{Bench, Returned, benchOf, carriedOf, returnedOf, afterOf, stateOf, outcomeOf}
 use Rattle.rules.specs.Demands.{Call, frameCall, completionCall, cutCall, Meets, eventOf}
 use Rattle.rules.proofs.Runs.{demand-2}
+use Rattle.rules.proofs.Tears.{reset-99}
 use Rattle.record_code.specs.Layout.{recordSize, restCode, code, isCode, NothingReserved, restIn, chipIn}
 use Rattle.record_code.proofs.Faithful.{code-of, chip-in, known-length, known-reserved, reserved-kept}
 use Rattle.chip.specs.declared.turns.Event.{Event}
-use Rattle.chip.specs.Turns.{callOf, LentFor}
+use Rattle.chip.specs.Turns.{callOf, LentFor, cutting, resetting, stopCall, StoppedWith, Stoppable}
 use Rattle.bench.specs.Images.{idleOf}
-use Rattle.bench.specs.Boundary.{LentBench, cameOf, untouched, seenOf, coded, called, CallPromise, newBytes, NewPromise}
+use Rattle.bench.specs.Boundary.{LentBench, Came, cameOf, untouched, StopAsked, seenOf, coded, called, CallPromise, newBytes, NewPromise}
 
 -- ---- the page in a record's bytes
 
@@ -89,12 +93,64 @@ module _ (b : LentBench) (e : Call) (x : Bool) (ex : x ≡ isCode (b .bytes)) wh
       numbered : seenOf (cameOf n l array security reply marks) ≡ coded (outcomeOf came)
       numbered = λ i. seenOf (cameOf (en i) ((el ∙ rest-put (b .bytes) (code-size (b .bytes) x ex h) p k (t .rest)) i) array security reply marks)
 
+-- the same where nothing runs or is suspended after it, and the number is 0
+pub call-stopped : (b : LentBench) (e : Call) (r : Rest) (t : Turn) (p l array security reply marks : List ℕ) → isCode (b .bytes) ≡ true → r ≡ restIn (b .bytes)
+    → Meets (benchOf (chipOf (take 256 (b .bytes)) r) (b .array) (b .security)) e (returnedOf (afterOf t p) array security reply marks) × ((answerNumber (t .answer) ≡ 0) × (t .rest .works ≡ worksOf Nothing Nothing))
+    → length p ≡ length (take 256 (b .bytes)) → l ≡ take 256 (p ++ drop 256 (b .bytes)) ++ restCode (restOf (t .rest .locks) (worksOf Nothing Nothing) (t .rest .flags) (t .rest .burst))
+    → CallPromise b e (cameOf 0 l array security reply marks)
+call-stopped b e r t p l array security reply marks c er m k el =
+    call-taken b e true (sym c) r t p l array security reply marks 0 refl er (m .0) k
+    (el ∙ (λ i. take 256 (p ++ drop 256 (b .bytes)) ++ restCode (restOf (t .rest .locks) (sym (m .1 .1) i) (t .rest .flags) (t .rest .burst))))
+    (sym (m .1 .0))
+
 -- where nothing is lent for a reply, nothing is left of it
-pub event-refused : (b : LentBench) (e : Event) (f : Carried) (x : Bool) → x ≡ isCode (b .bytes) → LentFor e (f .reply) → LentFor e (f .marks) → not x ≡ true
-    → CallPromise b (callOf e f) (cameOf 1 (b .bytes) (b .array) (b .security) (f .reply) (f .marks))
-event-refused b Event.Frame f x ex y m h = call-refused b (frameCall f) x ex h
-event-refused b Event.Completion f x ex y m h = rw (y, m) (call-refused b completionCall x ex h)
-event-refused b (Event.Cut k) f x ex y m h = rw (y, m) (call-refused b (cutCall k) x ex h)
+pub event-refused : (b : LentBench) (e : Event) (sent reply marks : List ℕ) (c : Circumstances) (x : Bool) → x ≡ isCode (b .bytes) → LentFor e reply → LentFor e marks → not x ≡ true
+    → CallPromise b (callOf e sent reply marks c) (cameOf 1 (b .bytes) (b .array) (b .security) reply marks)
+event-refused b Event.Frame sent reply marks c x ex y m h = call-refused b (frameCall (carriedOf sent reply marks c)) x ex h
+event-refused b Event.Completion sent reply marks c x ex y m h = rw (y, m) (call-refused b completionCall x ex h)
+event-refused b Event.Cut sent reply marks c x ex y m h = rw (y, m) (call-refused b (cutCall (c .tear)) x ex h)
+
+-- ---- an event that stops what runs
+
+-- the record read again, its works beside the rest
+pub rest-again : (l : List ℕ) (q : Rest) (w : Works) → q ≡ restOf (restIn l .locks) (worksOf Nothing Nothing) (restIn l .flags) (restIn l .burst) → w ≡ restIn l .works
+    → restOf (q .locks) w (q .flags) (q .burst) ≡ restIn l
+rest-again l q w eq ew = λ i. restOf (eq i .locks) (ew i) (eq i .flags) (eq i .burst)
+
+pub stop-asked : (up : Bool) (l array security reply marks : List ℕ) (r : Rest) → r ≡ restIn l → StopAsked up l array security reply marks → Stoppable up r (take 256 l) array security reply marks
+stop-asked up l array security reply marks r e h = subst (λ (q : Rest). Stoppable up q (take 256 l) array security reply marks) (sym e) (h .chip)
+
+module _ (b : LentBench) (known : Bool) (r : Rest) (sent reply marks : List ℕ) (x : Bool) (ex : x ≡ isCode (b .bytes)) (h : not x ≡ false) (er : r ≡ restIn (b .bytes)) (ek : known ≡ stateRight (stateOf (benchOf (chipOf (take 256 (b .bytes)) r) (b .array) (b .security)))) where
+  asked : (up : Bool) → known ≡ true → StoppedWith up r reply marks → StopAsked up (b .bytes) (b .array) (b .security) reply marks
+  asked up k s =
+      record {
+        coded = sym ex ∙ not-false x h;
+        chip = subst (λ (q : Rest). Stoppable up q (take 256 (b .bytes)) (b .array) (b .security) reply marks) er (record { paged = code-page (b .bytes) x ex h; right = sym ek ∙ k; taken = s });
+      }
+
+  pub cut-asked : (e : Event) → cutting e known ≡ true → LentFor e reply → LentFor e marks → StopAsked true (b .bytes) (b .array) (b .security) reply marks
+  cut-asked Event.Frame c y m = absurd (false≢true c)
+  cut-asked Event.Completion c y m = absurd (false≢true c)
+  cut-asked Event.Cut c y m = asked true c (y, m)
+
+  pub reset-asked : (e : Event) → resetting e known r sent (length reply) (length marks) ≡ true → StopAsked false (b .bytes) (b .array) (b .security) reply marks
+  reset-asked Event.Frame c = let s = reset-99 known r sent (length reply) (length marks) c in asked false (s .known) (s .taken)
+  reset-asked Event.Completion c = absurd (false≢true c)
+  reset-asked Event.Cut c = absurd (false≢true c)
+
+-- the call that it was
+module _ (b : LentBench) (known : Bool) (r : Rest) (sent reply marks : List ℕ) (x : Circumstances) (g : Came) where
+  pub cut-called : (e : Event) → cutting e known ≡ true → CallPromise b (stopCall true reply marks x) g → CallPromise b (callOf e sent reply marks x) g
+  cut-called Event.Frame c p = absurd (false≢true c)
+  cut-called Event.Completion c p = absurd (false≢true c)
+  cut-called Event.Cut c p = p
+
+  pub reset-called : (e : Event) → resetting e known r sent (length reply) (length marks) ≡ true → CallPromise b (stopCall false reply marks x) g → CallPromise b (callOf e sent reply marks x) g
+  reset-called Event.Frame c p = rw (reset-99 known r sent (length reply) (length marks) c .alone) p
+  reset-called Event.Completion c p = absurd (false≢true c)
+  reset-called Event.Cut c p = absurd (false≢true c)
+
+-- ---- a completion and a power cut are lent no reply
 
 none : (l : List ℕ) → length l ≡ 0 → l ≡ []
 none [] e = refl

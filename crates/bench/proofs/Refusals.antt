@@ -16,10 +16,12 @@ use Rattle.rules.specs.Fields.{chipOf, withEnable}
 use Rattle.rules.specs.Machine.{Outcome, frame, step}
 use Rattle.rules.specs.Given.{frameNumbers}
 use Rattle.rules.specs.Promises.{Carried, frameOf}
+use Rattle.rules.specs.Tears.{stopsWork}
 use Rattle.rules.specs.Demands.{Call, frameCall, completionCall, cutCall, eventOf}
 use Rattle.rules.proofs.Fields.{enable-used}
 use Rattle.rules.proofs.Numbers.{frame-given}
 use Rattle.rules.proofs.Promises.{lent-one, lent-written}
+use Rattle.rules.proofs.Tears.{frames-leave}
 use Rattle.rules.proofs.Refusals.{frame-refused-1, frame-refused-2, frame-refused-more, completion-refused, cut-refused}
 use Rattle.rules.proofs.Rows.{at-one}
 use Rattle.record_code.specs.Layout.{bytes, restCode, code, isCode, chipIn}
@@ -100,13 +102,16 @@ module _ (b : LentBench) (small : OfBytes (b .bytes)) where
       go true k = let s = of-code b e g p k in came-one g (untouched (g .number) b e) (s ∙ at-one (Stays e) (1 ∷ 12 ∷ []) (g .number) h (stays e) k (sym (ap (λ (s : Seen). s .number) s)))
       go false k = let s = of-no-code b e g p k in s ∙ ap (λ (n : ℕ). untouched n b e) (sym (ap (λ (g : Came). g .number) s))
 
-  -- a frame leaves the memories, whatever its number
-  pub frame-leaves : (f : Carried) (g : Came) → CallPromise b (frameCall f) g → (g .array ≡ b .array) × (g .security ≡ b .security)
-  unfolding step frame
-  frame-leaves f g p = go (isCode (b .bytes)) refl
+  -- a frame leaves the memories, whatever its number, but for an accepted 99 while busy
+  pub frame-leaves : (f : Carried) (g : Came) → CallPromise b (frameCall f) g → stopsWork (stateIn b) (frameOf f) ≡ false → (g .array ≡ b .array) × (g .security ≡ b .security)
+  unfolding step
+  frame-leaves f g p h = go (isCode (b .bytes)) refl
     where
       go : (x : Bool) → isCode (b .bytes) ≡ x → (g .array ≡ b .array) × (g .security ≡ b .security)
-      go true k = let s = of-code b (frameCall f) g p k in (lent-one _ _ (ap (λ (s : Seen). s .array) s), lent-one _ _ (ap (λ (s : Seen). s .security) s))
+      go true k =
+          let s = of-code b (frameCall f) g p k in
+          let l = frames-leave (stateIn b) (frameOf f) h in
+          (lent-one _ _ (ap (λ (s : Seen). s .array) s ∙ l .0), lent-one _ _ (ap (λ (s : Seen). s .security) s ∙ l .1))
       go false k = let s = of-no-code b (frameCall f) g p k in (ap (λ (g : Came). g .array) s, ap (λ (g : Came). g .security) s)
 
   -- 2 to 11

@@ -39,7 +39,7 @@ record Holds (l : List ℕ) : Type 0 where
 sent-bytes : (e : Call) → SendsBytes e → SentBytes (eventOf e)
 sent-bytes (frameCall f) h = h
 sent-bytes completionCall h = tt
-sent-bytes (cutCall k) h = tt
+sent-bytes (cutCall t) h = tt
 
 module _ (b : LentBench) (e : Call) (g : Came) (h : Holds (b .bytes)) (small : SendsBytes e) (p : CallPromise b e g) where
   abbrev out : Outcome

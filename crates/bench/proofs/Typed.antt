@@ -133,38 +133,6 @@ module _ (r : Rest) (t : TypedRest r) where
   running-typed : (w : Work) → numberOf w < 2 ^ 64 → TypedRest (withRunning w r)
   running-typed w h = record { protection = t .protection; permanent = t .permanent; running = h; suspended = t .suspended }
 
-  short-typed : (s : Short) (sent : List ℕ) → TypedRest (atOnce s sent r)
-  short-typed Short.Nothing sent = t
-  short-typed Short.EnableReset sent = flags-typed _
-  short-typed Short.Reset sent = record { protection = t .protection; permanent = t .permanent; running = lit< tt; suspended = lit< tt }
-  short-typed Short.ToSqi sent = flags-typed _
-  short-typed Short.ToSpi sent = flags-typed _
-  short-typed Short.SetWel sent = flags-typed _
-  short-typed Short.ClearWel sent = flags-typed _
-  short-typed Short.WriteProtection sent =
-      record {
-        protection = or-lt 64 (bitAnd (six sent) allLocks) (r .locks .permanent) (lt-of-le-of-lt (and-le-r (six sent) allLocks) (lit< tt)) (t .permanent);
-        permanent = t .permanent;
-        running = t .running;
-        suspended = t .suspended;
-      }
-  short-typed Short.LockDown sent = flags-typed _
-  short-typed Short.ClearLocks sent =
-      record {
-        protection = or-lt 64 (bitAnd (r .locks .protection) readLocks) (r .locks .permanent) (lt-of-le-of-lt (and-le-r (r .locks .protection) readLocks) (lit< tt)) (t .permanent);
-        permanent = t .permanent;
-        running = t .running;
-        suspended = t .suspended;
-      }
-  short-typed Short.Suspend sent = record { protection = t .protection; permanent = t .permanent; running = lit< tt; suspended = t .running }
-  short-typed Short.Resume sent = record { protection = t .protection; permanent = t .permanent; running = t .suspended; suspended = lit< tt }
-  short-typed Short.SetBurst sent = record { protection = t .protection; permanent = t .permanent; running = t .running; suspended = t .suspended }
-
-  act-typed : (k : Kind) (sent : List ℕ) → OfBytes sent → TypedRest (act k sent r)
-  act-typed (Kind.Show s) sent small = t
-  act-typed (Kind.Begin l) sent small = running-typed (workOf l sent) (begun-small l sent small)
-  act-typed (Kind.Do s) sent small = short-typed s sent
-
   settled-typed : (w : Work) → TypedRest (settled w r)
   settled-typed Nothing = t
   settled-typed (EraseSector n) = t
@@ -190,6 +158,38 @@ module _ (r : Rest) (t : TypedRest r) where
       go true = settled-typed (r .works .running)
       go false = t
 
+  short-typed : (s : Short) (sent : List ℕ) (k : ℕ) → TypedRest (atOnce s sent k r)
+  short-typed Short.Nothing sent k = t
+  short-typed Short.EnableReset sent k = flags-typed _
+  short-typed Short.Reset sent k = let q = settled-first-typed k in record { protection = q .protection; permanent = q .permanent; running = lit< tt; suspended = lit< tt }
+  short-typed Short.ToSqi sent k = flags-typed _
+  short-typed Short.ToSpi sent k = flags-typed _
+  short-typed Short.SetWel sent k = flags-typed _
+  short-typed Short.ClearWel sent k = flags-typed _
+  short-typed Short.WriteProtection sent k =
+      record {
+        protection = or-lt 64 (bitAnd (six sent) allLocks) (r .locks .permanent) (lt-of-le-of-lt (and-le-r (six sent) allLocks) (lit< tt)) (t .permanent);
+        permanent = t .permanent;
+        running = t .running;
+        suspended = t .suspended;
+      }
+  short-typed Short.LockDown sent k = flags-typed _
+  short-typed Short.ClearLocks sent k =
+      record {
+        protection = or-lt 64 (bitAnd (r .locks .protection) readLocks) (r .locks .permanent) (lt-of-le-of-lt (and-le-r (r .locks .protection) readLocks) (lit< tt)) (t .permanent);
+        permanent = t .permanent;
+        running = t .running;
+        suspended = t .suspended;
+      }
+  short-typed Short.Suspend sent k = record { protection = t .protection; permanent = t .permanent; running = lit< tt; suspended = t .running }
+  short-typed Short.Resume sent k = record { protection = t .protection; permanent = t .permanent; running = t .suspended; suspended = lit< tt }
+  short-typed Short.SetBurst sent k = record { protection = t .protection; permanent = t .permanent; running = t .running; suspended = t .suspended }
+
+  act-typed : (k : Kind) (sent : List ℕ) (n : ℕ) → OfBytes sent → TypedRest (act k sent n r)
+  act-typed (Kind.Show s) sent n small = t
+  act-typed (Kind.Begin l) sent n small = running-typed (workOf l sent) (begun-small l sent small)
+  act-typed (Kind.Do s) sent n small = short-typed s sent n
+
 -- ---- every event
 
 either : {c d : Chip} (x : Bool) → Typed c → Typed d → Typed (pick x c d)
@@ -209,7 +209,7 @@ new-typed ba = record { buffer = blank-page; rest = record { protection = lit< t
 abbrev pub SentBytes : Event → Type 0
 SentBytes (sends f) = OfBytes (f .sent)
 SentBytes completes = Unit {0}
-SentBytes (cuts k) = Unit {0}
+SentBytes (cuts t) = Unit {0}
 
 pub step-typed : (s : State) (e : Event) → SentBytes e → Typed (s .chip) → Typed (step s e .chip)
 unfolding step frame frameChip completion completedChip powerCut cutChip
@@ -218,13 +218,13 @@ step-typed s (sends f) small t =
     let n = first (frameTests s f) in
     let used = flags-typed (s .chip .rest) (t .rest) _ in
     either (eqb n 0)
-    (record { buffer = after-page k (f .sent) (s .chip .buffer) (t .buffer); rest = act-typed (withEnable false (s .chip .rest)) used k (f .sent) small })
+    (record { buffer = after-page k (f .sent) (s .chip .buffer) (t .buffer); rest = act-typed (withEnable false (s .chip .rest)) used k (f .sent) (f .circumstances .tear .k) small })
     (either (oneOf n (1 ∷ 2 ∷ [])) t (record { buffer = t .buffer; rest = used }))
 step-typed s completes small t =
     either (eqb (first (completionTests s)) 0)
     (record { buffer = rested-page (s .chip .rest .works .suspended) (s .chip .buffer) (t .buffer); rest = rested-typed _ (settled-first-typed (s .chip .rest) (t .rest) arraySize) })
     t
-step-typed s (cuts k) small t =
+step-typed s (cuts c) small t =
     either (eqb (first (cutTests s)) 0)
-    (record { buffer = blank-page; rest = cut-typed _ (settled-first-typed (s .chip .rest) (t .rest) k) })
+    (record { buffer = blank-page; rest = cut-typed _ (settled-first-typed (s .chip .rest) (t .rest) (c .k)) })
     t

@@ -1,17 +1,21 @@
 -- What the exported functions give back and leave: the number and all lent bytes, in terms of the machine and the record's code.
 use Prim.Native.Nat.{ℕ}
 use mathlib.Core.Path.{_≡_}
-use mathlib.Core.Bool.{Bool}
+use mathlib.Core.Bool.{Bool, true}
 use mathlib.Core.List.{List, []}
 use lib.Dec.{eqb}
-use lib.ListN.{length}
+use lib.ListN.{length, take}
+use Rattle.rules.specs.declared.Circumstances.{Circumstances}
 use Rattle.rules.specs.Words.{pick, Lent, lent}
+use Rattle.rules.specs.Works.{tearOf}
 use Rattle.rules.specs.Commands.{newOf}
 use Rattle.rules.specs.Numbers.{State}
 use Rattle.rules.specs.Machine.{Outcome, step}
-use Rattle.rules.specs.Promises.{Carried, benchOf, carriedOf, stateOf}
+use Rattle.rules.specs.Promises.{Carried, zeroed, benchOf, carriedOf, stateOf}
 use Rattle.rules.specs.Demands.{Call, frameCall, completionCall, cutCall, eventOf}
-use Rattle.record_code.specs.Layout.{recordSize, code, decode}
+use Rattle.record_code.specs.Layout.{recordSize, code, isCode, restIn, decode}
+use Rattle.chip.specs.Turns.{Stoppable}
+use Rattle.bench.specs.declared.Passed.{Passed}
 
 -- ---- what is lent before, and what came
 
@@ -40,8 +44,12 @@ cameOf n bytes array security reply marks =
 -- what a call carries beside the bench; a completion and a power cut are lent no reply
 abbrev pub carriedBy : Call → Carried
 carriedBy (frameCall f) = f
-carriedBy completionCall = carriedOf [] [] []
-carriedBy (cutCall k) = carriedOf [] [] []
+carriedBy completionCall = carriedOf [] [] [] zeroed
+carriedBy (cutCall t) = carriedOf [] [] [] zeroed
+
+-- the circumstances that C passes with a frame
+abbrev pub circumstancesIn : Passed → Circumstances
+circumstancesIn x = record { tear = tearOf (x .k) (x .m) }
 
 -- the number n, and every lent byte as it was
 abbrev pub untouched : ℕ → LentBench → Call → Came
@@ -93,6 +101,11 @@ called b e = pick (decode (b .bytes) .known) (coded (step (stateIn b) (eventOf e
 
 pub record CallPromise (b : LentBench) (e : Call) (g : Came) : Type 0 where
   pub outcome : seenOf g ≡ called b e
+
+-- what is asked where an event stops what runs: a record's code, and what the chip asks
+pub record StopAsked (up : Bool) (bytes array security reply marks : List ℕ) : Type 0 where
+  pub coded : isCode bytes ≡ true
+  pub chip : Stoppable up (restIn bytes) (take 256 bytes) array security reply marks
 
 -- ---- fulkibono_new and fulkibono_new_old: the code of a new chip, of BA and of the old part, in as many bytes as a record has
 

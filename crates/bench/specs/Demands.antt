@@ -30,7 +30,7 @@ CallChain b (e ∷ es) (g ∷ gs) = CallPromise b e g × CallChain (leaves g) es
 abbrev pub SendsBytes : Call → Type 0
 SendsBytes (frameCall f) = OfBytes (f .sent)
 SendsBytes completionCall = Unit {0}
-SendsBytes (cutCall k) = Unit {0}
+SendsBytes (cutCall t) = Unit {0}
 
 -- the record's bytes are a code, and what is lent is bytes
 pub record Start (b : LentBench) (es : List Call) : Type 0 where

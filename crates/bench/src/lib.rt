@@ -1,6 +1,8 @@
 // The boundary to other languages: the chip's functions over lent bytes. specs/Boundary.antt says what each gives back and leaves; specs/Images.antt of files.
 // The caller lends all memory; nothing is kept between calls. The page buffer is changed where it lies, in the record's first 256 bytes.
+use chip::Circumstances;
 use chip::Event;
+use chip::Tear;
 use image::Posted;
 use rules::Rest;
 use rules::plain::smaller;
@@ -9,15 +11,16 @@ ghost use mathlib.Core.Bool.{true, false, _&&_};
 ghost use mathlib.Core.List.{[]};
 ghost use Prim.Native.Nat.{_≤_};
 ghost use lib.ListN.{length, take, drop};
+ghost use Rattle.rules.specs.Works.{tearOf};
 ghost use Rattle.rules.specs.WellFormed.{wellFormed};
-ghost use Rattle.rules.specs.Promises.{carriedOf};
+ghost use Rattle.rules.specs.Promises.{zeroed, carriedOf};
 ghost use Rattle.rules.specs.Demands.{frameCall, completionCall, cutCall};
-ghost use Rattle.chip.specs.Turns.{callOf, LentFor};
+ghost use Rattle.chip.specs.Turns.{callOf, LentFor, stopCall};
 ghost use Rattle.meanings.specs.Meanings.{MeaningBytes};
 ghost use Rattle.image.specs.Form.{fileSize};
 ghost use Rattle.image.specs.Promises.{postedNumber};
 ghost use Rattle.record_code.specs.Layout.{recordSize, code, decode};
-ghost use Rattle.bench.specs.Boundary.{lentBenchOf, cameOf, CallPromise, NewPromise};
+ghost use Rattle.bench.specs.Boundary.{lentBenchOf, cameOf, circumstancesIn, StopAsked, CallPromise, NewPromise};
 ghost use Rattle.bench.specs.Images.{idleOf, imageReadOf, WriteImagePromise, ReadImagePromise};
 
 // ---- the chip
@@ -50,6 +53,52 @@ pub extern "C" fn fulkibono_new_old(bytes: &mut [u8]) -> u8
     new_of(false, bytes)
 }
 
+// What a frame carries beside its bytes and buffers, and a power cut, as C passes it.
+#[repr(C)]
+pub struct Passed {
+    pub k: u64,
+    pub m: u8,
+}
+
+fn circumstances_in(x: Passed) -> Circumstances
+    ensures { λ r. ⌜ r ≡ circumstancesIn x ⌝ }
+{
+    let tear = Tear { k: x.k, m: x.m };
+    Circumstances { tear }
+}
+
+// An event that stops what runs: with power-up or without. It is rare, and reads and writes the record by functions of its own, so that nothing of it is in the way of
+// the others.
+fn stop(
+    up: bool,
+    bytes: &mut [u8],
+    array: &mut [u8],
+    security: &mut [u8],
+    reply: &mut [u8],
+    marks: &mut [u8],
+    x: Passed,
+) -> u8
+    requires { ⌜ StopAsked up (now bytes) (now array) (now security) (now reply) (now marks) ⌝ }
+    ensures { λ r. ⌜ CallPromise (lentBenchOf (now (bytes .entry)) (now (array .entry)) (now (security .entry))) (stopCall up (now (reply .entry)) (now (marks .entry)) (circumstancesIn x)) (cameOf r (now (bytes .exit)) (now (array .exit)) (now (security .exit)) (now (reply .exit)) (now (marks .exit))) ⌝ }
+{
+    let mut r = record_code::idle_in(bytes);
+    r.works = record_code::works_in(bytes);
+    let circumstances = circumstances_in(x);
+    let t = chip::stop_turn(
+        up,
+        r,
+        &mut bytes[..256],
+        array,
+        security,
+        reply,
+        marks,
+        circumstances,
+    );
+    let rest = t.rest;
+    record_code::put_idle(bytes, rest);
+    0
+}
+
 // Any of the three events. One function, from which each part is called once: nothing of the record crosses a call.
 fn event(
     e: Event,
@@ -59,22 +108,40 @@ fn event(
     sent: &[u8],
     reply: &mut [u8],
     marks: &mut [u8],
+    x: Passed,
 ) -> u8
     requires { ⌜ LentFor e (now reply) × LentFor e (now marks) ⌝ }
-    ensures { λ r. ⌜ CallPromise (lentBenchOf (now (bytes .entry)) (now (array .entry)) (now (security .entry))) (callOf e (carriedOf (now (sent .entry)) (now (reply .entry)) (now (marks .entry)))) (cameOf r (now (bytes .exit)) (now (array .exit)) (now (security .exit)) (now (reply .exit)) (now (marks .exit))) ⌝ }
+    ensures { λ r. ⌜ CallPromise (lentBenchOf (now (bytes .entry)) (now (array .entry)) (now (security .entry))) (callOf e (now (sent .entry)) (now (reply .entry)) (now (marks .entry)) (circumstancesIn x)) (cameOf r (now (bytes .exit)) (now (array .exit)) (now (security .exit)) (now (reply .exit)) (now (marks .exit))) ⌝ }
 {
     if !record_code::is_code(bytes) {
         return 1;
     }
     let r = record_code::rest_in(bytes);
-    let t = chip::take_turn(e, r, &mut bytes[..256], array, security, sent, reply, marks);
+    let known = chip::state_right(r, &bytes[..256], array.len(), security.len());
+    if chip::cuts(e, known) {
+        return stop(true, bytes, array, security, reply, marks, x);
+    }
+    if chip::resets(e, known, r, sent, reply.len(), marks.len()) {
+        return stop(false, bytes, array, security, reply, marks, x);
+    }
+    let t = chip::take_turn(
+        e,
+        known,
+        r,
+        &mut bytes[..256],
+        array,
+        security,
+        sent,
+        reply,
+        marks,
+    );
     let rest = t.rest;
     record_code::put_rest(bytes, rest);
     let answer = t.answer;
     chip::answer_number(answer)
 }
 
-// A frame: the bytes sent while CE# is low, and the two reply buffers.
+// A frame: the bytes sent while CE# is low, the two reply buffers, and where a reset tears what runs.
 #[no_mangle]
 pub extern "C" fn fulkibono_frame(
     bytes: &mut [u8],
@@ -83,10 +150,11 @@ pub extern "C" fn fulkibono_frame(
     sent: &[u8],
     reply: &mut [u8],
     marks: &mut [u8],
+    x: Passed,
 ) -> u8
-    ensures { λ r. ⌜ CallPromise (lentBenchOf (now (bytes .entry)) (now (array .entry)) (now (security .entry))) (frameCall (carriedOf (now (sent .entry)) (now (reply .entry)) (now (marks .entry)))) (cameOf r (now (bytes .exit)) (now (array .exit)) (now (security .exit)) (now (reply .exit)) (now (marks .exit))) ⌝ }
+    ensures { λ r. ⌜ CallPromise (lentBenchOf (now (bytes .entry)) (now (array .entry)) (now (security .entry))) (frameCall (carriedOf (now (sent .entry)) (now (reply .entry)) (now (marks .entry)) (circumstancesIn x))) (cameOf r (now (bytes .exit)) (now (array .exit)) (now (security .exit)) (now (reply .exit)) (now (marks .exit))) ⌝ }
 {
-    event(Event::Frame, bytes, array, security, sent, reply, marks)
+    event(Event::Frame, bytes, array, security, sent, reply, marks, x)
 }
 
 // The running operation ends.
@@ -106,20 +174,31 @@ pub extern "C" fn fulkibono_completion(
         b"",
         &mut [],
         &mut [],
+        Passed { k: 0, m: 0 },
     )
 }
 
-// A power cut after k bytes of the running operation.
+// A power cut in the middle of the running operation.
 #[no_mangle]
 pub extern "C" fn fulkibono_power_cut(
     bytes: &mut [u8],
     array: &mut [u8],
     security: &mut [u8],
     k: u64,
+    m: u8,
 ) -> u8
-    ensures { λ r. ⌜ CallPromise (lentBenchOf (now (bytes .entry)) (now (array .entry)) (now (security .entry))) (cutCall k) (cameOf r (now (bytes .exit)) (now (array .exit)) (now (security .exit)) [] []) ⌝ }
+    ensures { λ r. ⌜ CallPromise (lentBenchOf (now (bytes .entry)) (now (array .entry)) (now (security .entry))) (cutCall (tearOf k m)) (cameOf r (now (bytes .exit)) (now (array .exit)) (now (security .exit)) [] []) ⌝ }
 {
-    event(Event::Cut(k), bytes, array, security, b"", &mut [], &mut [])
+    event(
+        Event::Cut,
+        bytes,
+        array,
+        security,
+        b"",
+        &mut [],
+        &mut [],
+        Passed { k, m },
+    )
 }
 
 // ---- a chip as a file
@@ -138,7 +217,7 @@ fn image_number(p: Posted) -> u8
 // An empty frame, with the buffer in the array's place: 1 or 2, and nothing changes but what is lent for it.
 fn empty_frame(coded: &mut [u8], file: &mut [u8], id: &mut [u8]) -> u8
     requires { ⌜ 2097152 ≤ length (now file) ⌝ }
-    ensures number { λ r. ⌜ CallPromise (lentBenchOf (now (coded .entry)) (take 2097152 (now (file .entry))) (now (id .entry))) (frameCall (carriedOf [] [] [])) (cameOf r (now (coded .exit)) (take 2097152 (now (file .exit))) (now (id .exit)) [] []) ⌝ }
+    ensures number { λ r. ⌜ CallPromise (lentBenchOf (now (coded .entry)) (take 2097152 (now (file .entry))) (now (id .entry))) (frameCall (carriedOf [] [] [] zeroed)) (cameOf r (now (coded .exit)) (take 2097152 (now (file .exit))) (now (id .exit)) [] []) ⌝ }
     ensures behind { λ _. ⌜ drop 2097152 (now (file .exit)) ≡ drop 2097152 (now (file .entry)) ⌝ }
 {
     let n = smaller(2097152, file.len());
@@ -150,6 +229,7 @@ fn empty_frame(coded: &mut [u8], file: &mut [u8], id: &mut [u8]) -> u8
         b"",
         &mut [],
         &mut [],
+        Passed { k: 0, m: 0 },
     )
 }
 

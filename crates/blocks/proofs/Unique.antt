@@ -9,6 +9,7 @@ use Rattle.blocks.proofs.read_locked.Reads as read-locked
 use Rattle.blocks.proofs.is_nothing.Reads as is-nothing
 use Rattle.blocks.proofs.is_erase.Reads as is-erase
 use Rattle.blocks.proofs.is_program.Reads as is-program
+use Rattle.blocks.proofs.clean_m.Reads as clean-m
 use Rattle.blocks.proofs.can_suspend.Reads as can-suspend
 use Rattle.blocks.proofs.array_range.Reads as array-range
 use Rattle.blocks.proofs.is_unlocked.Reads as is-unlocked
@@ -37,6 +38,9 @@ is-erase-one κ a x y r r′ p q = one p q
 
 pub is-program-one : OneResult is-program.Post
 is-program-one κ a x y r r′ p q = one p q
+
+pub clean-m-one : OneResult clean-m.Post
+clean-m-one κ a x y r r′ p q = one p q
 
 pub can-suspend-one : OneResult can-suspend.Post
 can-suspend-one κ a x y r r′ p q = one p q

@@ -9,6 +9,7 @@ ghost use Rattle.rules.specs.Words.{bit, holds};
 ghost use Rattle.rules.specs.Blocks.{arraySize, blockOf, blockAt, writeLocked, readLocked, unlocked};
 ghost use Rattle.rules.specs.Works.{isNothing, isErase, isProgram, canSuspend, arrayRange};
 ghost use Rattle.rules.specs.WellFormed.{numbersRight};
+ghost use Rattle.rules.specs.Tears.{cleanM};
 
 // Bit n of a register.
 pub fn bit_at(p: u64, n: u32) -> bool
@@ -132,6 +133,13 @@ pub fn is_program(w: Work) -> bool
         Work::ProgramPage(_) | Work::ProgramSecurity(_) => true,
         _ => false,
     }
+}
+
+// The m with which a stop leaves byte k as it was: that of document 01's power cut and reset.
+pub fn clean_m(w: Work) -> u8
+    ensures { λ r. ⌜ r ≡ cleanM w ⌝ }
+{
+    if is_erase(w) { 0x00 } else { 0xff }
 }
 
 // One sector or block erase, or one page program.

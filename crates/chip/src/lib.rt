@@ -5,8 +5,14 @@ mod turns;
 pub use numbers::answer_number;
 use rules::After;
 use rules::Chip;
+pub use rules::Circumstances;
+pub use rules::Tear;
 pub use rules::Turn;
 pub use turns::Event;
+pub use turns::cuts;
+pub use turns::resets;
+pub use turns::state_right;
+pub use turns::stop_turn;
 pub use turns::take_turn;
 ghost use mathlib.Core.Path.{_≡_};
 ghost use mathlib.Core.List.{[]};
@@ -38,7 +44,7 @@ pub fn new_old() -> Chip
     new_of(false)
 }
 
-// A frame: the bytes sent while CE# is low, and the two reply buffers.
+// A frame: the bytes sent while CE# is low, the two reply buffers, and where a reset tears what runs.
 pub fn frame(
     c: Chip,
     array: &mut [u8],
@@ -46,8 +52,9 @@ pub fn frame(
     sent: &[u8],
     reply: &mut [u8],
     marks: &mut [u8],
+    circumstances: Circumstances,
 ) -> After
-    ensures { λ r. ⌜ FramePromise (benchOf c (now (array .entry)) (now (security .entry))) (carriedOf (now (sent .entry)) (now (reply .entry)) (now (marks .entry))) (returnedOf r (now (array .exit)) (now (security .exit)) (now (reply .exit)) (now (marks .exit))) ⌝ }
+    ensures { λ r. ⌜ FramePromise (benchOf c (now (array .entry)) (now (security .entry))) (carriedOf (now (sent .entry)) (now (reply .entry)) (now (marks .entry)) circumstances) (returnedOf r (now (array .exit)) (now (security .exit)) (now (reply .exit)) (now (marks .exit))) ⌝ }
 {
     let mut page = c.buffer;
     let before = c.rest;
@@ -61,6 +68,7 @@ pub fn frame(
         sent,
         reply,
         marks,
+        circumstances,
     );
     let answer = t.answer;
     let rest = t.rest;
@@ -82,14 +90,14 @@ pub fn completion(c: Chip, array: &mut [u8], security: &mut [u8]) -> After
     After { answer, chip }
 }
 
-// A power cut after k bytes of the running operation.
-pub fn power_cut(c: Chip, array: &mut [u8], security: &mut [u8], k: u64) -> After
-    ensures { λ r. ⌜ CutPromise (benchOf c (now (array .entry)) (now (security .entry))) k (returnedOf r (now (array .exit)) (now (security .exit)) [] []) ⌝ }
+// A power cut in the middle of the running operation.
+pub fn power_cut(c: Chip, array: &mut [u8], security: &mut [u8], tear: Tear) -> After
+    ensures { λ r. ⌜ CutPromise (benchOf c (now (array .entry)) (now (security .entry))) tear (returnedOf r (now (array .exit)) (now (security .exit)) [] []) ⌝ }
 {
     let mut page = c.buffer;
     let before = c.rest;
     let known = turns::state_right(before, &page, array.len(), security.len());
-    let t = ending::cut_turn(known, before, &mut page, array, security, k);
+    let t = ending::cut_turn(known, before, &mut page, array, security, tear);
     let answer = t.answer;
     let rest = t.rest;
     let chip = Chip { buffer: page, rest };

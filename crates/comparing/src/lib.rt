@@ -9,6 +9,7 @@ use bytes::within;
 use mapping::flat_of;
 use mapping::same_records;
 use script::Line;
+use second::Extra;
 use second::Flat;
 use second::Step;
 use standing::Deed;
@@ -22,11 +23,27 @@ fn chip_now(p: Playing) -> Flat {
     flat_of(c)
 }
 
+// Where a line stops what runs. Without m it is document 01's: FF of a program and 00 of an erase, by the second model's own record.
+fn extra_of(f: Flat, slots: [u64; 24]) -> Extra {
+    let k = slots[7];
+    if slots[9] == 0 {
+        let m: u8 = match f.run_kind {
+            1 | 2 | 3 => 0x00,
+            _ => 0xff,
+        };
+        return Extra { k, m };
+    }
+    Extra {
+        k,
+        m: (slots[9] % 256) as u8,
+    }
+}
+
 // The event on as much of each memory as the first model was lent. Reply and marks hold 5A and 07 before it, as the first model's do.
 fn happened(
     f: Flat,
     e: Event,
-    k: u64,
+    x: Extra,
     array: &mut [u8],
     security: &mut [u8],
     sent: &[u8],
@@ -38,9 +55,9 @@ fn happened(
     memory::set_all(reply, 0, r, 0x5A);
     memory::set_all(marks, 0, m, 0x07);
     match e {
-        Event::Frame => second::frame(f, array, security, sent, reply, marks),
+        Event::Frame => second::frame(f, array, security, sent, reply, marks, x),
         Event::Completion => second::completion(f, array, security),
-        Event::Cut => second::power_cut(f, array, security, k),
+        Event::Cut => second::power_cut(f, array, security, x.k, x.m),
     }
 }
 
@@ -66,7 +83,7 @@ fn event(
     happened(
         f,
         e,
-        slots[7],
+        extra_of(f, slots),
         &mut array[..a],
         &mut security[..s],
         &sent[..n],

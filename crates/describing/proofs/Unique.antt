@@ -1,6 +1,7 @@
 -- No second outcome: whatever meets the guarantee of a public function of this crate at the same input is the same result. Assumes nothing.
 use Rattle.rules.proofs.Promises.{one}
 use Rattle.rules.proofs.Outcomes.{OneResult}
+use Rattle.describing.proofs.works.told.Reads as told
 use Rattle.describing.proofs.works.work.Reads as work
 use Rattle.describing.proofs.works.work_places.Reads as work-places
 use Rattle.describing.proofs.works.work_cut.Reads as work-cut
@@ -8,6 +9,9 @@ use Rattle.describing.proofs.commands.answer.Reads as answer
 use Rattle.describing.proofs.commands.reply_on_row.Reads as reply-on-row
 use Rattle.describing.proofs.commands.less.Reads as less
 use Rattle.describing.proofs.commands.opcode_of.Reads as opcode-of
+
+pub told-one : OneResult told.Post
+told-one κ a x y r r′ p q = one p q
 
 pub work-one : OneResult work.Post
 work-one κ a x y r r′ p q = one p q

@@ -33,6 +33,6 @@ work t r = form (40 + t .kind) (t .a) (t .b) 0 r
 unfoldable pub places : Told → Row → Row
 places t r = pick (eqb (t .size) 0) r (form (49 + t .security) (t .start) (t .start + t .size - 1) 0 r)
 
--- after how many of its bytes a power cut came; work without a range acts fully if that is 1 or more, else not
+-- after how many of its bytes a power cut or a reset came; work without a range acts fully if that is 1 or more, else not
 unfoldable pub cutAfter : Told → ℕ → Row → Row
 cutAfter t k r = pick (eqb (t .size) 0) (form (pick (eqb k 0) 18 19) 0 0 0 r) (form 17 (min k (t .size)) (t .size) 0 r)

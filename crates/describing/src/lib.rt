@@ -6,6 +6,7 @@ pub use commands::answer;
 pub use commands::less;
 pub use commands::opcode_of;
 pub use commands::reply_on_row;
+pub use works::told as work_told;
 pub use works::work;
 pub use works::work_cut;
 pub use works::work_places;

@@ -101,7 +101,7 @@ pub fn work_places(r: Row, w: Work) -> Row
     places(r, t)
 }
 
-// The work, and after how much of it the power went.
+// The work, and after how much of it it was stopped.
 pub fn work_cut(r: Row, w: Work, k: u64) -> Row
     ensures { λ q. ⌜ q ≡ cutAfter (told w) k (work (told w) r) ⌝ }
 {

@@ -4,17 +4,16 @@ use mathlib.Core.Path.{_≡_, refl, sym, ap, _∙_}
 use mathlib.Core.Bool.{Bool, true, false}
 use mathlib.Core.List.{List, []}
 use native.Mathlib.Omega.{arith}
-use lib.Dec.{ltb}
 use Rattle.rules.specs.declared.Answer.{Answer}
 use Rattle.rules.specs.declared.Refusal.{Refusal}
 use Rattle.rules.specs.declared.Rest.{Rest}
+use Rattle.rules.specs.declared.Tear.{Tear}
 use Rattle.rules.specs.declared.Turn.{Turn}
-use Rattle.rules.specs.Words.{pick, lent}
-use Rattle.rules.specs.Blocks.{arraySize}
-use Rattle.rules.specs.Works.{isNothing, arrayRange, securityRange, finish}
+use Rattle.rules.specs.Words.{lent}
+use Rattle.rules.specs.Works.{isNothing, arrayRange, securityRange, all, finish}
 use Rattle.rules.specs.Programs.{blank}
 use Rattle.rules.specs.Fields.{chipOf}
-use Rattle.rules.specs.Commands.{settled, rested, bufferRested, afterCut}
+use Rattle.rules.specs.Commands.{settled, settledFirst, rested, bufferRested, afterCut}
 use Rattle.rules.specs.Numbers.{State, stateRight}
 use Rattle.rules.specs.Machine.{completion, powerCut}
 use Rattle.rules.specs.Promises.{benchOf, returnedOf, afterOf, stateOf, outcomeOf}
@@ -38,20 +37,20 @@ module _ (r : Rest) (page array security : List ℕ) where
 
     pub completion-done : (x : Bool) (q : Rest) (t : Turn) (page′ array′ security′ : List ℕ) → k ≡ true → x ≡ isNothing (r .works .running) → x ≡ false
         → t ≡ record { answer = Answer.Done; rest = q } → q ≡ rested (settled (r .works .running) r) → page′ ≡ bufferRested (r .works .suspended) page
-        → lent array′ ≡ finish (r .works .running) (arrayRange (r .works .running)) page arraySize (lent array)
-        → lent security′ ≡ finish (r .works .running) (securityRange (r .works .running)) page arraySize (lent security)
+        → lent array′ ≡ finish (r .works .running) (arrayRange (r .works .running)) page all (lent array)
+        → lent security′ ≡ finish (r .works .running) (securityRange (r .works .running)) page all (lent security)
         → outcomeOf (returnedOf (afterOf t page′) array′ security′ [] []) ≡ completion at
     completion-done x q t page′ array′ security′ e ex tx et eq ep ea es =
         ap (λ (t : Turn). outcomeOf (returnedOf (afterOf t page′) array′ security′ [] [])) et
         ∙ outcome-ext refl (λ i. chipOf (ep i) (eq i)) ea es refl refl
         ∙ sym (completion-done-whole at (completion-given at .is-0 .1 (sym ek ∙ e, sym ex ∙ tx)))
 
-    pub cut-malformed : (n : ℕ) (t : Turn) → t ≡ record { answer = Answer.Refused Refusal.Malformed; rest = r } → k ≡ false → outcomeOf (returnedOf (afterOf t page) array security [] []) ≡ powerCut at n
+    pub cut-malformed : (n : Tear) (t : Turn) → t ≡ record { answer = Answer.Refused Refusal.Malformed; rest = r } → k ≡ false → outcomeOf (returnedOf (afterOf t page) array security [] []) ≡ powerCut at n
     cut-malformed n t et e =
         ap (λ (t : Turn). outcomeOf (returnedOf (afterOf t page) array security [] [])) et ∙ sym (cut-refused at n 1 (omega arith) (cut-given at n .is-1 .1 (sym ek ∙ e)))
 
-    pub cut-done : (n : ℕ) (q : Rest) (t : Turn) (page′ array′ security′ : List ℕ) → k ≡ true
-        → t ≡ record { answer = Answer.Done; rest = q } → q ≡ afterCut (pick (ltb 0 n) (settled (r .works .running) r) r) → page′ ≡ blank
+    pub cut-done : (n : Tear) (q : Rest) (t : Turn) (page′ array′ security′ : List ℕ) → k ≡ true
+        → t ≡ record { answer = Answer.Done; rest = q } → q ≡ afterCut (settledFirst (n .k) r) → page′ ≡ blank
         → lent array′ ≡ finish (r .works .running) (arrayRange (r .works .running)) page n (lent array)
         → lent security′ ≡ finish (r .works .running) (securityRange (r .works .running)) page n (lent security)
         → outcomeOf (returnedOf (afterOf t page′) array′ security′ [] []) ≡ powerCut at n

@@ -6,6 +6,7 @@ use mathlib.Core.Bool.{Bool}
 use mathlib.Core.List.{List, []}
 use denote.Ref.{RefT}
 use Rattle.rules.specs.declared.Rest.{Rest}
+use Rattle.rules.specs.declared.Tear.{Tear}
 use Rattle.rules.specs.declared.Turn.{Turn}
 use Rattle.rules.specs.Promises.{returnedOf, afterOf}
 use Rattle.rules.proofs.Promises as promises
@@ -20,7 +21,7 @@ module _ (κ : List ℕ × (List ℕ × (List ℕ × Unit {0}))) (a x y : Bool �
       → returnedOf (afterOf r (x .1 .1 .0 .now)) (x .1 .1 .1 .0 .now) (x .1 .1 .1 .1 .0 .now) [] [] ≡ returnedOf (afterOf s (y .1 .1 .0 .now)) (y .1 .1 .1 .0 .now) (y .1 .1 .1 .1 .0 .now) [] []
   completion-turn-one p q = promises.completion-one _ _ _ p q
 
-module _ (κ : List ℕ × (List ℕ × (List ℕ × Unit {0}))) (a x y : Bool × (Rest × (Slice × (Slice × (Slice × (ℕ × Unit {0})))))) (r s : Turn) where
+module _ (κ : List ℕ × (List ℕ × (List ℕ × Unit {0}))) (a x y : Bool × (Rest × (Slice × (Slice × (Slice × (Tear × Unit {0})))))) (r s : Turn) where
   pub cut-turn-one : cut-turn.Post κ a r x → cut-turn.Post κ a s y
       → returnedOf (afterOf r (x .1 .1 .0 .now)) (x .1 .1 .1 .0 .now) (x .1 .1 .1 .1 .0 .now) [] [] ≡ returnedOf (afterOf s (y .1 .1 .0 .now)) (y .1 .1 .1 .0 .now) (y .1 .1 .1 .1 .0 .now) [] []
   cut-turn-one p q = promises.cut-one _ _ _ _ p q

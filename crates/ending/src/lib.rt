@@ -1,6 +1,7 @@
 // A completion and a power cut where the page buffer lies with the caller: it changes in place, the rest of the record goes in and out by value.
 use rules::Refusal;
 use rules::Rest;
+use rules::Tear;
 use rules::Turn;
 use turns::done;
 use turns::refused;
@@ -29,32 +30,31 @@ pub fn completion_turn(
     if blocks::is_nothing(run) {
         return refused(Refusal::NothingRuns, r);
     }
-    memory::finish_array(run, page, 2097152, array);
-    memory::finish_security(run, page, 2097152, security);
+    memory::finish_array(run, page, 2097152, 0, array);
+    memory::finish_security(run, page, 2097152, 0, security);
     pages::page_rested(aside, page);
     done(settling::completed(r))
 }
 
-// A power cut after k bytes of the running operation.
+// A power cut in the middle of the running operation.
 pub fn cut_turn(
     known: bool,
     r: Rest,
     page: &mut [u8],
     array: &mut [u8],
     security: &mut [u8],
-    k: u64,
+    tear: Tear,
 ) -> Turn
     requires { ⌜ StateKnown known r (now page) (now array) (now security) ⌝ }
-    ensures { λ t. ⌜ CutPromise (benchOf (chipOf (now (page .entry)) r) (now (array .entry)) (now (security .entry))) k (returnedOf (afterOf t (now (page .exit))) (now (array .exit)) (now (security .exit)) [] []) ⌝ }
+    ensures { λ t. ⌜ CutPromise (benchOf (chipOf (now (page .entry)) r) (now (array .entry)) (now (security .entry))) tear (returnedOf (afterOf t (now (page .exit))) (now (array .exit)) (now (security .exit)) [] []) ⌝ }
 {
     if !known {
         return refused(Refusal::Malformed, r);
     }
     let works = r.works;
     let run = works.running;
-    let n = k as usize;
-    memory::finish_array(run, page, n, array);
-    memory::finish_security(run, page, n, security);
+    memory::finish_array(run, page, tear.k, tear.m, array);
+    memory::finish_security(run, page, tear.k, tear.m, security);
     memory::blank_page(page);
-    done(settling::cut(r, 0 < k))
+    done(settling::cut(r, tear.k))
 }

@@ -63,7 +63,7 @@ afterRefuse = 13
 abbrev pub lineDone : ℕ
 lineDone = 14
 
--- after done, cut N or kept
+-- after done, cut N BYTE or kept
 abbrev pub afterEvent : ℕ
 afterEvent = 15
 
@@ -226,3 +226,21 @@ takesName p = ltb afterBurst p && ltb p 53
 -- after new
 abbrev pub afterNew : ℕ
 afterNew = 53
+
+-- ---- where a reset or a power cut tears what runs
+
+-- after torn
+abbrev pub afterTorn : ℕ
+afterTorn = 54
+
+-- after torn N
+abbrev pub afterTornCount : ℕ
+afterTornCount = 55
+
+-- after torn N BYTE
+abbrev pub afterTornByte : ℕ
+afterTornByte = 56
+
+-- after cut N
+abbrev pub afterCutCount : ℕ
+afterCutCount = 57

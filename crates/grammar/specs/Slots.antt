@@ -29,7 +29,7 @@ judged = 5
 abbrev pub refused : ℕ
 refused = 6
 
--- A, or the number of cut, or the first of lend
+-- A, or the number of cut or torn, or the first of lend
 abbrev pub from : ℕ
 from = 7
 
@@ -44,6 +44,10 @@ filling = 9
 -- the byte that sets the burst of the fields: the same slot, since no line has both
 abbrev pub burst : ℕ
 burst = filling
+
+-- the byte of cut and torn, and 256 besides, so that 0 says that none stands: the same slot, since no line has both
+abbrev pub tearing : ℕ
+tearing = filling
 
 -- 1 after id: of the Security ID
 abbrev pub ofId : ℕ

@@ -1,6 +1,6 @@
 -- The grammar of a line as a table: what may follow what, and what each word says. A row is a place, the class of a word that may stand there, the place that
 -- comes next, what the word stores, and what it writes into the slots.
-use Prim.Native.Nat.{ℕ, _+_, _-_, _/_, min, zero, suc}
+use Prim.Native.Nat.{ℕ, _+_, _-_, _/_, _%_, min, zero, suc}
 use Prim.Native.String.{String}
 use mathlib.Core.Bool.{Bool, true, not, _&&_}
 use mathlib.Core.List.{List, [], _∷_, map}
@@ -11,8 +11,8 @@ use Rattle.rules.specs.Texts.{ascii}
 use Rattle.spelling.specs.declared.Word.{Word}
 use Rattle.grammar.specs.declared.Entry.{Entry}
 use Rattle.spelling.specs.Words.{key, keyWith}
-use Rattle.grammar.specs.Places.{lineStart, afterByte, afterByteStar, afterBytes, afterReply, afterReplyCount, afterSlash, afterMarkCount, afterEqual, afterExpected, afterTilde, afterExpectedStar, afterExpectedTimes, afterRefuse, lineDone, afterEvent, afterCut, afterQuestion, afterAsked, afterAnswer, afterAnswerTilde, afterAnswerStar, afterAnswerTimes, afterDump, afterDumpId, afterDumpPlace, afterFill, afterFillId, afterFillPlace, afterFillCount, afterLend, afterLendArray, inFields, afterProtect, afterPerm, afterRun, afterAside, afterRunKind, afterAsideKind, afterNoReply, afterNoReplySlash, afterAny, afterAnyStar, afterAnyTimes, afterAnswerAny, afterAnswerAnyStar, afterAnswerAnyTimes, afterBurst, afterSave, afterLoad, afterRaw, afterCompare, afterCompareRaw, afterNew}
-use Rattle.grammar.specs.Slots.{verb, wanted, marksGiven, marks, expecting, judged, refused, from, size, filling, burst, ofId, old, protection, permanent, runKind, runNumber, asideKind, asideNumber, sqi, wel, ioc, wpen, wpld, sec, enable, ba}
+use Rattle.grammar.specs.Places.{lineStart, afterByte, afterByteStar, afterBytes, afterReply, afterReplyCount, afterSlash, afterMarkCount, afterEqual, afterExpected, afterTilde, afterExpectedStar, afterExpectedTimes, afterRefuse, lineDone, afterEvent, afterCut, afterQuestion, afterAsked, afterAnswer, afterAnswerTilde, afterAnswerStar, afterAnswerTimes, afterDump, afterDumpId, afterDumpPlace, afterFill, afterFillId, afterFillPlace, afterFillCount, afterLend, afterLendArray, inFields, afterProtect, afterPerm, afterRun, afterAside, afterRunKind, afterAsideKind, afterNoReply, afterNoReplySlash, afterAny, afterAnyStar, afterAnyTimes, afterAnswerAny, afterAnswerAnyStar, afterAnswerAnyTimes, afterBurst, afterSave, afterLoad, afterRaw, afterCompare, afterCompareRaw, afterNew, afterTorn, afterTornCount, afterTornByte, afterCutCount}
+use Rattle.grammar.specs.Slots.{verb, wanted, marksGiven, marks, expecting, judged, refused, from, size, filling, burst, tearing, ofId, old, protection, permanent, runKind, runNumber, asideKind, asideNumber, sqi, wel, ioc, wpen, wpld, sec, enable, ba}
 use Rattle.grammar.specs.Verbs as verbs
 
 -- ---- the words
@@ -23,7 +23,7 @@ wordList =
     ∷ "id" ∷ "new" ∷ "fill" ∷ "buffer" ∷ "pattern" ∷ "lend" ∷ "record" ∷ "is" ∷ "full" ∷ "short" ∷ "strict" ∷
     "protect" ∷ "perm" ∷ "run" ∷ "aside" ∷ "sqi" ∷ "wel" ∷ "ioc" ∷ "wpen" ∷ "wpld" ∷ "sec" ∷ "enable" ∷
     "sector" ∷ "block" ∷ "array" ∷ "page" ∷ "lock" ∷ "config" ∷ "bits" ∷ "burst" ∷ "8" ∷ "16" ∷ "32" ∷ "64" ∷
-    "save" ∷ "load" ∷ "compare" ∷ "raw" ∷ "old" ∷ "ba" ∷ []
+    "save" ∷ "load" ∷ "compare" ∷ "raw" ∷ "old" ∷ "ba" ∷ "torn" ∷ []
 
 unfoldable pub keys : List ℕ
 keys = map (λ (s : String). key (ascii s)) wordList
@@ -133,6 +133,10 @@ keeps s = record { slot = s; source = 1 }
 abbrev pub keepsHex : ℕ → Writes
 keepsHex s = record { slot = s; source = 2 }
 
+-- its byte, and 256 besides: 0 stays where no such word stands
+abbrev pub keepsByte : ℕ → Writes
+keepsByte s = record { slot = s; source = 60 }
+
 -- a constant
 abbrev pub says : ℕ → ℕ → Writes
 says s c = record { slot = s; source = 3 + c }
@@ -148,7 +152,7 @@ row p c n t w = record { place = p; entry = record { class = c; next = n; store 
 
 unfoldable pub table : List Row
 table =
-    -- a frame: bytes, then a reply, then a refusal
+    -- a frame: bytes, then where a reset tears what runs, then a reply, then a refusal
     row lineStart byte afterByte sends (says verb verbs.frame)
     ∷ row lineStart (word ">") afterReply no (says verb verbs.frame)
     ∷ row afterByte byte afterByte sends nothing
@@ -159,6 +163,14 @@ table =
     ∷ row afterBytes (word ">") afterReply no nothing
     ∷ row afterBytes (word "!") afterRefuse no (says judged 1)
     ∷ row afterByteStar times afterBytes sendsAgain nothing
+    ∷ row afterByte (word "torn") afterTorn no nothing
+    ∷ row afterBytes (word "torn") afterTorn no nothing
+    ∷ row afterTorn number afterTornCount no (keeps from)
+    ∷ row afterTornCount byte afterTornByte no (keepsByte tearing)
+    ∷ row afterTornCount (word ">") afterReply no nothing
+    ∷ row afterTornCount (word "!") afterRefuse no (says judged 1)
+    ∷ row afterTornByte (word ">") afterReply no nothing
+    ∷ row afterTornByte (word "!") afterRefuse no (says judged 1)
     -- its reply
     ∷ row afterReply times afterReplyCount no (keeps wanted)
     ∷ row afterReply number afterNoReply no (keeps wanted)
@@ -203,7 +215,9 @@ table =
     -- events
     ∷ row lineStart (word "done") afterEvent no (says verb verbs.done)
     ∷ row lineStart (word "cut") afterCut no (says verb verbs.cut)
-    ∷ row afterCut number afterEvent no (keeps from)
+    ∷ row afterCut number afterCutCount no (keeps from)
+    ∷ row afterCutCount byte afterEvent no (keepsByte tearing)
+    ∷ row afterCutCount (word "!") afterRefuse no (says judged 1)
     ∷ row afterEvent (word "!") afterRefuse no (says judged 1)
     -- questions
     ∷ row lineStart (word "status") afterQuestion no (says verb verbs.status)
@@ -313,7 +327,8 @@ table =
 unfoldable pub ends : List ℕ
 ends =
     lineStart ∷ afterByte ∷ afterBytes ∷ afterReplyCount ∷ afterMarkCount ∷ afterExpected ∷ afterExpectedTimes
-    ∷ lineDone ∷ afterEvent ∷ afterQuestion ∷ afterAnswer ∷ afterAnswerTimes ∷ inFields ∷ afterNoReply ∷ afterNew ∷ []
+    ∷ lineDone ∷ afterEvent ∷ afterQuestion ∷ afterAnswer ∷ afterAnswerTimes ∷ inFields ∷ afterNoReply ∷ afterNew
+    ∷ afterTornCount ∷ afterTornByte ∷ afterCutCount ∷ []
 
 abbrev pub canEnd : ℕ → Bool
 canEnd p = oneOf p ends
@@ -335,9 +350,9 @@ nextOf p w = firstOf table p w (called w)
 
 -- ---- what a word says
 
--- by the source of a row: the decimal number, the hex number, or a constant
+-- by the source of a row: the decimal number, the hex number, the byte and 256, or a constant
 unfoldable pub valueOf : ℕ → Word → ℕ
-valueOf s w = pick (eqb s 1) (w .number) (pick (eqb s 2) (w .hex) (s - 3))
+valueOf s w = pick (eqb s 1) (w .number) (pick (eqb s 2) (w .hex) (pick (eqb s 60) (256 + w .hex % 256) (s - 3)))
 
 unfoldable pub slotsWith : List ℕ → Entry → Word → List ℕ
 slotsWith l e w = pick (not (eqb (e .source) 0) && ltb (e .slot) 24) (set l (e .slot) (valueOf (e .source) w)) l

@@ -56,7 +56,7 @@ fn called(w: Word) -> u8
             b"> = ! / * ~ ?? kept done cut status work locks dump id new fill buffer pattern \
             lend record is full short strict protect perm run aside sqi wel ioc wpen wpld \
             sec enable sector block array page lock config bits burst 8 16 32 64 \
-            save load compare raw old ba ",
+            save load compare raw old ba torn ",
             w.key,
         )
     } else {
@@ -130,13 +130,14 @@ pub fn follows(place: u8, w: Word) -> Entry
     let name = called(w);
     first_of(
         b"0011040@40041011001D20001@40001B=0543011003@40003B=054223200\
+        1vf0003vf000f1g071g0h09lg@4000gB=054h@4000hB=054\
         42501141W0115C60245A80445B=0546170317A80447B=054\
         WCX024WB=054X27031X1?031\
         8G?0458093008FY4008E:0009093009F94009E:0009D;0009B=054<09300<F9400<E:000<B=054:09500\
         ;2<600\
         Y09300YFY400YE:000YDZ000Z2[600[09300[FY400[E:000\
         =3>061\
-        0H?0050I@006@1?071?B=054\
+        0H?0050I@006@1i071i0?09liB=054?B=054\
         0JA0080K>0090L>00:0MG00;GNH0:4G4I072H4I072I2A081I1>081AAB044B0C300BF\\400BED000C0C300CFC400\
         CED000CDE000F0C300FFC400FED000D0C500E2F600\
         \\0C300\\F\\400\\ED000\\D]000]2^600^0C300^F\\400^ED000\
@@ -177,7 +178,7 @@ pub fn takes_name(place: u8) -> bool
 pub fn can_end(place: u8) -> bool
     ensures { λ r. ⌜ r ≡ canEnd place ⌝ }
 {
-    listed(b"013579<>?ACFPWe", place)
+    listed(b"013579<>?ACFPWeghi", place)
 }
 
 // ---- what a word says
@@ -190,6 +191,9 @@ fn value(source: u8, w: Word) -> u64
     }
     if source == 2 {
         return w.hex;
+    }
+    if source == 60 {
+        return 256 + w.hex % 256;
     }
     if source < 3 { 0 } else { (source - 3) as u64 }
 }

@@ -2,7 +2,7 @@
 -- name with its operands, then `done`, `started, busy`, the reply, or `refused` with the number". A row that is not told is blank.
 use Prim.Native.Nat.{ℕ, _+_, min}
 use mathlib.Core.List.{List}
-use lib.Dec.{eqb}
+use lib.Dec.{eqb, ltb}
 use Rattle.rules.specs.declared.Rest.{Rest}
 use Rattle.rules.specs.declared.Work.{Work}
 use Rattle.rules.specs.Words.{pick}
@@ -89,9 +89,9 @@ answerBelow line wanted number sent reply marks = pick (fits (sentRow line sent 
 unfoldable pub suspendedRow : Work → Row
 suspendedRow aside = places (told aside) (work (told aside) (below 157 0 0 0))
 
--- "what is allowed there": a form for each place of the grammar
+-- "what is allowed there": a form for each place of the grammar, from 222 on, of the places from 54 on from 311 on
 unfoldable pub allowedRow : ℕ → Row
-allowedRow place = form (222 + min place 53) 0 0 0 (below 177 0 0 0)
+allowedRow place = form (pick (ltb place 54) (222 + place) (257 + min place 57)) 0 0 0 (below 177 0 0 0)
 
 unfoldable pub secondRow : ℕ → ℕ → ℕ → ℕ → Work → ℕ → List ℕ → List ℕ → List ℕ → Row
 secondRow verb line wanted number aside place sent reply marks =

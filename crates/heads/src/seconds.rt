@@ -35,7 +35,10 @@ fn allowed_row(place: u8) -> Row
     ensures { λ q. ⌜ q ≡ allowedRow place ⌝ }
 {
     let r = rows::below(177, 0, 0, 0);
-    rows::form(r, 222 + smaller(place as usize, 53), 0, 0, 0)
+    if place < 54 {
+        return rows::form(r, 222 + place as usize, 0, 0, 0);
+    }
+    rows::form(r, 257 + smaller(place as usize, 57), 0, 0, 0)
 }
 
 pub fn second(

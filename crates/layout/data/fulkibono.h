@@ -32,8 +32,9 @@ extern "C" {
 
 /* Rises with what this header declares. 1 had records of 297 bytes; 2 had no burst reads, and its records are the same chips here; 3 had no
  * image files (fulkibono_image_write, fulkibono_image_read, numbers 14 and 15), and its records are the same; 4 had the old part alone: its records
- * and its files are old parts here, and its fulkibono_new is fulkibono_new_old. */
-#define FULKIBONO_VERSION 5
+ * and its files are old parts here, and its fulkibono_new is fulkibono_new_old; 5 had no k and m: its records are the same, its fulkibono_frame and
+ * fulkibono_power_cut took none, and a reset left its target unchanged (fulkibono_untorn and fulkibono_clean_m give what they did). */
+#define FULKIBONO_VERSION 6
 
 /* ---- sizes, in bytes */
 
@@ -134,23 +135,37 @@ uint8_t fulkibono_new(uint8_t *record, size_t record_len);
 /* The same of the old part, whose IOC is 0 then: 6B, 32 and EC get 7 until 01 sets it, and 35 reads 08. In all else the two parts are alike. */
 uint8_t fulkibono_new_old(uint8_t *record, size_t record_len);
 
+/* What a frame carries beside its bytes and buffers. It counts only where the frame is a 99 that is accepted while something runs: such a reset stops
+ * the running operation in its middle, and so does a power cut. Of the operation's range, in rising order, the first k bytes are finished (all, if k is
+ * larger); byte k, if the range has one, is torn by m; the others are unchanged. The range of 02, 32 and A5 is the whole page.
+ *     a program (02, 32, A5)    byte k becomes old AND (finished OR m)    m FF: unchanged, 00: finished    00 over FF with m F0 leaves F0
+ *     an erase (20, D8, C7)     byte k becomes old OR m                   m 00: unchanged, FF: finished    0F with m 30 becomes 3F
+ * So a program still only clears bits there, and an erase only sets them. 85, 01 and E8 have no range: with k 0 they are lost, with 1 or more they act
+ * fully, and then the registers are reset (of 01 only WPEN is left, of E8 its bits in both registers).
+ * All of it zero is a good default, but mind the first byte of a program: k 0 and m 00 leave the target of an erase unchanged and finish the first byte of
+ * a page that is being programmed. No m leaves both unchanged; fulkibono_untorn picks the one that does. */
+typedef struct fulkibono_circumstances {
+    uint64_t k;
+    uint8_t m;
+} fulkibono_circumstances;
+
 /* A frame: the bytes sent while CE# is low. The reply is written to `reply`, and to `marks` a 1 for each byte that is known and a 0
  * for each that is not; both have the same length. A frame without a reply fills the reply with FF and the marks with 0.
- * Gives 0 to 11, or 13. No frame changes the array or the Security ID. */
+ * Gives 0 to 11, or 13. No frame but a 99 that stops the running operation changes the array or the Security ID, and that one only in the
+ * operation's range; suspended work is dropped then, its target unchanged. */
 uint8_t fulkibono_frame(uint8_t *record, size_t record_len, uint8_t *array, size_t array_len, uint8_t *security, size_t security_len,
-                        const uint8_t *sent, size_t sent_len, uint8_t *reply, size_t reply_len, uint8_t *marks, size_t marks_len);
+                        const uint8_t *sent, size_t sent_len, uint8_t *reply, size_t reply_len, uint8_t *marks, size_t marks_len,
+                        fulkibono_circumstances x);
 
 /* The running operation ends. Gives 0, 1 or 12; 12 also where work is suspended and none runs. */
 uint8_t fulkibono_completion(uint8_t *record, size_t record_len, uint8_t *array, size_t array_len, uint8_t *security, size_t security_len);
 
-/* A power cut after k bytes of the running operation, and power-up. Gives 0 or 1.
- * The first k bytes of the operation's range are finished, in rising order, the others unchanged; all are if k is larger. The range of
- * 02, 32 and A5 is the whole page. 85, 01 and E8 have no range: with k of 0 they are lost, with 1 or more they act fully, before the
- * power-up (which sets IOC to the part's value and the protection register to 5555FFFFFFFF: of 01 only WPEN is left, of E8 the permanent
- * register).
- * With nothing running k says nothing; suspended work is dropped, its target unchanged, and the chip powers up: 0. */
+/* A power cut in the middle of the running operation, and power-up. Gives 0 or 1. k and m say how far it came, as in fulkibono_circumstances: with m of
+ * fulkibono_clean_m byte k is unchanged. 85, 01 and E8 act before the power-up, which sets IOC to the part's value and the protection register to
+ * 5555FFFFFFFF: of 01 only WPEN is left, of E8 the permanent register.
+ * With nothing running k and m say nothing; suspended work is dropped, its target unchanged, and the chip powers up: 0. */
 uint8_t fulkibono_power_cut(uint8_t *record, size_t record_len, uint8_t *array, size_t array_len, uint8_t *security, size_t security_len,
-                            uint64_t k);
+                            uint64_t k, uint8_t m);
 
 /* A whole idle chip as a file, for the post: FULKIBONO_IMAGE bytes into `file`. Gives 0, 1 or 14; 1 where a length is another, the bytes are no
  * record's code or the record is not well-formed; 14 where something runs or is suspended.
@@ -196,13 +211,35 @@ FULKIBONO_INLINE void fulkibono_make_old(fulkibono_record *chip)
     (void)fulkibono_new_old(chip->bytes, FULKIBONO_RECORD_SIZE);
 }
 
+/* The m that leaves byte k of what runs unchanged: FF of a program, else 00. */
+FULKIBONO_INLINE uint8_t fulkibono_clean_m(const fulkibono_record *chip)
+{
+    uint8_t kind = chip->bytes[FULKIBONO_PLACE_RUNNING_KIND];
+    return kind == FULKIBONO_KIND_PAGE_PROGRAM || kind == FULKIBONO_KIND_SECURITY_PROGRAM ? 0xFF : 0x00;
+}
+
+/* With these a reset leaves all of its target unchanged. */
+FULKIBONO_INLINE fulkibono_circumstances fulkibono_untorn(const fulkibono_record *chip)
+{
+    fulkibono_circumstances x = { 0, 0 };
+    x.m = fulkibono_clean_m(chip);
+    return x;
+}
+
 /* `array` has FULKIBONO_ARRAY bytes and `security` FULKIBONO_SECURITY; `reply` and `marks` have reply_len each. */
-FULKIBONO_INLINE uint8_t fulkibono_send(fulkibono_record *chip, uint8_t *array, uint8_t *security, const uint8_t *sent, size_t sent_len,
-                                        uint8_t *reply, uint8_t *marks, size_t reply_len)
+FULKIBONO_INLINE uint8_t fulkibono_send_in(fulkibono_record *chip, uint8_t *array, uint8_t *security, const uint8_t *sent, size_t sent_len,
+                                           uint8_t *reply, uint8_t *marks, size_t reply_len, fulkibono_circumstances x)
 {
     uint8_t none[3] = { 0, 0, 0 };
     return fulkibono_frame(chip->bytes, FULKIBONO_RECORD_SIZE, array, FULKIBONO_ARRAY, security, FULKIBONO_SECURITY,
-                           sent_len ? sent : none, sent_len, reply_len ? reply : none + 1, reply_len, reply_len ? marks : none + 2, reply_len);
+                           sent_len ? sent : none, sent_len, reply_len ? reply : none + 1, reply_len, reply_len ? marks : none + 2, reply_len, x);
+}
+
+/* The same, and a reset leaves its target unchanged. */
+FULKIBONO_INLINE uint8_t fulkibono_send(fulkibono_record *chip, uint8_t *array, uint8_t *security, const uint8_t *sent, size_t sent_len,
+                                        uint8_t *reply, uint8_t *marks, size_t reply_len)
+{
+    return fulkibono_send_in(chip, array, security, sent, sent_len, reply, marks, reply_len, fulkibono_untorn(chip));
 }
 
 FULKIBONO_INLINE uint8_t fulkibono_complete(fulkibono_record *chip, uint8_t *array, uint8_t *security)
@@ -210,9 +247,9 @@ FULKIBONO_INLINE uint8_t fulkibono_complete(fulkibono_record *chip, uint8_t *arr
     return fulkibono_completion(chip->bytes, FULKIBONO_RECORD_SIZE, array, FULKIBONO_ARRAY, security, FULKIBONO_SECURITY);
 }
 
-FULKIBONO_INLINE uint8_t fulkibono_cut(fulkibono_record *chip, uint8_t *array, uint8_t *security, uint64_t k)
+FULKIBONO_INLINE uint8_t fulkibono_cut(fulkibono_record *chip, uint8_t *array, uint8_t *security, uint64_t k, uint8_t m)
 {
-    return fulkibono_power_cut(chip->bytes, FULKIBONO_RECORD_SIZE, array, FULKIBONO_ARRAY, security, FULKIBONO_SECURITY, k);
+    return fulkibono_power_cut(chip->bytes, FULKIBONO_RECORD_SIZE, array, FULKIBONO_ARRAY, security, FULKIBONO_SECURITY, k, m);
 }
 
 /* `file` has FULKIBONO_IMAGE bytes. */

@@ -8,6 +8,7 @@ use Rattle.rules.proofs.Outcomes.{OneOutcome, OneResult}
 use Rattle.lending.proofs.wanted.Reads as wanted
 use Rattle.lending.proofs.marks_given.Reads as marks-given
 use Rattle.lending.proofs.marks_wanted.Reads as marks-wanted
+use Rattle.lending.proofs.tear_of.Reads as tear-of
 use Rattle.lending.proofs.happened.Reads as happened
 
 pub wanted-one : OneResult wanted.Post
@@ -18,6 +19,9 @@ marks-given-one κ a x y r r′ p q = one p q
 
 pub marks-wanted-one : OneResult marks-wanted.Post
 marks-wanted-one κ a x y r r′ p q = one p q
+
+pub tear-of-one : OneResult tear-of.Post
+tear-of-one κ a x y r r′ p q = one p q
 
 -- the answer and the chip, and the array, the Security ID, the reply and the marks at exit
 pub happened-one : OneOutcome {S = After × List ℕ × List ℕ × List ℕ × List ℕ} happened.Post (λ r x. (r, x .1 .1 .1 .0 .now, x .1 .1 .1 .1 .0 .now, x .1 .1 .1 .1 .1 .1 .0 .now, x .1 .1 .1 .1 .1 .1 .1 .0 .now))

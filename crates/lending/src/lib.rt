@@ -1,5 +1,8 @@
 // An event on as much of the memories as is lent, with the reply and the marks that a line wants. specs/Lending.antt.
 use rules::After;
+use rules::Chip;
+use rules::Circumstances;
+use rules::Tear;
 use rules::plain::smaller;
 use script::Line;
 use standing::Bench;
@@ -8,7 +11,7 @@ ghost use mathlib.Core.Path.{_≡_};
 ghost use Rattle.rules.specs.Numbers.{answerNumber};
 ghost use Rattle.rules.specs.Machine.{completion, powerCut};
 ghost use Rattle.standing.specs.declared.Event.{Event};
-ghost use Rattle.lending.specs.Lending.{stateLent, wanted, marksWanted, outcome, Ended, Happened};
+ghost use Rattle.lending.specs.Lending.{stateLent, wanted, marksWanted, tearSaid, outcome, Ended, Happened};
 
 // How many reply bytes a line wants.
 pub fn wanted(e: Event, slots: [u64; 24]) -> usize
@@ -41,6 +44,26 @@ pub fn marks_wanted(e: Event, slots: [u64; 24]) -> usize
     }
 }
 
+// Where a line stops what runs: its count, and its byte or, where none stands, the m of document 01.
+pub fn tear_of(c: Chip, slots: [u64; 24]) -> Tear
+    ensures { λ r. ⌜ r ≡ tearSaid c slots ⌝ }
+{
+    let rest = c.rest;
+    let works = rest.works;
+    let run = works.running;
+    let k = slots[7];
+    if slots[9] == 0 {
+        return Tear {
+            k,
+            m: blocks::clean_m(run),
+        };
+    }
+    Tear {
+        k,
+        m: (slots[9] % 256) as u8,
+    }
+}
+
 // Reply and marks hold 5A and 07 before a frame, so that `kept` can be seen.
 fn sent(
     b: Bench,
@@ -60,6 +83,7 @@ fn sent(
     let n = smaller(l.sent, frame.len());
     let r = smaller(wanted(Event::Frame, slots), reply.len());
     let m = smaller(marks_given(slots), marks.len());
+    let tear = tear_of(c, slots);
     memory::set_all(reply, 0, r, 0x5A);
     memory::set_all(marks, 0, m, 0x07);
     chip::frame(
@@ -69,6 +93,7 @@ fn sent(
         &frame[..n],
         &mut reply[..r],
         &mut marks[..m],
+        Circumstances { tear },
     )
 }
 
@@ -81,13 +106,13 @@ fn ended(b: Bench, array: &mut [u8], security: &mut [u8]) -> After
     chip::completion(c, &mut array[..a], &mut security[..s])
 }
 
-fn cut(b: Bench, k: u64, array: &mut [u8], security: &mut [u8]) -> After
-    ensures { λ r. ⌜ Ended (powerCut (stateLent b (now (array .entry)) (now (security .entry))) k) (answerNumber (r .answer)) (r .chip) (now (array .entry)) (now (security .entry)) (now (array .exit)) (now (security .exit)) ⌝ }
+fn cut(b: Bench, tear: Tear, array: &mut [u8], security: &mut [u8]) -> After
+    ensures { λ r. ⌜ Ended (powerCut (stateLent b (now (array .entry)) (now (security .entry))) tear) (answerNumber (r .answer)) (r .chip) (now (array .entry)) (now (security .entry)) (now (array .exit)) (now (security .exit)) ⌝ }
 {
     let c = b.chip;
     let a = smaller(b.array, array.len());
     let s = smaller(b.security, security.len());
-    chip::power_cut(c, &mut array[..a], &mut security[..s], k)
+    chip::power_cut(c, &mut array[..a], &mut security[..s], tear)
 }
 
 // The event on the chip.
@@ -103,10 +128,11 @@ pub fn happened(
 ) -> After
     ensures { λ r. ⌜ Happened (outcome e b l (now (array .entry)) (now (security .entry)) (now (frame .entry)) (now (reply .entry)) (now (marks .entry))) (answerNumber (r .answer)) (r .chip) (now (array .entry)) (now (security .entry)) (now (reply .entry)) (now (marks .entry)) (now (array .exit)) (now (security .exit)) (now (reply .exit)) (now (marks .exit)) ⌝ }
 {
+    let c = b.chip;
     let slots = l.slots;
     match e {
         Event::Frame => sent(b, l, array, security, frame, reply, marks),
         Event::Completion => ended(b, array, security),
-        Event::Cut => cut(b, slots[7], array, security),
+        Event::Cut => cut(b, tear_of(c, slots), array, security),
     }
 }

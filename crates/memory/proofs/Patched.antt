@@ -1,9 +1,9 @@
 -- A loop that stores one byte after the other patches a list. Assumes nothing.
-use Prim.Native.Nat.{ℕ, _+_, _<_}
+use Prim.Native.Nat.{ℕ, _+_, _≤_, _<_}
 use mathlib.Core.Path.{_≡_, refl, sym, _∙_}
 use mathlib.Core.List.{List}
 use native.Mathlib.Omega.{arith}
-use native.Mathlib.Decide.{ℕ-discrete}
+use native.Mathlib.Decide.{ℕ-discrete, decLt}
 use native.Mathlib.Nat.{zero-add}
 use lib.ListN.{length, getD, set, replicate, length-set, length-replicate, getD-replicate}
 use lib.Seq.{ext-getD, getD-set-same, getD-set-other}
@@ -28,6 +28,21 @@ patched-more l l₀ from n v f h fits e =
 -- what the loop has not reached yet is as it was
 pub patched-next : (l l₀ : List ℕ) (from n : ℕ) (f : ℕ → ℕ) → Patched l l₀ from n f → getD l (from + n) 0 ≡ getD l₀ (from + n) 0
 patched-next l l₀ from n f h = h .after (from + n) (omega arith)
+
+-- what lies behind a patch is as it was: a patch of more, by what says so of it
+pub patched-to : (l l₀ : List ℕ) (from m n : ℕ) (f g : ℕ → ℕ) → Patched l l₀ from m f → m ≤ n → ((i : ℕ) → i < m → f i ≡ g i)
+    → ((i : ℕ) → m ≤ i → i < n → getD l₀ (from + i) 0 ≡ g i) → Patched l l₀ from n g
+patched-to l l₀ from m n f g h le same rest =
+    record {
+      size = h .size;
+      inside = λ i below. go i below (decLt i m);
+      before = h .before;
+      after = λ a above. h .after a (omega arith);
+    }
+  where
+    go : (i : ℕ) → i < n → Dec (i < m) → getD l (from + i) 0 ≡ g i
+    go i below (yes q) = h .inside i q ∙ same i q
+    go i below (no q) = h .after (from + i) (omega arith) ∙ rest i (omega arith) below
 
 -- a patch of the whole with one value
 pub patched-whole : (l l₀ : List ℕ) (n v : ℕ) → length l₀ ≡ n → Patched l l₀ 0 n (λ i. v) → l ≡ replicate n v

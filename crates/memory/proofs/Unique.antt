@@ -52,8 +52,8 @@ fill-page-one κ a x y r r′ p q = one p q
 pub first-ff-one : OneResult first-ff.Post
 first-ff-one κ a x y r r′ p q = one p q
 
-pub finish-array-one : OneList finish-array.Post (λ a. a .1 .1 .1 .0 .now)
+pub finish-array-one : OneList finish-array.Post (λ a. a .1 .1 .1 .1 .0 .now)
 finish-array-one κ a x y r r′ p q = lent-one _ _ (one p q)
 
-pub finish-security-one : OneList finish-security.Post (λ a. a .1 .1 .1 .0 .now)
+pub finish-security-one : OneList finish-security.Post (λ a. a .1 .1 .1 .1 .0 .now)
 finish-security-one κ a x y r r′ p q = lent-one _ _ (one p q)

@@ -1,14 +1,16 @@
-// Loops over lent bytes: pieces of memory, the page buffer, and finishing the first k bytes of work.
+// Loops over lent bytes: pieces of memory, the page buffer, and work that is finished as far as k and m say.
 use rules::Work;
 use rules::plain::smaller;
 ghost use mathlib.Core.Path.{_≡_};
 ghost use mathlib.Core.Bool.{true};
+ghost use mathlib.Core.List.{[]};
 ghost use Prim.Native.Nat.{_+_, _≤_, _<_};
 ghost use lib.ListN.{length, getD, drop};
 ghost use lib.Bits.{bitAnd};
 ghost use Rattle.rules.specs.Words.{lent};
 ghost use Rattle.rules.specs.Blocks.{arraySize, securitySize};
-ghost use Rattle.rules.specs.Works.{arrayRange, securityRange, finish};
+ghost use Rattle.rules.specs.declared.Work.{Work};
+ghost use Rattle.rules.specs.Works.{arrayRange, securityRange, stopped, tearOf, finish};
 ghost use Rattle.rules.specs.Programs.{blank, fill};
 ghost use Rattle.rules.specs.WellFormed.{firstFF, numbersRight};
 ghost use Rattle.memory.specs.Patched.{Patched, Repeated};
@@ -109,43 +111,57 @@ pub fn first_ff(page: &[u8], n: usize) -> bool
     other == 0
 }
 
-// The first k bytes of the work's range in the array are finished.
-pub fn finish_array(w: Work, page: &[u8], k: usize, array: &mut [u8])
+// ---- work: the first k bytes are finished, byte k is torn by m, the rest is unchanged. Two numbers and no Tear: at a completion's they are then known where this becomes a part of it
+
+// An erase of n bytes from `from` on.
+fn erase(s: &mut [u8], from: usize, n: usize, k: u64, m: u8)
+    requires { ⌜ from + n ≤ length (now s) ⌝ }
+    ensures { λ _. ⌜ Patched (now (s .exit)) (now (s .entry)) from n (λ i. stopped Work.EraseArray [] (tearOf k m) i (getD (now (s .entry)) (from + i) 0)) ⌝ }
+{
+    let whole = smaller(k as usize, n);
+    set_all(s, from, whole, 255);
+    if whole < n {
+        s[from + whole] = s[from + whole] | m;
+    }
+}
+
+// A program of the page from `from` on.
+fn program(s: &mut [u8], from: usize, page: &[u8], k: u64, m: u8)
+    requires { ⌜ (from + 256 ≤ length (now s)) × (length (now page) ≡ 256) ⌝ }
+    ensures { λ _. ⌜ Patched (now (s .exit)) (now (s .entry)) from 256 (λ i. stopped (Work.ProgramPage 0) (now (page .entry)) (tearOf k m) i (getD (now (s .entry)) (from + i) 0)) ⌝ }
+{
+    let whole = smaller(k as usize, 256);
+    clear_bits(s, from, whole, page);
+    if whole < 256 {
+        let old = s[from + whole];
+        s[from + whole] = old & (old & page[whole] | m);
+    }
+}
+
+// In the array.
+pub fn finish_array(w: Work, page: &[u8], k: u64, m: u8, array: &mut [u8])
     requires { ⌜ (numbersRight w ≡ true) × ((length (now array) ≡ arraySize) × (length (now page) ≡ 256)) ⌝ }
-    ensures { λ _. ⌜ lent (now (array .exit)) ≡ finish w (arrayRange w) (now (page .entry)) k (lent (now (array .entry))) ⌝ }
+    ensures { λ _. ⌜ lent (now (array .exit)) ≡ finish w (arrayRange w) (now (page .entry)) (tearOf k m) (lent (now (array .entry))) ⌝ }
 {
     match w {
-        Work::EraseSector(n) => {
-            let m = smaller(k, 4096);
-            set_all(array, n * 4096, m, 255);
-        }
+        Work::EraseSector(n) => erase(array, n * 4096, 4096, k, m),
         Work::EraseBlock(n) => {
             let b = blocks::block_at(n);
-            let m = smaller(k, b.size);
-            set_all(array, b.start, m, 255);
+            erase(array, b.start, b.size, k, m);
         }
-        Work::EraseArray => {
-            let m = smaller(k, 2097152);
-            set_all(array, 0, m, 255);
-        }
-        Work::ProgramPage(n) => {
-            let m = smaller(k, 256);
-            clear_bits(array, n * 256, m, page);
-        }
+        Work::EraseArray => erase(array, 0, 2097152, k, m),
+        Work::ProgramPage(n) => program(array, n * 256, page, k, m),
         _ => {}
     }
 }
 
 // And in the Security ID: only an A5 has a range there.
-pub fn finish_security(w: Work, page: &[u8], k: usize, security: &mut [u8])
+pub fn finish_security(w: Work, page: &[u8], k: u64, m: u8, security: &mut [u8])
     requires { ⌜ (numbersRight w ≡ true) × ((length (now security) ≡ securitySize) × (length (now page) ≡ 256)) ⌝ }
-    ensures { λ _. ⌜ lent (now (security .exit)) ≡ finish w (securityRange w) (now (page .entry)) k (lent (now (security .entry))) ⌝ }
+    ensures { λ _. ⌜ lent (now (security .exit)) ≡ finish w (securityRange w) (now (page .entry)) (tearOf k m) (lent (now (security .entry))) ⌝ }
 {
     match w {
-        Work::ProgramSecurity(n) => {
-            let m = smaller(k, 256);
-            clear_bits(security, n * 256, m, page);
-        }
+        Work::ProgramSecurity(n) => program(security, n * 256, page, k, m),
         _ => {}
     }
 }

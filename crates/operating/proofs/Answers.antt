@@ -10,7 +10,7 @@ use Rattle.rules.specs.Words.{lent}
 use Rattle.rules.specs.Promises.{benchOf, carriedOf, stateOf, frameOf}
 use Rattle.rules.proofs.Promises.{lent-ext}
 use Rattle.operating.specs.declared.Bench.{Bench}
-use Rattle.operating.specs.Operations.{leaves, operated, OperationPromise, afterByte, after, answeredBy, answeredOperation, AnswerPromise}
+use Rattle.operating.specs.Operations.{leaves, operated, untorn, OperationPromise, afterByte, after, answeredBy, answeredOperation, AnswerPromise}
 
 lent-after : (x : ℕ) (l : List ℕ) → lent (x ∷ l) ≡ after x (lent l)
 lent-after x l = lent-ext refl go
@@ -29,7 +29,7 @@ answers (x ∷ xs) {b} {r} {array} {security} {sent} {marks} {array′} {securit
     record {
       outcome = ap (λ (l : List ℕ). leaves r array′ security′ (6 ∷ l) marks′) end
           ∙ (λ i. record { bench = r; array = lent array′; security = lent security′; reply = lent-after 6 reply i; marks = lent marks′ })
-          ∙ ap answeredBy (p .outcome ∙ ap (λ (l : List ℕ). operated b (stateOf (benchOf (b .chip) array security)) (frameOf (carriedOf sent l marks))) all);
+          ∙ ap answeredBy (p .outcome ∙ ap (λ (l : List ℕ). operated b (stateOf (benchOf (b .chip) array security)) (frameOf (carriedOf sent l marks (untorn b)))) all);
     }
   where
     all : take (suc (length xs) - 1) xs ≡ xs

@@ -1,16 +1,19 @@
 -- When the completion comes: not before the first status read of a busy chip, and before the second. Assumes nothing.
 use Prim.Native.Nat.{ℕ, _≤_}
-use mathlib.Core.Path.{_≡_, refl, ap, _∙_}
-use mathlib.Core.Bool.{Bool, true, false, _&&_}
+use mathlib.Core.Path.{_≡_, refl, sym, ap, _∙_, subst}
+use mathlib.Core.Bool.{Bool, true, false, _&&_, _||_}
 use native.Mathlib.Omega.{arith}
 use lib.Dec.{eqb}
-use borrow.Author.Tests.{ne-eqb}
+use borrow.Author.Tests.{eqb-true, ne-eqb}
+use Rattle.rules.specs.declared.Chip.{Chip}
 use Rattle.rules.specs.Registers.{busy}
 use Rattle.rules.specs.Frames.{opcode}
 use Rattle.rules.specs.Numbers.{State, Frame}
 use Rattle.rules.specs.Machine.{frame, completion, left}
+use Rattle.rules.specs.Tears.{withTear, cleanly, DropsAs01}
+use Rattle.rules.proofs.Tears.{frames-leave, reset-as-01}
 use Rattle.operating.specs.declared.Bench.{Bench}
-use Rattle.operating.specs.Operations.{dueBefore, readsAfter, settledState, finished, operated}
+use Rattle.operating.specs.Operations.{dueBefore, readsAfter, settledState, finished, operated, untorn, NothingTorn}
 
 neither : (b : Bool) → (b && false) ≡ false
 neither true = refl
@@ -58,3 +61,28 @@ reads-few true n op h = go (eqb op 0x05) refl
     go : (u : Bool) → eqb op 0x05 ≡ u → readsAfter true n op ≤ 1
     go true e = rw e (omega arith)
     go false e = rw e h
+
+-- ---- a reset tears nothing
+
+pub nothing-torn : NothingTorn
+unfolding operated
+nothing-torn b s f same array security = go (eqb (opcode (f .sent)) 0x99) refl
+  where
+    g : Frame
+    g = withTear (untorn b .tear) f
+
+    t : State
+    t = settledState (dueBefore (busy (b .chip .rest)) (b .reads) (opcode (f .sent))) s
+
+    -- 99 is no status read
+    reset : opcode (f .sent) ≡ 0x99 → dueBefore (busy (b .chip .rest)) (b .reads) (opcode (f .sent)) ≡ false
+    reset o = ap (λ (t : Bool). busy (b .chip .rest) && t && eqb (b .reads) 1) (ap (λ (x : ℕ). eqb x 0x05) o) ∙ ap (λ (t : Bool). t && eqb (b .reads) 1) (neither (busy (b .chip .rest)))
+
+    as-01 : DropsAs01 s (frame s g) (f .sent)
+    as-01 = subst (λ (c : Chip). DropsAs01 s (frame s (withTear (cleanly (c .rest .works .running) 0) f)) (f .sent)) same (reset-as-01 s f array security)
+
+    go : (x : Bool) → eqb (opcode (f .sent)) 0x99 ≡ x → (frame t g .array ≡ t .array) × (frame t g .security ≡ t .security)
+    go true e =
+        let d = ap (λ (x : Bool). settledState x s) (reset (eqb-true (opcode (f .sent)) 0x99 e)) in
+        (ap (λ (q : State). frame q g .array) d ∙ as-01 .array ∙ ap (λ (q : State). q .array) (sym d), ap (λ (q : State). frame q g .security) d ∙ as-01 .security ∙ ap (λ (q : State). q .security) (sym d))
+    go false e = frames-leave t g (ap (λ (x : Bool). eqb (frame t g .number) 0 && (x || false) && busy (t .chip .rest)) e ∙ ap (λ (x : Bool). x && busy (t .chip .rest)) (neither (eqb (frame t g .number) 0)))

@@ -5,6 +5,7 @@ use mathlib.Core.Bool.{Bool, true, false, _&&_}
 use mathlib.Core.List.{List, [], _∷_}
 use lib.Dec.{eqb}
 use Rattle.rules.specs.declared.Answer.{Answer}
+use Rattle.rules.specs.declared.Circumstances.{Circumstances}
 use Rattle.rules.specs.Words.{pick, Lent, lent}
 use Rattle.rules.specs.Registers.{busy}
 use Rattle.rules.specs.Frames.{opcode}
@@ -12,6 +13,7 @@ use Rattle.rules.specs.Numbers.{State, Frame}
 use Rattle.rules.specs.Machine.{Outcome, frame, completion, left}
 use Rattle.rules.specs.Promises.{benchOf, carriedOf, stateOf, frameOf}
 use Rattle.rules.specs.Promises as promises
+use Rattle.rules.specs.Tears.{OfBytes, withTear, cleanly}
 use Rattle.operating.specs.declared.Bench.{Bench}
 use Rattle.serprog.specs.Commands.{ack}
 use Rattle.serprog.specs.Showing.{shownReply}
@@ -59,6 +61,19 @@ operated b s f =
     let op = opcode (f .sent) in
     finished b op (frame (settledState (dueBefore (busy (b .chip .rest)) (b .reads) op) s) f)
 
+-- ---- W-205: serprog says no k and no m, so that a reset is document 01's
+
+abbrev pub untorn : Bench → Circumstances
+untorn b = record { tear = cleanly (b .chip .rest .works .running) 0 }
+
+-- it tears nothing: an operation leaves the memories as the completion before it did. Proved in proofs/Time
+abbrev pub NothingTorn : Type 0
+NothingTorn =
+    (b : Bench) (s : State) (f : Frame) → s .chip ≡ b .chip → OfBytes (s .array) → OfBytes (s .security)
+    → let t = settledState (dueBefore (busy (b .chip .rest)) (b .reads) (opcode (f .sent))) s in
+    let o = operated b s (withTear (untorn b .tear) f) in
+    (o .array ≡ t .array) × (o .security ≡ t .security)
+
 -- ---- the promises
 
 -- the chip with its memories before, and at the frame's beginning
@@ -70,7 +85,7 @@ leaves r array security reply marks =
     record { bench = r; array = lent array; security = lent security; reply = lent reply; marks = lent marks }
 
 pub record OperationPromise (b : Bench) (array security sent reply marks : List ℕ) (r : Bench) (array′ security′ reply′ marks′ : List ℕ) : Type 0 where
-  pub outcome : leaves r array′ security′ reply′ marks′ ≡ operated b (stateOf (benchOf (b .chip) array security)) (frameOf (carriedOf sent reply marks))
+  pub outcome : leaves r array′ security′ reply′ marks′ ≡ operated b (stateOf (benchOf (b .chip) array security)) (frameOf (carriedOf sent reply marks (untorn b)))
 
 -- ---- an operation with its answer: 06, and then the reply
 
@@ -88,7 +103,7 @@ answeredBy o = record { bench = o .bench; array = o .array; security = o .securi
 -- where the answer has room for the 06, the reply has what is left; else nothing happens
 unfoldable pub answeredOperation : Bench → List ℕ → List ℕ → List ℕ → List ℕ → List ℕ → Operated
 answeredOperation b array security sent [] marks = leaves b array security [] marks
-answeredOperation b array security sent (x ∷ reply) marks = answeredBy (operated b (stateOf (benchOf (b .chip) array security)) (frameOf (carriedOf sent reply marks)))
+answeredOperation b array security sent (x ∷ reply) marks = answeredBy (operated b (stateOf (benchOf (b .chip) array security)) (frameOf (carriedOf sent reply marks (untorn b))))
 
 pub record AnswerPromise (b : Bench) (array security sent answer marks : List ℕ) (r : Bench) (array′ security′ answer′ marks′ : List ℕ) : Type 0 where
   pub outcome : leaves r array′ security′ answer′ marks′ ≡ answeredOperation b array security sent answer marks

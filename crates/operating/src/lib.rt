@@ -1,12 +1,14 @@
 // One SPI operation on the bench chip: the completion that is due, the frame, and what the tool is shown of the reply.
 use rules::Answer;
 use rules::Chip;
+use rules::Circumstances;
+use rules::Tear;
 use serprog::show;
 ghost use mathlib.Core.Path.{_≡_};
 ghost use Rattle.rules.specs.Frames.{opcode};
 ghost use Rattle.rules.specs.Registers.{busy};
 ghost use Rattle.rules.specs.Promises.{benchOf};
-ghost use Rattle.operating.specs.Operations.{isDone, dueBefore, readsAfter, SettledPromise, OperationPromise, AnswerPromise};
+ghost use Rattle.operating.specs.Operations.{isDone, dueBefore, readsAfter, untorn, SettledPromise, OperationPromise, AnswerPromise};
 
 // The chip, how many status reads it has answered since it is busy (0 or 1), and whether the tool is shown the sibling's identity.
 pub struct Bench {
@@ -69,6 +71,21 @@ pub fn reads_after(busy: bool, reads: u8, op: u8) -> u8
     }
 }
 
+// A reset tears nothing: k 0, and the m of document 01.
+fn untorn(b: Bench) -> Circumstances
+    ensures { λ r. ⌜ r ≡ untorn b ⌝ }
+{
+    let c = b.chip;
+    let rest = c.rest;
+    let works = rest.works;
+    let run = works.running;
+    let tear = Tear {
+        k: 0,
+        m: blocks::clean_m(run),
+    };
+    Circumstances { tear }
+}
+
 // The chip and the memories at the frame's beginning.
 fn settled(c: Chip, ends: bool, array: &mut [u8], security: &mut [u8]) -> Chip
     ensures { λ r. ⌜ SettledPromise ends (benchOf c (now (array .entry)) (now (security .entry))) (benchOf r (now (array .exit)) (now (security .exit))) ⌝ }
@@ -106,7 +123,8 @@ pub fn operate(
     let old = b.chip;
     let ends = due(is_busy(old), b.reads, op);
     let c = settled(old, ends, array, security);
-    let after = chip::frame(c, array, security, sent, reply, marks);
+    let x = untorn(b);
+    let after = chip::frame(c, array, security, sent, reply, marks, x);
     let answer = after.answer;
     show(b.disguise, is_done(answer), op, reply);
     let next = after.chip;

@@ -32,13 +32,14 @@ isOver Part.Bits = false
 isOver Part.Protocol = false
 isOver Part.Number = false
 isOver Part.Why = false
+isOver Part.Torn = false
 isOver Part.Unmet = false
 isOver Part.Expected = false
 isOver Part.Came = false
 isOver Part.Memory = false
 isOver Part.Over = true
 
--- the order: "remarks of the script are shown above their line"; its row and its bytes; below it a refusal's reasons, and then what is not met
+-- the order: "remarks of the script are shown above their line"; its row and its bytes; below it a refusal's reasons, what was stopped and torn, and then what is not met
 abbrev pub partAfter : Part → Part
 partAfter Part.Remark = Part.Head
 partAfter Part.Head = Part.Second
@@ -49,7 +50,8 @@ partAfter Part.Configuration = Part.Bits
 partAfter Part.Bits = Part.Protocol
 partAfter Part.Protocol = Part.Number
 partAfter Part.Number = Part.Why
-partAfter Part.Why = Part.Unmet
+partAfter Part.Why = Part.Torn
+partAfter Part.Torn = Part.Unmet
 partAfter Part.Unmet = Part.Expected
 partAfter Part.Expected = Part.Came
 partAfter Part.Came = Part.Memory
@@ -60,7 +62,7 @@ partAfter Part.Over = Part.Over
 unfoldable pub remarkRows : ℕ → ℕ
 remarkRows n = pick (eqb (n % 79) 0) (n / 79) (n / 79 + 1)
 
--- how many rows a part has: of a remark by its length, of bytes by the line, three bits of a configuration, four expectations; one of the others
+-- how many rows a part has: of a remark by its length, of bytes by the line, three bits of a configuration, what was stopped and torn, four expectations; one of the others
 abbrev pub rowsOf : Part → ℕ → ℕ → Bool → List ℕ → ℕ
 rowsOf Part.Remark remark verb full s = remarkRows (min remark 65537)
 rowsOf Part.Head remark verb full s = 1
@@ -72,6 +74,7 @@ rowsOf Part.Bits remark verb full s = 3
 rowsOf Part.Protocol remark verb full s = 1
 rowsOf Part.Number remark verb full s = 1
 rowsOf Part.Why remark verb full s = 1
+rowsOf Part.Torn remark verb full s = 2
 rowsOf Part.Unmet remark verb full s = 4
 rowsOf Part.Expected remark verb full s = 1
 rowsOf Part.Came remark verb full s = 1

@@ -25,9 +25,9 @@ page =
     ++ ascii "new%>a new chip, all memory FF, part BA\n"  -- 14
     ++ ascii "new old%>a new chip, all memory FF, part old\n"  -- 15
     ++ ascii " ended\n"  -- 16
-    ++ ascii " cut after %n of %n\n"  -- 17
-    ++ ascii " cut before it acted\n"  -- 18
-    ++ ascii " cut after it acted\n"  -- 19
+    ++ ascii " stopped after %n of %n\n"  -- 17
+    ++ ascii " stopped before it acted\n"  -- 18
+    ++ ascii " stopped after it acted\n"  -- 19
     ++ ascii "nothing ran; power-up\n"  -- 20
     ++ ascii "refused %n\n"  -- 21
     ++ ascii " line  sent                    answer and reply\n"  -- 22
@@ -231,9 +231,9 @@ page =
     ++ ascii "        in all: \n"  -- 220
     ++ ascii "\n"  -- 221
     ++ ascii "a byte, >, done, cut, status, work, locks, dump, new, fill, ..\n"  -- 222
-    ++ ascii "a byte, * how often, > a count, ! a number, # remark\n"  -- 223
+    ++ ascii "a byte, * how often, torn, > a count, ! a number, # remark\n"  -- 223
     ++ ascii "how often, from 1\n"  -- 224
-    ++ ascii "a byte, > a count, ! a number, # remark\n"  -- 225
+    ++ ascii "a byte, torn, > a count, ! a number, # remark\n"  -- 225
     ++ ascii "a count of reply bytes, in decimal\n"  -- 226
     ++ ascii "/ a count, = expected bytes, ! a number, # remark\n"  -- 227
     ++ ascii "a count of mark bytes, in decimal\n"  -- 228
@@ -319,6 +319,14 @@ page =
     ++ ascii "permanent %r has a read lock\n"  -- 308
     ++ ascii "permanent %r is not within protection %r\n"  -- 309
     ++ ascii " is suspended\n"  -- 310
+    ++ ascii "a count of bytes, in decimal\n"  -- 311
+    ++ ascii "a byte, > a count, ! a number, # remark\n"  -- 312
+    ++ ascii "> a count, ! a number, # remark\n"  -- 313
+    ++ ascii "a byte, ! a number, # remark\n"  -- 314
+    ++ ascii "at %a, torn by %b: now %b\n"  -- 315
+    ++ ascii "at %p of the Security ID, torn by %b: now %b\n"  -- 316
+    ++ ascii "%b is not used: there is no byte %n\n"  -- 317
+    ++ ascii "torn is not used: only a done 99 while something runs looks at it\n"  -- 318
 
 -- form n with three numbers, behind a row
 unfoldable pub form : ℕ → ℕ → ℕ → ℕ → Row → Row

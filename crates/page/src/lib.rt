@@ -26,9 +26,9 @@ cut %n\n\
 new%>a new chip, all memory FF, part BA\n\
 new old%>a new chip, all memory FF, part old\n\
 \x20ended\n\
-\x20cut after %n of %n\n\
-\x20cut before it acted\n\
-\x20cut after it acted\n\
+\x20stopped after %n of %n\n\
+\x20stopped before it acted\n\
+\x20stopped after it acted\n\
 nothing ran; power-up\n\
 refused %n\n\
 \x20line  sent                    answer and reply\n\
@@ -232,9 +232,9 @@ the record is not as the line says\n\
 \x20       in all: \n\
 \n\
 a byte, >, done, cut, status, work, locks, dump, new, fill, ..\n\
-a byte, * how often, > a count, ! a number, # remark\n\
+a byte, * how often, torn, > a count, ! a number, # remark\n\
 how often, from 1\n\
-a byte, > a count, ! a number, # remark\n\
+a byte, torn, > a count, ! a number, # remark\n\
 a count of reply bytes, in decimal\n\
 / a count, = expected bytes, ! a number, # remark\n\
 a count of mark bytes, in decimal\n\
@@ -319,7 +319,15 @@ page number is %b %b\n\
 burst code is %b, 03 is the last\n\
 permanent %r has a read lock\n\
 permanent %r is not within protection %r\n\
-\x20is suspended\n",
+\x20is suspended\n\
+a count of bytes, in decimal\n\
+a byte, > a count, ! a number, # remark\n\
+> a count, ! a number, # remark\n\
+a byte, ! a number, # remark\n\
+at %a, torn by %b: now %b\n\
+at %p of the Security ID, torn by %b: now %b\n\
+%b is not used: there is no byte %n\n\
+torn is not used: only a done 99 while something runs looks at it\n",
         r,
         n,
         a,

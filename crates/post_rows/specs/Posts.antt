@@ -149,6 +149,7 @@ partRow Part.Bits p f r name = blank
 partRow Part.Protocol p f r name = blank
 partRow Part.Number p f r name = numberRow (r .trouble) (p .number)
 partRow Part.Why p f r name = whyRow f (p .bench .array) (p .bench .security) (p .before) (p .number) r
+partRow Part.Torn p f r name = blank
 partRow Part.Unmet p f r name = blank
 partRow Part.Expected p f r name = blank
 partRow Part.Came p f r name = blank

@@ -32,6 +32,7 @@ fn part_row(part: Part, p: Playing, f: Post, r: Report, name: &[u8]) -> Row
         Part::Protocol => rows::empty(),
         Part::Number => whys::number(t, p.number),
         Part::Why => whys::why(f, bench.array, bench.security, before, p.number, r),
+        Part::Torn => rows::empty(),
         Part::Unmet => rows::empty(),
         Part::Expected => rows::empty(),
         Part::Came => rows::empty(),

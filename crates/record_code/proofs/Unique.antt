@@ -6,12 +6,14 @@ use mathlib.Core.Bool.{Bool}
 use mathlib.Core.List.{List}
 use denote.Ref.{RefT}
 use Rattle.rules.specs.declared.Rest.{Rest}
+use Rattle.rules.specs.declared.Works.{Works}
 use Rattle.record_code.proofs.is_code.Reads as is-code
 use Rattle.record_code.proofs.rest_in.Reads as rest-in
 use Rattle.record_code.proofs.put_rest.Reads as put-rest
 use Rattle.record_code.proofs.put_idle.Reads as put-idle
 use Rattle.record_code.proofs.is_idle.Reads as is-idle
 use Rattle.record_code.proofs.idle_in.Reads as idle-in
+use Rattle.record_code.proofs.works_in.Reads as works-in
 
 pub is-code-one : (κ : List ℕ × Unit {0}) (a x y : RefT (List ℕ) × Unit {0}) (r r′ : Bool) → is-code.Post κ a r x → is-code.Post κ a r′ y → r ≡ r′
 is-code-one κ a x y r r′ p q = p ∙ sym q
@@ -30,3 +32,6 @@ is-idle-one κ a x y r r′ p q = p ∙ sym q
 
 pub idle-in-one : (κ : List ℕ × Unit {0}) (a x y : RefT (List ℕ) × Unit {0}) (r r′ : Rest) → idle-in.Post κ a r x → idle-in.Post κ a r′ y → r ≡ r′
 idle-in-one κ a x y r r′ p q = p ∙ sym q
+
+pub works-in-one : (κ : List ℕ × Unit {0}) (a x y : RefT (List ℕ) × Unit {0}) (r r′ : Works) → works-in.Post κ a r x → works-in.Post κ a r′ y → r ≡ r′
+works-in-one κ a x y r r′ p q = p ∙ sym q

@@ -215,3 +215,13 @@ pub fn idle_in(coded: &[u8]) -> Rest
         burst,
     }
 }
+
+// What runs and what is suspended, read again where an event stops it: with a second caller rest_in would be called at every event.
+pub fn works_in(coded: &[u8]) -> Works
+    requires { ⌜ length (now coded) ≡ 320 ⌝ }
+    ensures { λ r. ⌜ r ≡ restIn (now (coded .entry)) .works ⌝ }
+{
+    let running = work_of(coded[288], get_word(coded, 272));
+    let suspended = work_of(coded[289], get_word(coded, 280));
+    Works { running, suspended }
+}

@@ -9,7 +9,7 @@ use lib.Pow.{shr-shr, pow-pos}
 use lib.Dec.{eqb}
 use lib.Bits.{bitAnd, bitOr, and-shr, and-mod, or-shr, or-mod, and-le-l}
 use Rattle.rules.specs.Words.{bit}
-use Rattle.rules.proofs.Bools.{and-split}
+use Rattle.rules.proofs.Bools.{and-split, or-left, or-right, upto, upto-at}
 
 two : (x : ℕ) → x % 2 < 2
 two x = omega arith
@@ -99,3 +99,28 @@ pub apart-intro : (k p q : ℕ) → p < 2 ^ k → ((n : ℕ) → n < k → bit n
 apart-intro k p q hp h =
     bits-ext k (bitAnd p q) 0 (lt-of-le-of-lt (and-le-l p q) hp) (pow-pos k)
     (λ n below. bit-and n p q ∙ and-imp-not (bit n p) (bit n q) (h n below) ∙ sym (bit-zero n))
+
+-- ---- bytes
+
+-- every number has fewer binary digits than it counts
+below-power : (x : ℕ) → x < 2 ^ x
+below-power zero = omega arith
+below-power (suc x) = let h = below-power x in let e : 2 ^ suc x ≡ 2 ^ x * 2 = pow-suc 2 x in omega arith
+
+-- what was cleared is cleared already
+pub and-absorbs : (x y : ℕ) → bitAnd (bitAnd x y) x ≡ bitAnd x y
+and-absorbs x y = among-intro (bitAnd x y) (bitAnd x y) x (below-power (bitAnd x y)) (λ n below h. and-split (bit n x) (bit n y) (sym (bit-and n x y) ∙ h) .0)
+
+-- what bits are added to keeps its own
+pub or-absorbs : (x y : ℕ) → bitAnd x (bitOr x y) ≡ x
+or-absorbs x y = among-intro x x (bitOr x y) (below-power x) (λ n below h. bit-or n x y ∙ or-left (bit n x) (bit n y) h)
+
+all-set : upto 8 (λ n. bit n 0xFF) ≡ true
+unfolding bit
+all-set = refl
+
+pub byte-bit : (n : ℕ) → n < 8 → bit n 0xFF ≡ true
+byte-bit n h = upto-at 8 (λ n. bit n 0xFF) all-set n h
+
+pub byte-among : (x y : ℕ) → x < 256 → bitAnd x (bitOr y 0xFF) ≡ x
+byte-among x y h = among-intro 8 x (bitOr y 0xFF) h (λ n below k. bit-or n y 0xFF ∙ or-right (bit n y) (bit n 0xFF) (byte-bit n below))

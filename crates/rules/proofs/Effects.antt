@@ -8,21 +8,22 @@ use lib.Dec.{ltb}
 use lib.ListN.{length, getD, set, length-set}
 use lib.Seq.{getD-set-same, getD-set-other}
 use lib.Bits.{bitAnd, bitOr}
-use borrow.Author.Tests.{lt-ltb, le-ltb}
+use borrow.Author.Tests.{lt-ltb, le-ltb, eq-eqb, ne-eqb}
 use Rattle.rules.specs.declared.Burst.{Burst}
 use Rattle.rules.specs.declared.Kind.{Kind}
 use Rattle.rules.specs.declared.Range.{Range}
 use Rattle.rules.specs.declared.Rest.{Rest}
 use Rattle.rules.specs.declared.Short.{Short}
+use Rattle.rules.specs.declared.Tear.{Tear}
 use Rattle.rules.specs.declared.Work.{Work}
 use Rattle.rules.specs.Words.{bit, pick, holds, Lent}
 use Rattle.rules.specs.Blocks.{readLocked, readLocks, writeLocks, allLocks}
-use Rattle.rules.specs.Works.{isErase, isProgram, finished, finish}
+use Rattle.rules.specs.Works.{isErase, isProgram, finished, torn, stopped, finish}
 use Rattle.rules.specs.Frames.{frames, find, formOf, opcode, six}
 use Rattle.rules.specs.Reading.{known, unknown, placeCell}
 use Rattle.rules.specs.Programs.{blank, fill}
 use Rattle.rules.specs.Fields.{locksOf, worksOf, restOf, chipOf, noFlags, withProtection, withPermanent, withRunning, withSuspended, withSqi, withWel, withIoc, withWpen, withSec, withEnable, withBa, withBurst}
-use Rattle.rules.specs.Commands.{powerUpIoc, powerUpBurst, act, bufferAfter, settled, rested, newOf, newChip, newOldChip}
+use Rattle.rules.specs.Commands.{powerUpIoc, powerUpBurst, settled, settledFirst, act, bufferAfter, rested, newOf, newChip, newOldChip}
 use Rattle.rules.specs.Numbers.{State, Frame}
 use Rattle.rules.specs.Machine.{Outcome, frame, completion, powerCut}
 use Rattle.rules.proofs.Bools.{upto, upto-at}
@@ -75,24 +76,32 @@ fill-last b p (d ∷ ds) (suc i) l h k =
     ∙ fill-last (set b (p % 256) d) (p + 1) ds i (length-set b (p % 256) d ∙ l) (omega arith)
     (λ j above below q. k (suc j) (omega arith) (omega arith) (omega arith))
 
--- ---- 01, Long and short; Power cut: the first k bytes of the range are finished, the rest is unchanged
+-- ---- 01, Long and short; Power cut; 02, W-205: the first k bytes of the range are finished, byte k is torn, the rest is unchanged
 
-pub finish-first : (w : Work) (r : Range) (b : List ℕ) (k : ℕ) (m : Lent) (a : ℕ) → holds r a ≡ true → a - r .start < k
-    → finish w r b k m .byte a ≡ finished w b (a - r .start) (m .byte a)
-unfolding finish
-finish-first w r b k m a h below = rw (h, lt-ltb (a - r .start) k below)
+module _ (w : Work) (r : Range) (b : List ℕ) (t : Tear) (m : Lent) (a : ℕ) where
+  pub finish-inside : holds r a ≡ true → finish w r b t m .byte a ≡ stopped w b t (a - r .start) (m .byte a)
+  unfolding finish
+  finish-inside h = rw h
 
-pub finish-rest : (w : Work) (r : Range) (b : List ℕ) (k : ℕ) (m : Lent) (a : ℕ) → k ≤ a - r .start → finish w r b k m .byte a ≡ m .byte a
-unfolding finish
-finish-rest w r b k m a above = go (holds r a) (ltb (a - r .start) k) (le-ltb (a - r .start) k above)
-  where
-    go : (x y : Bool) → y ≡ false → pick (x && y) (finished w b (a - r .start) (m .byte a)) (m .byte a) ≡ m .byte a
-    go true y e = rw e
-    go false y e = refl
+  pub finish-first : holds r a ≡ true → a - r .start < t .k → finish w r b t m .byte a ≡ finished w b (a - r .start) (m .byte a)
+  unfolding finish
+  finish-first h below = rw (h, lt-ltb (a - r .start) (t .k) below)
 
-pub finish-outside : (w : Work) (r : Range) (b : List ℕ) (k : ℕ) (m : Lent) (a : ℕ) → holds r a ≡ false → finish w r b k m .byte a ≡ m .byte a
-unfolding finish
-finish-outside w r b k m a h = rw h
+  pub finish-torn : holds r a ≡ true → a - r .start ≡ t .k → finish w r b t m .byte a ≡ torn w b (t .m) (a - r .start) (m .byte a)
+  unfolding finish
+  finish-torn h e = rw (h, le-ltb (a - r .start) (t .k) (omega arith), eq-eqb (a - r .start) (t .k) e)
+
+  pub finish-rest : t .k < a - r .start → finish w r b t m .byte a ≡ m .byte a
+  unfolding finish
+  finish-rest above = go (holds r a)
+    where
+      go : (x : Bool) → pick x (stopped w b t (a - r .start) (m .byte a)) (m .byte a) ≡ m .byte a
+      go true = rw (le-ltb (a - r .start) (t .k) (omega arith), ne-eqb (a - r .start) (t .k) (λ e. omega arith))
+      go false = refl
+
+  pub finish-outside : holds r a ≡ false → finish w r b t m .byte a ≡ m .byte a
+  unfolding finish
+  finish-outside h = rw h
 
 -- ---- the record after a completion: BUSY and WEL 0, the buffer FF unless a program is suspended; the rest stays but for what the work sets
 
@@ -136,14 +145,36 @@ pub completion-buffer : (s : State) → completion s .number ≡ 0
     → completion s .chip .buffer ≡ pick (isProgram (s .chip .rest .works .suspended)) (s .chip .buffer) blank
 completion-buffer s e = ap (λ (o : Outcome). o .chip .buffer) (completion-done-whole s e)
 
--- ---- the record after a reset: the protocol, WEL, IOC, the burst, the enable, what runs and what is suspended are as at power-up, and nothing else moves
+-- ---- the record after a reset: 85, 01 and E8 have acted if k is 1 or more; then the protocol, WEL, IOC, the burst, the enable, what runs and what is suspended are as at
+-- power-up, and nothing else moves
 
 pub reset-leaves : (s : State) (f : Frame) → frame s f .number ≡ 0 → opcode (f .sent) ≡ 0x99
-    → frame s f .chip ≡ chipOf blank (withSqi false (withWel false (withIoc (powerUpIoc (s .chip .rest .flags .ba)) (withBurst powerUpBurst (withEnable false (withRunning Work.Nothing (withSuspended Work.Nothing (s .chip .rest))))))))
+    → let used = withEnable false (s .chip .rest) in
+    let left = pick (ltb 0 (f .circumstances .tear .k)) (settled (s .chip .rest .works .running) used) used in
+    frame s f .chip ≡ chipOf blank (withSqi false (withWel false (withIoc (powerUpIoc (left .flags .ba)) (withBurst powerUpBurst (withRunning Work.Nothing (withSuspended Work.Nothing left))))))
 unfolding formOf find frames
 reset-leaves s f e o =
     ap (λ (q : Outcome). q .chip) (frame-done-whole s f e)
-    ∙ ap (λ (x : ℕ). chipOf (bufferAfter (formOf x .kind) (f .sent) (s .chip .buffer)) (act (formOf x .kind) (f .sent) (withEnable false (s .chip .rest)))) o
+    ∙ ap (λ (x : ℕ). chipOf (bufferAfter (formOf x .kind) (f .sent) (s .chip .buffer)) (act (formOf x .kind) (f .sent) (f .circumstances .tear .k) (withEnable false (s .chip .rest)))) o
+
+-- what work sets is not the enable: used up before or after, it comes to the same
+pub used-settled : (k : ℕ) (r : Rest) → withEnable false (settledFirst k r) ≡ settledFirst k (withEnable false r)
+used-settled k r = go (ltb 0 k) (r .works .running)
+  where
+    sets : (w : Work) → withEnable false (settled w r) ≡ settled w (withEnable false r)
+    sets Work.Nothing = refl
+    sets (Work.EraseSector n) = refl
+    sets (Work.EraseBlock n) = refl
+    sets Work.EraseArray = refl
+    sets (Work.ProgramPage n) = refl
+    sets (Work.ProgramSecurity n) = refl
+    sets Work.LockSecurity = refl
+    sets (Work.WriteConfiguration i w) = refl
+    sets (Work.AddPermanent v) = refl
+
+    go : (b : Bool) (w : Work) → withEnable false (pick b (settled w r) r) ≡ pick b (settled w (withEnable false r)) (withEnable false r)
+    go true w = sets w
+    go false w = refl
 
 -- ---- the record of a new chip, of the old part and of BA; after a power cut it is that of its part again, but for SEC, WPEN and the permanent register, which stay as the work left them
 
@@ -153,11 +184,11 @@ new-old-is = refl
 pub new-is : newChip ≡ chipOf blank (withBa true (withIoc true (newOldChip .rest)))
 new-is = refl
 
-pub cut-leaves : (s : State) (k : ℕ) → powerCut s k .number ≡ 0
-    → let left = pick (ltb 0 k) (settled (s .chip .rest .works .running) (s .chip .rest)) (s .chip .rest) in
-    powerCut s k .chip
+pub cut-leaves : (s : State) (t : Tear) → powerCut s t .number ≡ 0
+    → let left = pick (ltb 0 (t .k)) (settled (s .chip .rest .works .running) (s .chip .rest)) (s .chip .rest) in
+    powerCut s t .chip
     ≡ chipOf blank (withSec (left .flags .sec) (withWpen (left .flags .wpen) (withPermanent (left .locks .permanent) (newOf (left .flags .ba) .rest))))
-cut-leaves s k e = ap (λ (q : Outcome). q .chip) (cut-done-whole s k e)
+cut-leaves s t e = ap (λ (q : Outcome). q .chip) (cut-done-whole s t e)
 
 -- ---- 42, 98 and E8, bit by bit
 
@@ -168,9 +199,9 @@ all-bits = refl
 every-bit : (n : ℕ) → n < 48 → bit n allLocks ≡ true
 every-bit n h = upto-at 48 (λ n. bit n allLocks) all-bits n h
 
-pub after-42 : (sent : List ℕ) (r : Rest) (n : ℕ) → n < 48
-    → bit n (act (Kind.Do Short.WriteProtection) sent r .locks .protection) ≡ (bit n (six sent) || bit n (r .locks .permanent))
-after-42 sent r n h =
+pub after-42 : (sent : List ℕ) (k : ℕ) (r : Rest) (n : ℕ) → n < 48
+    → bit n (act (Kind.Do Short.WriteProtection) sent k r .locks .protection) ≡ (bit n (six sent) || bit n (r .locks .permanent))
+after-42 sent k r n h =
     bit-or n (bitAnd (six sent) allLocks) (r .locks .permanent)
     ∙ ap (λ (x : Bool). x || bit n (r .locks .permanent)) (bit-and n (six sent) allLocks ∙ whole (bit n (six sent)) (bit n allLocks) (every-bit n h))
   where
@@ -178,9 +209,9 @@ after-42 sent r n h =
     whole true y e = e
     whole false y e = refl
 
-pub after-98 : (sent : List ℕ) (r : Rest) (n : ℕ)
-    → bit n (act (Kind.Do Short.ClearLocks) sent r .locks .protection) ≡ (bit n (r .locks .protection) && bit n readLocks || bit n (r .locks .permanent))
-after-98 sent r n =
+pub after-98 : (sent : List ℕ) (k : ℕ) (r : Rest) (n : ℕ)
+    → bit n (act (Kind.Do Short.ClearLocks) sent k r .locks .protection) ≡ (bit n (r .locks .protection) && bit n readLocks || bit n (r .locks .permanent))
+after-98 sent k r n =
     bit-or n (bitAnd (r .locks .protection) readLocks) (r .locks .permanent)
     ∙ ap (λ (x : Bool). x || bit n (r .locks .permanent)) (bit-and n (r .locks .protection) readLocks)
 
@@ -195,6 +226,6 @@ after-E8 v r n = (
 -- ---- suspension
 
 -- what is put aside and run again is what ran: nothing else of the record changes
-pub suspend-resume : (sent sent′ : List ℕ) (r : Rest) → r .works .suspended ≡ Work.Nothing → act (Kind.Do Short.Resume) sent′ (act (Kind.Do Short.Suspend) sent r) ≡ r
-suspend-resume sent sent′ r e =
+pub suspend-resume : (sent sent′ : List ℕ) (k k′ : ℕ) (r : Rest) → r .works .suspended ≡ Work.Nothing → act (Kind.Do Short.Resume) sent′ k′ (act (Kind.Do Short.Suspend) sent k r) ≡ r
+suspend-resume sent sent′ k k′ r e =
     ap (λ (w : Work). withSuspended w r) (sym e)

@@ -15,19 +15,20 @@ use Rattle.rules.specs.declared.Range.{Range}
 use Rattle.rules.specs.declared.Rest.{Rest}
 use Rattle.rules.specs.declared.Short.{Short}
 use Rattle.rules.specs.declared.Source.{Source}
+use Rattle.rules.specs.declared.Tear.{Tear}
 use Rattle.rules.specs.declared.Work.{Work}
 use Rattle.rules.specs.declared.Work.the-variants.{Nothing, EraseSector, EraseBlock, EraseArray, ProgramPage, ProgramSecurity, LockSecurity, WriteConfiguration, AddPermanent}
 use Rattle.rules.specs.Words.{bit, pick, oneOf, Each, end, _next_, holds, written}
 use Rattle.rules.specs.Blocks.{arraySize, blockOf, blockAt, readLocked, writeLocked, writeLocks}
-use Rattle.rules.specs.Works.{arrayRange, finished, finish}
+use Rattle.rules.specs.Works.{arrayRange, stopped, all, finish}
 use Rattle.rules.specs.Frames.{formOf, opcode, address}
 use Rattle.rules.specs.Bursts.{burstLength}
 use Rattle.rules.specs.Reading.{known, unknown, silent, placeCell, shown, reply}
 use Rattle.rules.specs.Fields.{chipOf, withEnable}
-use Rattle.rules.specs.Commands.{act, bufferAfter, settled, rested, bufferRested}
+use Rattle.rules.specs.Commands.{act, bufferAfter, settled, settledFirst, rested, bufferRested}
 use Rattle.rules.specs.WellFormed.{wellFormed}
 use Rattle.rules.specs.Numbers.{State, Frame, stateRight, first, frameTests, completionTests}
-use Rattle.rules.specs.Machine.{Outcome, frameChip, frameCell, frameReply, frameMarks, frame, workedArray, workedSecurity, completedChip, completion, Event, sends, completes, cuts, step, run}
+use Rattle.rules.specs.Machine.{Outcome, workedArray, workedSecurity, frameChip, stops, frameCell, frameReply, frameMarks, frame, completedChip, completion, Event, sends, completes, cuts, step, run}
 use Rattle.rules.specs.Promises.{stateOf}
 use Rattle.rules.specs.Demands.{eventsOf, outcomesOf, keyPlace, Uncut, Kept, AllKept, Demand3, Demand3OfCode}
 use Rattle.rules.proofs.Bools.{and-split, never}
@@ -35,7 +36,7 @@ use Rattle.rules.proofs.Bits.{bit-or}
 use Rattle.rules.proofs.Blocks.{unlocked-place}
 use Rattle.rules.proofs.Bursts.{burst-in-array, lengths-divide}
 use Rattle.rules.proofs.Effects.{finish-outside}
-use Rattle.rules.proofs.Numbers.{Accepted, accepted, completion-given}
+use Rattle.rules.proofs.Numbers.{Accepted, accepted, accepted-right, completion-given}
 use Rattle.rules.proofs.Rows.{opcodesOf, by-kind, at-each, at-one}
 use Rattle.rules.proofs.Runs.{demand-2}
 use Rattle.rules.proofs.WellFormed.{well-of}
@@ -51,33 +52,6 @@ refused : (w : Bool) → w ≡ true → (w || false || false) ≡ false → ⊥
 refused true e h = true≢false h
 refused false e h = true≢false (sym e)
 
--- a done frame under the lock-down leaves it and the protection register
-abbrev Stands : Rest → Rest → Type 0
-Stands r q = (q .flags .wpld ≡ true) × (q .locks .protection ≡ r .locks .protection)
-
-module _ (r : Rest) (sent : List ℕ) (d : r .flags .wpld ≡ true) where
-  kind-stands : (k : Kind) → Each (λ o. Accepted r o sent → Stands r (act k sent (withEnable false r))) (opcodesOf k)
-  kind-stands (Kind.Show s) = at-each (λ o a. (d, refl)) (opcodesOf (Kind.Show s))
-  kind-stands (Kind.Begin l) = at-each (λ o a. (d, refl)) (opcodesOf (Kind.Begin l))
-  kind-stands (Kind.Do Short.Nothing) = (λ a. (d, refl)) next end
-  kind-stands (Kind.Do Short.EnableReset) = (λ a. (d, refl)) next end
-  kind-stands (Kind.Do Short.Reset) = (λ a. (d, refl)) next end
-  kind-stands (Kind.Do Short.ToSqi) = (λ a. (d, refl)) next end
-  kind-stands (Kind.Do Short.ToSpi) = (λ a. (d, refl)) next end
-  kind-stands (Kind.Do Short.SetWel) = (λ a. (d, refl)) next end
-  kind-stands (Kind.Do Short.ClearWel) = (λ a. (d, refl)) next end
-  kind-stands (Kind.Do Short.WriteProtection) = (λ a. absurd (refused (r .flags .wpld) d (a .opened))) next end
-  kind-stands (Kind.Do Short.LockDown) = (λ a. (refl, refl)) next end
-  kind-stands (Kind.Do Short.ClearLocks) = (λ a. absurd (refused (r .flags .wpld) d (a .opened))) next end
-  kind-stands (Kind.Do Short.Suspend) = (λ a. (d, refl)) next end
-  kind-stands (Kind.Do Short.Resume) = (λ a. (d, refl)) next end
-  kind-stands (Kind.Do Short.SetBurst) = (λ a. (d, refl)) next end
-
-  stands : Accepted r (opcode sent) sent → Stands r (act (formOf (opcode sent) .kind) sent (withEnable false r))
-  stands a =
-      let k = formOf (opcode sent) .kind in
-      at-one (λ o. Accepted r o sent → Stands r (act k sent (withEnable false r))) (opcodesOf k) (opcode sent) (by-kind (r .flags .sqi) (opcode sent) (a .is-listed)) (kind-stands k) a
-
 module _ (p₀ : ℕ) where
   same-locks : (r q : Rest) → Locked p₀ r → q .flags .wpld ≡ true → q .locks .protection ≡ r .locks .protection → Locked p₀ q
   same-locks r q l down e =
@@ -85,17 +59,6 @@ module _ (p₀ : ℕ) where
         down = down;
         held = λ a k. let h = l .held a k in (ap (λ (p : ℕ). readLocked p a) e ∙ h .0, ap (λ (p : ℕ). writeLocked p a) e ∙ h .1);
       }
-
-  frame-locked : (n : ℕ) (c : Chip) (sent : List ℕ) → Locked p₀ (c .rest) → (n ≡ 0 → Accepted (c .rest) (opcode sent) sent) → Locked p₀ (frameChip n c sent .rest)
-  unfolding frameChip
-  frame-locked n c sent l a = go (eqb n 0) refl (oneOf n (1 ∷ 2 ∷ []))
-    where
-      go : (x : Bool) → eqb n 0 ≡ x → (y : Bool)
-          → Locked p₀
-          (pick x (chipOf (bufferAfter (formOf (opcode sent) .kind) sent (c .buffer)) (act (formOf (opcode sent) .kind) sent (withEnable false (c .rest)))) (pick y c (chipOf (c .buffer) (withEnable false (c .rest)))) .rest)
-      go true e y = let h = stands (c .rest) sent (l .down) (a (eqb-true n 0 e)) in same-locks (c .rest) _ l (h .0) (h .1)
-      go false e true = l
-      go false e false = same-locks (c .rest) _ l (l .down) refl
 
   -- E8 adds locks and takes none
   more-read : (p v a : ℕ) → readLocked p a ≡ true → readLocked (bitOr p v) a ≡ true
@@ -111,13 +74,13 @@ module _ (p₀ : ℕ) where
   unfolding writeLocked
   more-write p v a e = bit-or (blockAt (blockOf a) .write) p v ∙ ap (λ (x : Bool). x || bit (blockAt (blockOf a) .write) v) e
 
-  settled-locked : (w : Work) (r : Rest) → Locked p₀ r → Locked p₀ (rested (settled w r))
-  settled-locked Nothing r l = same-locks r _ l (l .down) refl
-  settled-locked (EraseSector n) r l = same-locks r _ l (l .down) refl
-  settled-locked (EraseBlock n) r l = same-locks r _ l (l .down) refl
-  settled-locked EraseArray r l = same-locks r _ l (l .down) refl
-  settled-locked (ProgramPage n) r l = same-locks r _ l (l .down) refl
-  settled-locked (ProgramSecurity n) r l = same-locks r _ l (l .down) refl
+  settled-locked : (w : Work) (r : Rest) → Locked p₀ r → Locked p₀ (settled w r)
+  settled-locked Nothing r l = l
+  settled-locked (EraseSector n) r l = l
+  settled-locked (EraseBlock n) r l = l
+  settled-locked EraseArray r l = l
+  settled-locked (ProgramPage n) r l = l
+  settled-locked (ProgramSecurity n) r l = l
   settled-locked LockSecurity r l = same-locks r _ l (l .down) refl
   settled-locked (WriteConfiguration i w) r l = same-locks r _ l (l .down) refl
   settled-locked (AddPermanent v) r l =
@@ -126,12 +89,61 @@ module _ (p₀ : ℕ) where
         held = λ a k. let h = l .held a k in (more-read (r .locks .protection) (bitAnd v writeLocks) a (h .0), more-write (r .locks .protection) (bitAnd v writeLocks) a (h .1));
       }
 
+  stopped-locked : (k : ℕ) (r : Rest) → Locked p₀ r → Locked p₀ (settledFirst k r)
+  stopped-locked k r l = go (ltb 0 k)
+    where
+      go : (b : Bool) → Locked p₀ (pick b (settled (r .works .running) r) r)
+      go true = settled-locked (r .works .running) r l
+      go false = l
+
+  -- a done frame: a reset lets 85, 01 and E8 act first
+  module _ (r : Rest) (sent : List ℕ) (n : ℕ) (l : Locked p₀ r) where
+    abbrev Holds : Kind → Type 0
+    Holds k = Locked p₀ (act k sent n (withEnable false r))
+
+    kept-locks : (q : Rest) → q .flags .wpld ≡ r .flags .wpld → q .locks .protection ≡ r .locks .protection → Locked p₀ q
+    kept-locks q d e = same-locks r q l (d ∙ l .down) e
+
+    kind-locked : (k : Kind) → Each (λ o. Accepted r o sent → Holds k) (opcodesOf k)
+    kind-locked (Kind.Show s) = at-each (λ o a. kept-locks _ refl refl) (opcodesOf (Kind.Show s))
+    kind-locked (Kind.Begin b) = at-each (λ o a. kept-locks _ refl refl) (opcodesOf (Kind.Begin b))
+    kind-locked (Kind.Do Short.Nothing) = (λ a. kept-locks _ refl refl) next end
+    kind-locked (Kind.Do Short.EnableReset) = (λ a. kept-locks _ refl refl) next end
+    kind-locked (Kind.Do Short.Reset) =
+        (λ a. let q = stopped-locked n (withEnable false r) (kept-locks _ refl refl) in same-locks (settledFirst n (withEnable false r)) _ q (q .down) refl) next end
+    kind-locked (Kind.Do Short.ToSqi) = (λ a. kept-locks _ refl refl) next end
+    kind-locked (Kind.Do Short.ToSpi) = (λ a. kept-locks _ refl refl) next end
+    kind-locked (Kind.Do Short.SetWel) = (λ a. kept-locks _ refl refl) next end
+    kind-locked (Kind.Do Short.ClearWel) = (λ a. kept-locks _ refl refl) next end
+    kind-locked (Kind.Do Short.WriteProtection) = (λ a. absurd (refused (r .flags .wpld) (l .down) (a .opened))) next end
+    kind-locked (Kind.Do Short.LockDown) = (λ a. same-locks r _ l refl refl) next end
+    kind-locked (Kind.Do Short.ClearLocks) = (λ a. absurd (refused (r .flags .wpld) (l .down) (a .opened))) next end
+    kind-locked (Kind.Do Short.Suspend) = (λ a. kept-locks _ refl refl) next end
+    kind-locked (Kind.Do Short.Resume) = (λ a. kept-locks _ refl refl) next end
+    kind-locked (Kind.Do Short.SetBurst) = (λ a. kept-locks _ refl refl) next end
+
+    done-locked : Accepted r (opcode sent) sent → Holds (formOf (opcode sent) .kind)
+    done-locked a =
+        let k = formOf (opcode sent) .kind in
+        at-one (λ o. Accepted r o sent → Holds k) (opcodesOf k) (opcode sent) (by-kind (r .flags .sqi) (opcode sent) (a .is-listed)) (kind-locked k) a
+
+  frame-locked : (n : ℕ) (c : Chip) (f : Frame) → Locked p₀ (c .rest) → (n ≡ 0 → Accepted (c .rest) (opcode (f .sent)) (f .sent)) → Locked p₀ (frameChip n c f .rest)
+  unfolding frameChip
+  frame-locked n c f l a = go (eqb n 0) refl (oneOf n (1 ∷ 2 ∷ []))
+    where
+      go : (x : Bool) → eqb n 0 ≡ x → (y : Bool)
+          → Locked p₀
+          (pick x (chipOf (bufferAfter (formOf (opcode (f .sent)) .kind) (f .sent) (c .buffer)) (act (formOf (opcode (f .sent)) .kind) (f .sent) (f .circumstances .tear .k) (withEnable false (c .rest)))) (pick y c (chipOf (c .buffer) (withEnable false (c .rest)))) .rest)
+      go true e y = done-locked (c .rest) (f .sent) (f .circumstances .tear .k) l (a (eqb-true n 0 e))
+      go false e true = l
+      go false e false = same-locks (c .rest) _ l (l .down) refl
+
   completed-locked : (n : ℕ) (c : Chip) → Locked p₀ (c .rest) → Locked p₀ (completedChip n c .rest)
   unfolding completedChip
   completed-locked n c l = go (eqb n 0)
     where
       go : (b : Bool) → Locked p₀ (pick b (chipOf (bufferRested (c .rest .works .suspended) (c .buffer)) (rested (settled (c .rest .works .running) (c .rest)))) c .rest)
-      go true = settled-locked (c .rest .works .running) (c .rest) l
+      go true = let q = settled-locked (c .rest .works .running) (c .rest) l in same-locks (settled (c .rest .works .running) (c .rest)) _ q (q .down) refl
       go false = l
 
   -- ---- what is seen of a frame
@@ -180,50 +192,51 @@ module _ (p₀ : ℕ) where
     unfolding frameMarks
     frameMarks-same n f = ap (λ (h : ℕ → ℕ). pick (eqb n 1) (f .marks) (written (f .marks .size) h)) (fun-ext (λ i. ap (λ (x : Cell). x .mark) (frameCell-same n (f .sent) i)))
 
-  -- ---- what a completion does to the array
+  -- ---- what work that is finished, as far as t says, does to the memories
 
-  worked-alike : (n : ℕ) (s : State) (g : ℕ → ℕ) (a : ℕ) → s .array .byte a ≡ g a → workedArray n arraySize s .byte a ≡ workedArray n arraySize (with-bytes s g) .byte a
-  unfolding workedArray finish with-bytes
-  worked-alike n s g a e = go (eqb n 0)
-    where
-      w : Work
-      w = s .chip .rest .works .running
+  module _ (x : Bool) (t : Tear) (s : State) where
+    worked-alike : (g : ℕ → ℕ) (a : ℕ) → s .array .byte a ≡ g a → workedArray x t s .byte a ≡ workedArray x t (with-bytes s g) .byte a
+    unfolding workedArray finish with-bytes
+    worked-alike g a e = go x
+      where
+        w : Work
+        w = s .chip .rest .works .running
 
-      go : (x : Bool)
-          → pick x (finish w (arrayRange w) (s .chip .buffer) arraySize (s .array)) (s .array) .byte a
-          ≡ pick x (finish w (arrayRange w) (s .chip .buffer) arraySize (record { size = s .array .size; byte = g })) (record { size = s .array .size; byte = g }) .byte a
-      go true = ap (λ (x : ℕ). pick (holds (arrayRange w) a && ltb (a - arrayRange w .start) arraySize) (finished w (s .chip .buffer) (a - arrayRange w .start) x) x) e
-      go false = e
+        go : (x : Bool)
+            → pick x (finish w (arrayRange w) (s .chip .buffer) t (s .array)) (s .array) .byte a
+            ≡ pick x (finish w (arrayRange w) (s .chip .buffer) t (record { size = s .array .size; byte = g })) (record { size = s .array .size; byte = g }) .byte a
+        go true = ap (λ (y : ℕ). pick (holds (arrayRange w) a) (stopped w (s .chip .buffer) t (a - arrayRange w .start) y) y) e
+        go false = e
 
-  worked-size : (n : ℕ) (s : State) → workedArray n arraySize s .size ≡ s .array .size
-  unfolding workedArray finish
-  worked-size n s = go (eqb n 0)
-    where
-      go : (x : Bool) → pick x (finish (s .chip .rest .works .running) (arrayRange (s .chip .rest .works .running)) (s .chip .buffer) arraySize (s .array)) (s .array) .size ≡ s .array .size
-      go true = refl
-      go false = refl
+    worked-size : workedArray x t s .size ≡ s .array .size
+    unfolding workedArray finish
+    worked-size = go x
+      where
+        go : (x : Bool) → pick x (finish (s .chip .rest .works .running) (arrayRange (s .chip .rest .works .running)) (s .chip .buffer) t (s .array)) (s .array) .size ≡ s .array .size
+        go true = refl
+        go false = refl
 
-  worked-security : (n : ℕ) (s : State) (g : ℕ → ℕ) → workedSecurity n arraySize s ≡ workedSecurity n arraySize (with-bytes s g)
-  unfolding workedSecurity with-bytes
-  worked-security n s g = refl
+    worked-security : (g : ℕ → ℕ) → workedSecurity x t s ≡ workedSecurity x t (with-bytes s g)
+    unfolding workedSecurity with-bytes
+    worked-security g = refl
 
-  -- a key byte lies in no range that runs
-  worked-key : (n : ℕ) (s : State) (a : ℕ) → Locked p₀ (s .chip .rest) → (n ≡ 0 → stateRight s ≡ true) → a < arraySize → keyPlace p₀ a ≡ true → workedArray n arraySize s .byte a ≡ s .array .byte a
-  unfolding workedArray
-  worked-key n s a l r below k = go (eqb n 0) refl
-    where
-      w : Work
-      w = s .chip .rest .works .running
+    -- a key byte lies in no range that runs
+    worked-key : (a : ℕ) → Locked p₀ (s .chip .rest) → (x ≡ true → stateRight s ≡ true) → a < arraySize → keyPlace p₀ a ≡ true → workedArray x t s .byte a ≡ s .array .byte a
+    unfolding workedArray
+    worked-key a l r below k = go x refl
+      where
+        w : Work
+        w = s .chip .rest .works .running
 
-      formed : stateRight s ≡ true → wellFormed (s .chip) ≡ true
-      formed e = and-split (wellFormed (s .chip)) _ (and-split _ _ e .0) .0
+        formed : stateRight s ≡ true → wellFormed (s .chip) ≡ true
+        formed e = and-split (wellFormed (s .chip)) _ (and-split _ _ e .0) .0
 
-      go : (x : Bool) → eqb n 0 ≡ x → pick x (finish w (arrayRange w) (s .chip .buffer) arraySize (s .array)) (s .array) .byte a ≡ s .array .byte a
-      go true e =
-          finish-outside w (arrayRange w) (s .chip .buffer) arraySize (s .array) a
-          (never (holds (arrayRange w) a)
-          (λ h. true≢false (sym (l .held a k .1) ∙ unlocked-place (s .chip .rest .locks .protection) (arrayRange w) a (well-of (s .chip) (formed (r (eqb-true n 0 e))) .works .running-open) below h)))
-      go false e = refl
+        go : (y : Bool) → x ≡ y → pick y (finish w (arrayRange w) (s .chip .buffer) t (s .array)) (s .array) .byte a ≡ s .array .byte a
+        go true e =
+            finish-outside w (arrayRange w) (s .chip .buffer) t (s .array) a
+            (never (holds (arrayRange w) a)
+            (λ h. true≢false (sym (l .held a k .1) ∙ unlocked-place (s .chip .rest .locks .protection) (arrayRange w) a (well-of (s .chip) (formed (r e)) .works .running-open) below h)))
+        go false e = refl
 
   -- ---- two states on the way
 
@@ -252,50 +265,54 @@ module _ (p₀ : ℕ) where
     marks : o .marks ≡ q .marks
     twins : Twins s₀ t₀ (record { chip = o .chip; array = o .array; security = o .security }) (record { chip = q .chip; array = q .array; security = q .security })
 
+  -- the two after an event that leaves this record
+  module _ (s₀ t₀ s t : State) (w : Twins s₀ t₀ s t) (x : Bool) (r : Tear) (right : x ≡ true → stateRight s ≡ true) (c : Chip) where
+    abbrev leaves : State → State
+    leaves u = record { chip = c; array = workedArray x r u; security = workedSecurity x r u }
+
+    worked-twins : Locked p₀ (c .rest) → Twins s₀ t₀ (leaves s) (leaves (with-bytes s (t .array .byte)))
+    unfolding with-bytes
+    worked-twins l =
+        let u = with-bytes s (t .array .byte) in
+        record {
+          chip = refl;
+          security = worked-security x r s (t .array .byte);
+          size = worked-size x r s ∙ sym (worked-size x r u);
+          locked = l;
+          alike = λ a below k. worked-alike x r s (t .array .byte) a (w .alike a below k);
+          first-keys = λ a below k. worked-key x r s a (w .locked) right below k ∙ w .first-keys a below k;
+          second-keys = λ a below k. worked-key x r u a (w .locked) right below k ∙ w .second-keys a below k;
+        }
+
   frame-after : (s₀ t₀ s t : State) (f : Frame) → Twins s₀ t₀ s t → Follows s₀ t₀ (frame s f) (frame (with-bytes s (t .array .byte)) f)
   unfolding frame with-bytes frameTests
   frame-after s₀ t₀ s t f w =
+      let n = first (frameTests s f) in
+      let right : stops n (f .sent) ≡ true → stateRight s ≡ true = λ h. accepted-right s f (eqb-true n 0 (and-split (eqb n 0) _ h .0)) .0 in
       record {
         number = refl;
-        reply = frameReply-same s (t .array .byte) (w .locked) (w .alike) (first (frameTests s f)) f;
-        marks = frameMarks-same s (t .array .byte) (w .locked) (w .alike) (first (frameTests s f)) f;
-        twins = record {
-          chip = refl;
-          security = refl;
-          size = refl;
-          locked = frame-locked (first (frameTests s f)) (s .chip) (f .sent) (w .locked) (λ e. accepted s f e);
-          alike = w .alike;
-          first-keys = w .first-keys;
-          second-keys = w .second-keys;
-        };
+        reply = frameReply-same s (t .array .byte) (w .locked) (w .alike) n f;
+        marks = frameMarks-same s (t .array .byte) (w .locked) (w .alike) n f;
+        twins = worked-twins s₀ t₀ s t w (stops n (f .sent)) (f .circumstances .tear) right (frameChip n (s .chip) f) (frame-locked n (s .chip) f (w .locked) (λ e. accepted s f e));
       }
 
   completion-after : (s₀ t₀ s t : State) → Twins s₀ t₀ s t → Follows s₀ t₀ (completion s) (completion (with-bytes s (t .array .byte)))
   unfolding completion with-bytes completionTests
   completion-after s₀ t₀ s t w =
       let n = first (completionTests s) in
-      let right : n ≡ 0 → stateRight s ≡ true = λ z. completion-given s .is-0 .0 z .0 in
-      let u = with-bytes s (t .array .byte) in
+      let right : eqb n 0 ≡ true → stateRight s ≡ true = λ h. completion-given s .is-0 .0 (eqb-true n 0 h) .0 in
       record {
         number = refl;
         reply = refl;
         marks = refl;
-        twins = record {
-          chip = refl;
-          security = worked-security n s (t .array .byte);
-          size = worked-size n s ∙ sym (worked-size n u);
-          locked = completed-locked n (s .chip) (w .locked);
-          alike = λ a below k. worked-alike n s (t .array .byte) a (w .alike a below k);
-          first-keys = λ a below k. worked-key n s a (w .locked) right below k ∙ w .first-keys a below k;
-          second-keys = λ a below k. worked-key n u a (w .locked) right below k ∙ w .second-keys a below k;
-        };
+        twins = worked-twins s₀ t₀ s t w (eqb n 0) all right (completedChip n (s .chip)) (completed-locked n (s .chip) (w .locked));
       }
 
   step-after : (s₀ t₀ s t : State) (e : Event) → Uncut (e ∷ []) → Twins s₀ t₀ s t → Follows s₀ t₀ (step s e) (step t e)
   unfolding step
   step-after s₀ t₀ s t (sends f) n w = subst (λ (t : State). Follows s₀ t₀ (frame s f) (frame t f)) (other-bytes s₀ t₀ s t w) (frame-after s₀ t₀ s t f w)
   step-after s₀ t₀ s t completes n w = subst (λ (t : State). Follows s₀ t₀ (completion s) (completion t)) (other-bytes s₀ t₀ s t w) (completion-after s₀ t₀ s t w)
-  step-after s₀ t₀ s t (cuts k) n w = absurd n
+  step-after s₀ t₀ s t (cuts r) n w = absurd n
 
   kept : (s₀ t₀ : State) (o q : Outcome) → s₀ .chip .rest .locks .protection ≡ p₀ → Follows s₀ t₀ o q → Kept keyPlace s₀ t₀ o q
   kept s₀ t₀ o q e w =
@@ -321,7 +338,7 @@ module _ (p₀ : ℕ) where
   kept-run s₀ t₀ s t (completes ∷ es) p u w =
       let h = step-after s₀ t₀ s t completes tt w in
       (kept s₀ t₀ _ _ p h, kept-run s₀ t₀ _ _ es p u (h .twins))
-  kept-run s₀ t₀ s t (cuts k ∷ es) p u w = absurd u
+  kept-run s₀ t₀ s t (cuts r ∷ es) p u w = absurd u
 
 -- ---- the demand
 

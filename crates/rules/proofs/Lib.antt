@@ -22,6 +22,8 @@ pub mod Quick
 pub mod Cases
 pub mod Sentences
 pub mod Parts
+pub mod TornBytes
+pub mod Tears
 pub mod Opcodes
 pub mod Records
 pub mod KeyCases

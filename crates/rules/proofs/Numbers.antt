@@ -10,6 +10,7 @@ use lib.Dec.{eqb, ltb, leb}
 use lib.ListN.{length}
 use borrow.Author.Tests.{eqb-true, eqb-false, eq-eqb, ltb-true, leb-true, le-leb, not-true, not-false}
 use Rattle.rules.specs.declared.Rest.{Rest}
+use Rattle.rules.specs.declared.Tear.{Tear}
 use Rattle.rules.specs.Words.{pick, oneOf, every}
 use Rattle.rules.specs.Blocks.{arraySize, securitySize}
 use Rattle.rules.specs.WellFormed.{wellFormed}
@@ -195,9 +196,9 @@ completion-given s =
       no-other = first-among (1 ∷ 12 ∷ []) (completionTests s) refl;
     }
 
-pub cut-given : (s : State) (k : ℕ) → CutGiven s k
+pub cut-given : (s : State) (t : Tear) → CutGiven s t
 unfolding powerCut cutTests
-cut-given s k =
+cut-given s t =
     let none = first-none (cutTests s) refl in
     let one = first-exactly (cutTests s) refl 1 (λ z. omega arith) in
     record {

@@ -9,28 +9,28 @@ use borrow.Author.Tests.{eqb-true}
 use Rattle.rules.specs.declared.Cell.{Cell}
 use Rattle.rules.specs.declared.Chip.{Chip}
 use Rattle.rules.specs.declared.Kind.{Kind}
-use Rattle.rules.specs.declared.Long.{Long}
 use Rattle.rules.specs.declared.Rest.{Rest}
 use Rattle.rules.specs.declared.Short.{Short}
 use Rattle.rules.specs.declared.Source.{Source}
+use Rattle.rules.specs.declared.Tear.{Tear}
 use Rattle.rules.specs.declared.Work.{Work}
 use Rattle.rules.specs.Words.{pick, oneOf, every, Lent, written, unlent, bit, end, _next_, holds}
-use Rattle.rules.specs.Blocks.{arraySize, wide, blocks, seek, blockOf, blockAt, writeLocked, readLocked}
-use Rattle.rules.specs.Works.{finish}
+use Rattle.rules.specs.Blocks.{wide, blocks, seek, blockOf, blockAt, writeLocked, readLocked}
+use Rattle.rules.specs.Works.{all, finish}
 use Rattle.rules.specs.Frames.{frames, find, formOf, opcode}
 use Rattle.rules.specs.Bursts.{burstPlace}
 use Rattle.rules.specs.Reading.{silent, reply, placeCell, shown}
 use Rattle.rules.specs.Programs.{blank, fill, pageBuffer, securityBuffer, reaches, reachesFirst}
 use Rattle.rules.specs.Fields.{chipOf, withEnable, withIoc, withBa}
-use Rattle.rules.specs.Commands.{powerUpIoc, act, bufferAfter, settled, rested, bufferRested, afterCut}
+use Rattle.rules.specs.Commands.{powerUpIoc, afterReset, act, bufferAfter, settled, settledFirst, rested, bufferRested, afterCut}
 use Rattle.rules.specs.WellFormed.{wellFormed}
 use Rattle.rules.specs.Numbers.{State, Frame, first, commandTests, frameTests, completionTests, cutTests}
-use Rattle.rules.specs.Machine.{Outcome, frameChip, frameCell, frameReply, frameMarks, frame, workedArray, workedSecurity, completedChip, completion, cutChip, powerCut, Event, sends, completes, cuts, step, left, run}
+use Rattle.rules.specs.Machine.{Outcome, workedArray, workedSecurity, frameChip, stops, frameCell, frameReply, frameMarks, frame, completedChip, completion, cutChip, powerCut, Event, sends, completes, cuts, step, left, run}
 use Rattle.rules.specs.Promises.{stateOf}
 use Rattle.rules.specs.Demands.{eventsOf}
 use Rattle.rules.specs.Parts.{ofPart, powersUp, outcomeOfPart, PartTells, IocPowersUp, PartStays, AllOfPart, PartKept, PartKeptOfCode, parts, PartsHold}
-use Rattle.rules.proofs.Bools.{same-flag, every-of}
-use Rattle.rules.proofs.Rows.{opcodesOf, by-kind}
+use Rattle.rules.proofs.Bools.{same-flag}
+use Rattle.rules.proofs.Rows.{by-rows}
 use Rattle.rules.proofs.Numbers.{accepted}
 use Rattle.rules.proofs.Refusals.{framed, completed, cut}
 use Rattle.rules.proofs.Runs.{demand-2}
@@ -39,7 +39,7 @@ use Rattle.rules.proofs.Cases.{caseHolds, failingOf, failing, NoneFails
 
 -- ---- 99, and no other, is the reset
 
-isReset : Kind → Bool
+unfoldable pub isReset : Kind → Bool
 isReset (Kind.Show s) = false
 isReset (Kind.Begin l) = false
 isReset (Kind.Do Short.Nothing) = false
@@ -56,64 +56,55 @@ isReset (Kind.Do Short.Suspend) = false
 isReset (Kind.Do Short.Resume) = false
 isReset (Kind.Do Short.SetBurst) = false
 
-each-kind : (k : Kind) → every (λ o. Bool·beq (eqb o 0x99) (isReset k)) (opcodesOf k) ≡ true
-unfolding isReset
-each-kind (Kind.Show Source.Status) = refl
-each-kind (Kind.Show Source.Configuration) = refl
-each-kind (Kind.Show Source.Protection) = refl
-each-kind (Kind.Show Source.Identity) = refl
-each-kind (Kind.Show Source.Array) = refl
-each-kind (Kind.Show Source.ArrayBurst) = refl
-each-kind (Kind.Show Source.Security) = refl
-each-kind (Kind.Begin Long.Sector) = refl
-each-kind (Kind.Begin Long.Block) = refl
-each-kind (Kind.Begin Long.Array) = refl
-each-kind (Kind.Begin Long.Page) = refl
-each-kind (Kind.Begin Long.SecurityPage) = refl
-each-kind (Kind.Begin Long.SecurityLock) = refl
-each-kind (Kind.Begin Long.Configuration) = refl
-each-kind (Kind.Begin Long.Permanent) = refl
-each-kind (Kind.Do Short.Nothing) = refl
-each-kind (Kind.Do Short.EnableReset) = refl
-each-kind (Kind.Do Short.Reset) = refl
-each-kind (Kind.Do Short.ToSqi) = refl
-each-kind (Kind.Do Short.ToSpi) = refl
-each-kind (Kind.Do Short.SetWel) = refl
-each-kind (Kind.Do Short.ClearWel) = refl
-each-kind (Kind.Do Short.WriteProtection) = refl
-each-kind (Kind.Do Short.LockDown) = refl
-each-kind (Kind.Do Short.ClearLocks) = refl
-each-kind (Kind.Do Short.Suspend) = refl
-each-kind (Kind.Do Short.Resume) = refl
-each-kind (Kind.Do Short.SetBurst) = refl
+each-row : every (λ r. Bool·beq (eqb (r .opcode) 0x99) (isReset (r .form .kind))) frames ≡ true
+unfolding frames isReset
+each-row = refl
 
-is-99 : (s : State) (f : Frame) → frame s f .number ≡ 0 → eqb (opcode (f .sent)) 0x99 ≡ isReset (formOf (opcode (f .sent)) .kind)
+pub is-99 : (s : State) (f : Frame) → frame s f .number ≡ 0 → eqb (opcode (f .sent)) 0x99 ≡ isReset (formOf (opcode (f .sent)) .kind)
 is-99 s f e =
-    let k = formOf (opcode (f .sent)) .kind in
-    let l = by-kind (s .chip .rest .flags .sqi) (opcode (f .sent)) (accepted s f e .is-listed) in
-    same-flag (eqb (opcode (f .sent)) 0x99) (isReset k) (every-of (λ o. Bool·beq (eqb o 0x99) (isReset k)) (opcodesOf k) (each-kind k) (opcode (f .sent)) l)
+    same-flag (eqb (opcode (f .sent)) 0x99) (isReset (formOf (opcode (f .sent)) .kind))
+    (by-rows (λ o f. Bool·beq (eqb o 0x99) (isReset (f .kind))) each-row (s .chip .rest .flags .sqi) (opcode (f .sent)) (accepted s f e .is-listed))
 
 -- ---- an event of either part
 
 module _ (p : Bool) where
+  -- what work sets
+  settles : (w : Work) (r : Rest) → settled w (withBa p r) ≡ withBa p (settled w r)
+  settles Work.Nothing r = refl
+  settles (Work.EraseSector n) r = refl
+  settles (Work.EraseBlock n) r = refl
+  settles Work.EraseArray r = refl
+  settles (Work.ProgramPage n) r = refl
+  settles (Work.ProgramSecurity n) r = refl
+  settles Work.LockSecurity r = refl
+  settles (Work.WriteConfiguration i w) r = refl
+  settles (Work.AddPermanent v) r = refl
+
+  stopped-same : (k : ℕ) (r : Rest) → settledFirst k (withBa p r) ≡ withBa p (settledFirst k r)
+  stopped-same k r = go (ltb 0 k)
+    where
+      go : (b : Bool) → pick b (settled (r .works .running) (withBa p r)) (withBa p r) ≡ withBa p (pick b (settled (r .works .running) r) r)
+      go true = settles (r .works .running) r
+      go false = refl
+
   -- the record after a command
-  acts : (k : Kind) (sent : List ℕ) (r : Rest) → act k sent (withBa p r) ≡ withBa p (withIoc (pick (isReset k) (powerUpIoc p) (act k sent r .flags .ioc)) (act k sent r))
+  acts : (k : Kind) (sent : List ℕ) (n : ℕ) (r : Rest) → act k sent n (withBa p r) ≡ withBa p (withIoc (pick (isReset k) (powerUpIoc p) (act k sent n r .flags .ioc)) (act k sent n r))
   unfolding isReset
-  acts (Kind.Show s) sent r = refl
-  acts (Kind.Begin l) sent r = refl
-  acts (Kind.Do Short.Nothing) sent r = refl
-  acts (Kind.Do Short.EnableReset) sent r = refl
-  acts (Kind.Do Short.Reset) sent r = refl
-  acts (Kind.Do Short.ToSqi) sent r = refl
-  acts (Kind.Do Short.ToSpi) sent r = refl
-  acts (Kind.Do Short.SetWel) sent r = refl
-  acts (Kind.Do Short.ClearWel) sent r = refl
-  acts (Kind.Do Short.WriteProtection) sent r = refl
-  acts (Kind.Do Short.LockDown) sent r = refl
-  acts (Kind.Do Short.ClearLocks) sent r = refl
-  acts (Kind.Do Short.Suspend) sent r = refl
-  acts (Kind.Do Short.Resume) sent r = refl
-  acts (Kind.Do Short.SetBurst) sent r = refl
+  acts (Kind.Show s) sent n r = refl
+  acts (Kind.Begin l) sent n r = refl
+  acts (Kind.Do Short.Nothing) sent n r = refl
+  acts (Kind.Do Short.EnableReset) sent n r = refl
+  acts (Kind.Do Short.Reset) sent n r = ap afterReset (stopped-same n r)
+  acts (Kind.Do Short.ToSqi) sent n r = refl
+  acts (Kind.Do Short.ToSpi) sent n r = refl
+  acts (Kind.Do Short.SetWel) sent n r = refl
+  acts (Kind.Do Short.ClearWel) sent n r = refl
+  acts (Kind.Do Short.WriteProtection) sent n r = refl
+  acts (Kind.Do Short.LockDown) sent n r = refl
+  acts (Kind.Do Short.ClearLocks) sent n r = refl
+  acts (Kind.Do Short.Suspend) sent n r = refl
+  acts (Kind.Do Short.Resume) sent n r = refl
+  acts (Kind.Do Short.SetBurst) sent n r = refl
 
   -- a reply
   replies-same : (k : Kind) (r : Rest) (array security : Lent) (sent : List ℕ) (i : ℕ) → reply k (withBa p r) array security sent i ≡ reply k r array security sent i
@@ -128,22 +119,10 @@ module _ (p : Bool) where
   replies-same (Kind.Begin l) r array security sent i = refl
   replies-same (Kind.Do s) r array security sent i = refl
 
-  -- what work sets
-  settles : (w : Work) (r : Rest) → settled w (withBa p r) ≡ withBa p (settled w r)
-  settles Work.Nothing r = refl
-  settles (Work.EraseSector n) r = refl
-  settles (Work.EraseBlock n) r = refl
-  settles Work.EraseArray r = refl
-  settles (Work.ProgramPage n) r = refl
-  settles (Work.ProgramSecurity n) r = refl
-  settles Work.LockSecurity r = refl
-  settles (Work.WriteConfiguration i w) r = refl
-  settles (Work.AddPermanent v) r = refl
-
   -- a frame, by the number that it gets
   frame-chip : (n : ℕ) (s : State) (f : Frame) → (n ≡ 0 → eqb (opcode (f .sent)) 0x99 ≡ isReset (formOf (opcode (f .sent)) .kind))
-      → frameChip n (ofPart p s .chip) (f .sent)
-      ≡ (let c = frameChip n (s .chip) (f .sent) in
+      → frameChip n (ofPart p s .chip) f
+      ≡ (let c = frameChip n (s .chip) f in
       chipOf (c .buffer) (withBa p (withIoc (pick (eqb n 0 && eqb (opcode (f .sent)) 0x99) (powerUpIoc p) (c .rest .flags .ioc)) (c .rest))))
   unfolding frameChip
   frame-chip n s f h = go (eqb n 0) (oneOf n (1 ∷ 2 ∷ [])) (λ e. h (eqb-true n 0 e))
@@ -154,13 +133,16 @@ module _ (p : Bool) where
       r : Rest
       r = withEnable false (s .chip .rest)
 
+      m : ℕ
+      m = f .circumstances .tear .k
+
       after : Bool → Bool → Chip
-      after x y = pick x (chipOf (bufferAfter k (f .sent) (s .chip .buffer)) (act k (f .sent) r)) (pick y (s .chip) (chipOf (s .chip .buffer) r))
+      after x y = pick x (chipOf (bufferAfter k (f .sent) (s .chip .buffer)) (act k (f .sent) m r)) (pick y (s .chip) (chipOf (s .chip .buffer) r))
 
       go : (x y : Bool) → (x ≡ true → eqb (opcode (f .sent)) 0x99 ≡ isReset k)
-          → pick x (chipOf (bufferAfter k (f .sent) (s .chip .buffer)) (act k (f .sent) (withBa p r))) (pick y (chipOf (s .chip .buffer) (withBa p (s .chip .rest))) (chipOf (s .chip .buffer) (withBa p r)))
+          → pick x (chipOf (bufferAfter k (f .sent) (s .chip .buffer)) (act k (f .sent) m (withBa p r))) (pick y (chipOf (s .chip .buffer) (withBa p (s .chip .rest))) (chipOf (s .chip .buffer) (withBa p r)))
           ≡ chipOf (after x y .buffer) (withBa p (withIoc (pick (x && eqb (opcode (f .sent)) 0x99) (powerUpIoc p) (after x y .rest .flags .ioc)) (after x y .rest)))
-      go true y e = rw (e refl) (ap (chipOf (bufferAfter k (f .sent) (s .chip .buffer))) (acts k (f .sent) r))
+      go true y e = rw (e refl) (ap (chipOf (bufferAfter k (f .sent) (s .chip .buffer))) (acts k (f .sent) m r))
       go false true e = refl
       go false false e = refl
 
@@ -169,15 +151,15 @@ module _ (p : Bool) where
   frame-cell n s sent i = ap (λ (c : Cell). pick (eqb n 0) c silent) (replies-same (formOf (opcode sent) .kind) (s .chip .rest) (s .array) (s .security) sent i)
 
   frame-of : (s : State) (f : Frame) → frame (ofPart p s) f ≡ outcomeOfPart p (powersUp s (sends f)) (frame s f)
-  unfolding step frame frameTests commandTests wellFormed frameReply frameMarks
+  unfolding step frame frameTests commandTests wellFormed workedArray workedSecurity frameReply frameMarks
   frame-of s f =
       let n = first (frameTests s f) in
       λ j.
       record {
         number = n;
         chip = frame-chip n s f (is-99 s f) j;
-        array = s .array;
-        security = s .security;
+        array = workedArray (stops n (f .sent)) (f .circumstances .tear) s;
+        security = workedSecurity (stops n (f .sent)) (f .circumstances .tear) s;
         reply = pick (eqb n 1) (f .reply) (written (f .reply .size) (λ i. frame-cell n s (f .sent) i j .byte));
         marks = pick (eqb n 1) (f .marks) (written (f .marks .size) (λ i. frame-cell n s (f .sent) i j .mark));
       }
@@ -208,8 +190,8 @@ module _ (p : Bool) where
       record {
         number = n;
         chip = completed-chip n (s .chip) j;
-        array = workedArray n arraySize s;
-        security = workedSecurity n arraySize s;
+        array = workedArray (eqb n 0) all s;
+        security = workedSecurity (eqb n 0) all s;
         reply = unlent;
         marks = unlent;
       }
@@ -219,30 +201,26 @@ module _ (p : Bool) where
       → cutChip n k (chipOf (c .buffer) (withBa p (c .rest)))
       ≡ (let d = cutChip n k c in chipOf (d .buffer) (withBa p (withIoc (pick (eqb n 0) (powerUpIoc p) (d .rest .flags .ioc)) (d .rest))))
   unfolding cutChip
-  cut-chip n k c = go (eqb n 0) (ltb 0 k)
+  cut-chip n k c = go (eqb n 0)
     where
-      w : Work
-      w = c .rest .works .running
+      after : Bool → Chip
+      after x = pick x (chipOf blank (afterCut (settledFirst k (c .rest)))) c
 
-      after : Bool → Bool → Chip
-      after x y = pick x (chipOf blank (afterCut (pick y (settled w (c .rest)) (c .rest)))) c
+      go : (x : Bool) → pick x (chipOf blank (afterCut (settledFirst k (withBa p (c .rest))))) (chipOf (c .buffer) (withBa p (c .rest)))
+          ≡ chipOf (after x .buffer) (withBa p (withIoc (pick x (powerUpIoc p) (after x .rest .flags .ioc)) (after x .rest)))
+      go true = ap (λ (r : Rest). chipOf blank (afterCut r)) (stopped-same k (c .rest))
+      go false = refl
 
-      go : (x y : Bool) → pick x (chipOf blank (afterCut (pick y (settled w (withBa p (c .rest))) (withBa p (c .rest))))) (chipOf (c .buffer) (withBa p (c .rest)))
-          ≡ chipOf (after x y .buffer) (withBa p (withIoc (pick x (powerUpIoc p) (after x y .rest .flags .ioc)) (after x y .rest)))
-      go true true = ap (λ (r : Rest). chipOf blank (afterCut r)) (settles w (c .rest))
-      go true false = refl
-      go false y = refl
-
-  cut-of : (s : State) (k : ℕ) → powerCut (ofPart p s) k ≡ outcomeOfPart p (powersUp s (cuts k)) (powerCut s k)
+  cut-of : (s : State) (t : Tear) → powerCut (ofPart p s) t ≡ outcomeOfPart p (powersUp s (cuts t)) (powerCut s t)
   unfolding step powerCut cutTests wellFormed workedArray workedSecurity
-  cut-of s k =
+  cut-of s t =
       let n = first (cutTests s) in
       λ j.
       record {
         number = n;
-        chip = cut-chip n k (s .chip) j;
-        array = workedArray n k s;
-        security = workedSecurity n k s;
+        chip = cut-chip n (t .k) (s .chip) j;
+        array = workedArray (eqb n 0) t s;
+        security = workedSecurity (eqb n 0) t s;
         reply = unlent;
         marks = unlent;
       }
@@ -253,7 +231,7 @@ pub part-tells : PartTells
 unfolding step
 part-tells p s (sends f) = frame-of p s f
 part-tells p s completes = completion-of p s
-part-tells p s (cuts k) = cut-of p s k
+part-tells p s (cuts t) = cut-of p s t
 
 -- of the part that it is, nothing is changed
 own-part : (s : State) (e : Event) → step s e ≡ outcomeOfPart (s .chip .rest .flags .ba) (powersUp s e) (step s e)

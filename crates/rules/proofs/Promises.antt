@@ -11,6 +11,7 @@ use borrow.Author.Tests.{eqb-true, ltb-true, ltb-false}
 use Rattle.rules.proofs.Bools.{every-of}
 use Rattle.rules.specs.declared.Answer.{Answer}
 use Rattle.rules.specs.declared.Refusal.{Refusal}
+use Rattle.rules.specs.declared.Tear.{Tear}
 use Rattle.rules.specs.Words.{pick, oneOf, every, Lent, lent, written}
 use Rattle.rules.specs.Numbers.{answerNumber}
 use Rattle.rules.specs.Machine.{Outcome}
@@ -93,8 +94,8 @@ frame-one b f g k p q = returned-one g k (p .outcome ∙ sym (q .outcome))
 pub completion-one : (b : Bench) (g k : Returned) → CompletionPromise b g → CompletionPromise b k → g ≡ k
 completion-one b g k p q = returned-one g k (p .outcome ∙ sym (q .outcome))
 
-pub cut-one : (b : Bench) (n : ℕ) (g k : Returned) → CutPromise b n g → CutPromise b n k → g ≡ k
-cut-one b n g k p q = returned-one g k (p .outcome ∙ sym (q .outcome))
+pub cut-one : (b : Bench) (t : Tear) (g k : Returned) → CutPromise b t g → CutPromise b t k → g ≡ k
+cut-one b t g k p q = returned-one g k (p .outcome ∙ sym (q .outcome))
 
 -- an equation leaves no second value
 pub one : {A : Type 0} {x y v : A} → x ≡ v → y ≡ v → x ≡ y

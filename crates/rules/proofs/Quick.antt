@@ -8,14 +8,15 @@ use lib.Dec.{eqb}
 use Rattle.rules.specs.declared.Burst.{Burst}
 use Rattle.rules.specs.declared.Chip.{Chip}
 use Rattle.rules.specs.declared.Flags.{Flags}
+use Rattle.rules.specs.declared.Tear.{Tear}
 use Rattle.rules.specs.declared.Work.{Work}
-use Rattle.rules.specs.Words.{pick, every, Lent}
+use Rattle.rules.specs.Words.{pick, every}
 use Rattle.rules.specs.Blocks.{arraySize, securitySize}
-use Rattle.rules.specs.Works.{finish}
+use Rattle.rules.specs.Works.{all, finish}
 use Rattle.rules.specs.Fields.{locksOf, worksOf, restOf, chipOf, flagsNumber, flagsIn}
 use Rattle.rules.specs.WellFormed.{wellFormed}
 use Rattle.rules.specs.Numbers.{State, stateRight, frameRight, emptyFrame, nothingRuns, test, first, commandTests, frameTests, completionTests, cutTests}
-use Rattle.rules.specs.Machine.{Outcome, frame, completion, powerCut, workedArray, workedSecurity, Event, sends, completes, cuts, step, left, run}
+use Rattle.rules.specs.Machine.{Outcome, workedArray, workedSecurity, stops, frame, completion, powerCut, Event, sends, completes, cuts, step, left, run}
 use Rattle.rules.specs.Cases.{newState, stateAfter, lastOf}
 use Rattle.rules.proofs.Bools.{and-split, and-both}
 use Rattle.rules.proofs.Fields.{flags-back}
@@ -99,12 +100,12 @@ readChip-is c k =
 unfoldable pub quick : {A : Type 0} → State → Event → (Outcome → A) → A
 quick s (sends f) k = readNumber (first (test 2 (emptyFrame (f .sent)) ∷ commandTests (s .chip .rest) (f .sent))) (λ n. k (framed s f n))
 quick s completes k = readNumber (first (test 12 (nothingRuns (s .chip .rest)) ∷ [])) (λ n. k (completed s n))
-quick s (cuts m) k = k (cut s m 0)
+quick s (cuts t) k = k (cut s t 0)
 
 abbrev pub fits : Event → Bool
 fits (sends f) = frameRight f
 fits completes = true
-fits (cuts k) = true
+fits (cuts t) = true
 
 pub quick-is : {A : Type 0} (s : State) (e : Event) (k : Outcome → A) → stateRight s ≡ true → fits e ≡ true → quick s e k ≡ k (step s e)
 unfolding quick step frame completion powerCut framed completed cut frameTests completionTests cutTests
@@ -114,20 +115,21 @@ quick-is s (sends f) k r h =
 quick-is s completes k r h =
     readNumber-is (first (test 12 (nothingRuns (s .chip .rest)) ∷ [])) _
     ∙ sym (ap (λ (b : Bool). k (completed s (first (test 1 (not b) ∷ test 12 (nothingRuns (s .chip .rest)) ∷ [])))) r)
-quick-is s (cuts m) k r h = sym (ap (λ (b : Bool). k (cut s m (first (test 1 (not b) ∷ [])))) r)
+quick-is s (cuts t) k r h = sym (ap (λ (b : Bool). k (cut s t (first (test 1 (not b) ∷ [])))) r)
 
 -- ---- an event keeps them right
 
 -- memory that is finished or stays as it is
-same-size : (b : Bool) (n : ℕ) (f g : ℕ → ℕ) → pick {A = Lent} b (record { size = n; byte = f }) (record { size = n; byte = g }) .size ≡ n
-same-size true n f g = refl
-same-size false n f g = refl
+worked-size : (b : Bool) (t : Tear) (s : State) → (workedArray b t s .size ≡ s .array .size) × (workedSecurity b t s .size ≡ s .security .size)
+unfolding workedArray workedSecurity finish
+worked-size true t s = (refl, refl)
+worked-size false t s = (refl, refl)
 
 sizes : (s : State) (e : Event) → (step s e .array .size ≡ s .array .size) × (step s e .security .size ≡ s .security .size)
-unfolding step frame completion powerCut workedArray workedSecurity finish
-sizes s (sends f) = (refl, refl)
-sizes s completes = let b = eqb (first (completionTests s)) 0 in (same-size b (s .array .size) _ _, same-size b (s .security .size) _ _)
-sizes s (cuts k) = let b = eqb (first (cutTests s)) 0 in (same-size b (s .array .size) _ _, same-size b (s .security .size) _ _)
+unfolding step frame completion powerCut
+sizes s (sends f) = worked-size (stops (first (frameTests s f)) (f .sent)) (f .circumstances .tear) s
+sizes s completes = worked-size (eqb (first (completionTests s)) 0) all s
+sizes s (cuts t) = worked-size (eqb (first (cutTests s)) 0) t s
 
 stays-right : (s : State) (e : Event) → stateRight s ≡ true → stateRight (left (step s e)) ≡ true
 stays-right s e r =

@@ -8,13 +8,14 @@ use lib.Dec.{eqb, ltb}
 use lib.ListN.{length, getD, List·getD-eq-default}
 use borrow.Author.Tests.{eqb-true, ltb-true, le-ltb}
 use Rattle.rules.specs.declared.Range.{Range}
+use Rattle.rules.specs.declared.Tear.{Tear}
 use Rattle.rules.specs.declared.Work.{Work}
 use Rattle.rules.specs.Words.{pick, oneOf, every, holds, Lent, lent, written}
 use Rattle.rules.specs.Blocks.{arraySize, securitySize}
-use Rattle.rules.specs.Works.{arrayRange, securityRange, finish}
+use Rattle.rules.specs.Works.{arrayRange, securityRange, all, finish}
 use Rattle.rules.specs.WellFormed.{numbersRight, wellFormed}
 use Rattle.rules.specs.Numbers.{answerNumber, State, stateRight, first, frameTests, completionTests, cutTests}
-use Rattle.rules.specs.Machine.{Outcome, frameReply, frameMarks, frame, workedArray, workedSecurity, completion, powerCut, step, run}
+use Rattle.rules.specs.Machine.{Outcome, workedArray, workedSecurity, stops, frameReply, frameMarks, frame, completion, powerCut, step, run}
 use Rattle.rules.specs.Given.{frameNumbers, completionNumbers, cutNumbers}
 use Rattle.rules.specs.Promises.{Bench, Carried, Returned, stateOf, frameOf, outcomeOf}
 use Rattle.rules.specs.Demands.{Call, frameCall, completionCall, cutCall, Meets, benchAfter, Chain, eventOf, eventsOf, outcomesOf, AllWellFormed, Demand2}
@@ -22,7 +23,7 @@ use Rattle.rules.proofs.Bools.{and-split, never}
 use Rattle.rules.proofs.Blocks.{holds-at}
 use Rattle.rules.proofs.Ranges.{array-inside, security-inside}
 use Rattle.rules.proofs.Effects.{finish-outside}
-use Rattle.rules.proofs.Numbers.{frame-given, completion-given, cut-given}
+use Rattle.rules.proofs.Numbers.{frame-given, completion-given, cut-given, accepted-right}
 use Rattle.rules.proofs.Promises.{lent-ext, refusalOf, answerOf, answer-number, returned-one}
 use Rattle.rules.proofs.WellFormed.{well-of, step-well-formed}
 
@@ -32,7 +33,7 @@ meets-machine : (b : Bench) (e : Call) (g : Returned) → Meets b e g → outcom
 unfolding step
 meets-machine b (frameCall f) g h = h .outcome
 meets-machine b completionCall g h = h .outcome
-meets-machine b (cutCall k) g h = h .outcome
+meets-machine b (cutCall t) g h = h .outcome
 
 chain-machine : (b : Bench) (es : List Call) (gs : List Returned) → Chain b es gs → outcomesOf gs ≡ run (stateOf b) (eventsOf es)
 unfolding run
@@ -114,9 +115,9 @@ tame-written : (n : ℕ) (f : ℕ → ℕ) → Tame (written n f)
 unfolding Tame
 tame-written n f i h = rw (le-ltb i n h)
 
-tame-finish : (w : Work) (r : Range) (b : List ℕ) (k : ℕ) (m : Lent) → Tame m → r .start + r .size ≤ m .size → Tame (finish w r b k m)
+tame-finish : (w : Work) (r : Range) (b : List ℕ) (t : Tear) (m : Lent) → Tame m → r .start + r .size ≤ m .size → Tame (finish w r b t m)
 unfolding Tame finish
-tame-finish w r b k m t fits i h = finish-outside w r b k m i (never (holds r i) (λ e. let g = holds-at r i e in omega arith)) ∙ t i h
+tame-finish w r b t m tame fits i h = finish-outside w r b t m i (never (holds r i) (λ e. let g = holds-at r i e in omega arith)) ∙ tame i h
 
 right-parts : (b : Bench) → stateRight (stateOf b) ≡ true → (numbersRight (b .chip .rest .works .running) ≡ true) × (length (b .array) ≡ arraySize) × (length (b .security) ≡ securitySize)
 right-parts b e =
@@ -124,30 +125,24 @@ right-parts b e =
     let h₁ = and-split (wellFormed (b .chip)) (eqb (length (b .array)) arraySize) (h₂ .0) in
     (well-of (b .chip) (h₁ .0) .works .running, eqb-true (length (b .array)) arraySize (h₁ .1), eqb-true (length (b .security)) securitySize (h₂ .1))
 
-module _ (b : Bench) (k : ℕ) where
-  tame-array : (n : ℕ) → (n ≡ 0 → stateRight (stateOf b) ≡ true) → Tame (workedArray n k (stateOf b))
+module _ (b : Bench) (t : Tear) where
+  tame-array : (x : Bool) → (x ≡ true → stateRight (stateOf b) ≡ true) → Tame (workedArray x t (stateOf b))
   unfolding workedArray
-  tame-array n h = go (eqb n 0) refl
-    where
-      go : (x : Bool) → eqb n 0 ≡ x → Tame (pick x (finish (b .chip .rest .works .running) (arrayRange (b .chip .rest .works .running)) (b .chip .buffer) k (lent (b .array))) (lent (b .array)))
-      go true e =
-          let p = right-parts b (h (eqb-true n 0 e)) in
-          let i = array-inside (b .chip .rest .works .running) (p .0) in
-          let z = p .1 in
-          tame-finish (b .chip .rest .works .running) (arrayRange (b .chip .rest .works .running)) (b .chip .buffer) k (lent (b .array)) (tame-lent (b .array)) (omega arith)
-      go false e = tame-lent (b .array)
+  tame-array true h =
+      let p = right-parts b (h refl) in
+      let i = array-inside (b .chip .rest .works .running) (p .0) in
+      let z = p .1 in
+      tame-finish (b .chip .rest .works .running) (arrayRange (b .chip .rest .works .running)) (b .chip .buffer) t (lent (b .array)) (tame-lent (b .array)) (omega arith)
+  tame-array false h = tame-lent (b .array)
 
-  tame-security : (n : ℕ) → (n ≡ 0 → stateRight (stateOf b) ≡ true) → Tame (workedSecurity n k (stateOf b))
+  tame-security : (x : Bool) → (x ≡ true → stateRight (stateOf b) ≡ true) → Tame (workedSecurity x t (stateOf b))
   unfolding workedSecurity
-  tame-security n h = go (eqb n 0) refl
-    where
-      go : (x : Bool) → eqb n 0 ≡ x → Tame (pick x (finish (b .chip .rest .works .running) (securityRange (b .chip .rest .works .running)) (b .chip .buffer) k (lent (b .security))) (lent (b .security)))
-      go true e =
-          let p = right-parts b (h (eqb-true n 0 e)) in
-          let i = security-inside (b .chip .rest .works .running) (p .0) in
-          let z = p .2 in
-          tame-finish (b .chip .rest .works .running) (securityRange (b .chip .rest .works .running)) (b .chip .buffer) k (lent (b .security)) (tame-lent (b .security)) (omega arith)
-      go false e = tame-lent (b .security)
+  tame-security true h =
+      let p = right-parts b (h refl) in
+      let i = security-inside (b .chip .rest .works .running) (p .0) in
+      let z = p .2 in
+      tame-finish (b .chip .rest .works .running) (securityRange (b .chip .rest .works .running)) (b .chip .buffer) t (lent (b .security)) (tame-lent (b .security)) (omega arith)
+  tame-security false h = tame-lent (b .security)
 
 -- a memory written, or left as it was lent
 tame-either : (x : Bool) (l : List ℕ) (f : ℕ → ℕ) → Tame (pick x (lent l) (written (length l) f))
@@ -183,19 +178,23 @@ meets-some b (frameCall c) =
     let s = stateOf b in
     let f = frameOf c in
     let o = frame s f in
-    (returnedBy o, record { outcome = returned-back o frameNumbers refl (frame-given s f .no-other) (tame-lent (b .array)) (tame-lent (b .security)) (tame-reply (first (frameTests s f)) s c) (tame-marks (first (frameTests s f)) s c) })
+    let n = first (frameTests s f) in
+    let right : stops n (f .sent) ≡ true → stateRight s ≡ true = λ h. accepted-right s f (eqb-true n 0 (and-split (eqb n 0) _ h .0)) .0 in
+    (returnedBy o, record { outcome = returned-back o frameNumbers refl (frame-given s f .no-other) (tame-array b (f .circumstances .tear) (stops n (f .sent)) right) (tame-security b (f .circumstances .tear) (stops n (f .sent)) right) (tame-reply n s c) (tame-marks n s c) })
 meets-some b completionCall =
     let s = stateOf b in
     let o = completion s in
     let g = completion-given s in
-    let right : first (completionTests s) ≡ 0 → stateRight s ≡ true = λ z. g .is-0 .0 z .0 in
-    (returnedBy o, record { outcome = returned-back o completionNumbers refl (g .no-other) (tame-array b arraySize (first (completionTests s)) right) (tame-security b arraySize (first (completionTests s)) right) (tame-lent []) (tame-lent []) })
-meets-some b (cutCall k) =
+    let n = first (completionTests s) in
+    let right : eqb n 0 ≡ true → stateRight s ≡ true = λ h. g .is-0 .0 (eqb-true n 0 h) .0 in
+    (returnedBy o, record { outcome = returned-back o completionNumbers refl (g .no-other) (tame-array b all (eqb n 0) right) (tame-security b all (eqb n 0) right) (tame-lent []) (tame-lent []) })
+meets-some b (cutCall t) =
     let s = stateOf b in
-    let o = powerCut s k in
-    let g = cut-given s k in
-    let right : first (cutTests s) ≡ 0 → stateRight s ≡ true = g .is-0 .0 in
-    (returnedBy o, record { outcome = returned-back o cutNumbers refl (g .no-other) (tame-array b k (first (cutTests s)) right) (tame-security b k (first (cutTests s)) right) (tame-lent []) (tame-lent []) })
+    let o = powerCut s t in
+    let g = cut-given s t in
+    let n = first (cutTests s) in
+    let right : eqb n 0 ≡ true → stateRight s ≡ true = λ h. g .is-0 .0 (eqb-true n 0 h) in
+    (returnedBy o, record { outcome = returned-back o cutNumbers refl (g .no-other) (tame-array b t (eqb n 0) right) (tame-security b t (eqb n 0) right) (tame-lent []) (tame-lent []) })
 
 pub chain-some : (b : Bench) (es : List Call) → (gs : List Returned) × Chain b es gs
 chain-some b [] = ([], tt)

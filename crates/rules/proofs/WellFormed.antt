@@ -24,9 +24,9 @@ use Rattle.rules.specs.Works.{isNothing, isErase, isProgram, canSuspend,
 use Rattle.rules.specs.Frames.{formOf, opcode, address, securityAddress, six}
 use Rattle.rules.specs.Programs.{blank, fill, securityBuffer, reaches, reachesFirst}
 use Rattle.rules.specs.Fields.{locksOf, worksOf, chipOf, withProtection, withRunning, withFlags, withWel, withEnable}
-use Rattle.rules.specs.Commands.{newOf, act, bufferAfter, settled, rested, bufferRested, afterCut}
+use Rattle.rules.specs.Commands.{newOf, act, bufferAfter, settled, settledFirst, rested, bufferRested, afterCut}
 use Rattle.rules.specs.WellFormed.{numbersRight, locksRight, suspendedRight, besideRight, firstFF, securityRight, bufferRight, worksRight, wellFormed}
-use Rattle.rules.specs.Numbers.{State, first, frameTests, completionTests, cutTests}
+use Rattle.rules.specs.Numbers.{State, Frame, first, frameTests, completionTests, cutTests}
 use Rattle.rules.specs.Machine.{frameChip, frame, completedChip, completion, cutChip, powerCut, Event, sends, completes, cuts, step}
 use Rattle.rules.proofs.Bools.{and-split, and-both, or-split, or-left, or-right, not-intro, never}
 use Rattle.rules.proofs.Blocks.{blockOf-lt, block-placed, holds-at, holds-intro, overlap-at, unlocked-inside, sector-inside, page-inside, block-inside, array-unlocked, unlocked-nowhere}
@@ -110,6 +110,29 @@ at-rest p sec b e =
 blank-clean : firstFF 256 blank ≡ true
 unfolding blank firstFF
 blank-clean = refl
+
+-- the registers that work leaves where it is stopped
+module _ (r : Rest) (h : Registers (r .locks .protection) (r .locks .permanent)) where
+  abbrev RightIn : Rest → Type 0
+  RightIn q = Registers (q .locks .protection) (q .locks .permanent)
+
+  registers-settled : (w : Work) → RightIn (settled w r)
+  registers-settled Nothing = h
+  registers-settled (EraseSector n) = h
+  registers-settled (EraseBlock n) = h
+  registers-settled EraseArray = h
+  registers-settled (ProgramPage n) = h
+  registers-settled (ProgramSecurity n) = h
+  registers-settled LockSecurity = h
+  registers-settled (WriteConfiguration i w) = h
+  registers-settled (AddPermanent v) = registers-more (r .locks .protection) (r .locks .permanent) v h
+
+  registers-stopped : (k : ℕ) → RightIn (settledFirst k r)
+  registers-stopped k = go (ltb 0 k)
+    where
+      go : (b : Bool) → RightIn (pick b (settled (r .works .running) r) r)
+      go true = registers-settled (r .works .running)
+      go false = h
 
 -- ---- what a done frame of each opcode says
 
@@ -379,14 +402,14 @@ run-again p sec b r s h i =
     longer false y e = e
 
 -- the chip after a done frame of a kind
-abbrev after : Kind → List ℕ → Chip → Chip
-after k sent c = chipOf (bufferAfter k sent (c .buffer)) (act k sent (withEnable false (c .rest)))
+abbrev after : Kind → List ℕ → ℕ → Chip → Chip
+after k sent n c = chipOf (bufferAfter k sent (c .buffer)) (act k sent n (withEnable false (c .rest)))
 
 first-of : (a b c d e : Bool) → (a || b || c || d || e) ≡ false → a ≡ false
 first-of true b c d e q = absurd (true≢false q)
 first-of false b c d e q = refl
 
-module _ (c : Chip) (sent : List ℕ) (h : Well c) where
+module _ (c : Chip) (sent : List ℕ) (n : ℕ) (h : Well c) where
   -- only flags change
   same : (f : Flags) → f .sec ≡ c .rest .flags .sec → Well (chipOf (c .buffer) (withFlags f (c .rest)))
   same f e = record { registers = h .registers; works = subst (λ (x : Bool). Works (c .rest .locks .protection) x (c .buffer) (c .rest .works .running) (c .rest .works .suspended)) (sym e) (h .works) }
@@ -400,7 +423,7 @@ module _ (c : Chip) (sent : List ℕ) (h : Well c) where
       → Well (chipOf (c .buffer) (withWel wel (withProtection p (withEnable false (c .rest)))))
   relocking wel {p} r i j = record { registers = r; works = relocked p c h i j }
 
-  kind-well : (k : Kind) → Each (λ o. Accepted (c .rest) o sent → Well (after k sent c)) (opcodesOf k)
+  kind-well : (k : Kind) → Each (λ o. Accepted (c .rest) o sent → Well (after k sent n c)) (opcodesOf k)
   kind-well (Kind.Show s) = at-each (λ o a. same _ refl) (opcodesOf (Kind.Show s))
   kind-well (Kind.Begin Long.Sector) = (λ a. starting (sector-starts c sent h a)) next end
   kind-well (Kind.Begin Long.Block) = (λ a. starting (block-starts c sent h a)) next end
@@ -419,7 +442,10 @@ module _ (c : Chip) (sent : List ℕ) (h : Well c) where
       (λ a. starting (lone-starts c _ h (idle _ (a .calm)) (alone _ _ _ (a .apart)) refl (unlocked-nowhere (c .rest .locks .protection)) refl refl)) next end
   kind-well (Kind.Do Short.Nothing) = (λ a. same _ refl) next end
   kind-well (Kind.Do Short.EnableReset) = (λ a. same _ refl) next end
-  kind-well (Kind.Do Short.Reset) = (λ a. record { registers = h .registers; works = at-rest (c .rest .locks .protection) (c .rest .flags .sec) blank blank-clean }) next end
+  kind-well (Kind.Do Short.Reset) = (λ a.
+      let q = settledFirst n (withEnable false (c .rest)) in
+      record { registers = registers-stopped (withEnable false (c .rest)) (h .registers) n; works = at-rest (q .locks .protection) (q .flags .sec) blank blank-clean })
+      next end
   kind-well (Kind.Do Short.ToSqi) = (λ a. same _ refl) next end
   kind-well (Kind.Do Short.ToSpi) = (λ a. same _ refl) next end
   kind-well (Kind.Do Short.SetWel) = (λ a. same _ refl) next end
@@ -440,18 +466,18 @@ module _ (c : Chip) (sent : List ℕ) (h : Well c) where
       next end
   kind-well (Kind.Do Short.SetBurst) = (λ a. record { registers = h .registers; works = h .works }) next end
 
-  done-well : Accepted (c .rest) (opcode sent) sent → Well (after (formOf (opcode sent) .kind) sent c)
+  done-well : Accepted (c .rest) (opcode sent) sent → Well (after (formOf (opcode sent) .kind) sent n c)
   done-well a =
       let k = formOf (opcode sent) .kind in
-      at-one (λ o. Accepted (c .rest) o sent → Well (after k sent c)) (opcodesOf k) (opcode sent) (by-kind (c .rest .flags .sqi) (opcode sent) (a .is-listed)) (kind-well k) a
+      at-one (λ o. Accepted (c .rest) o sent → Well (after k sent n c)) (opcodesOf k) (opcode sent) (by-kind (c .rest .flags .sqi) (opcode sent) (a .is-listed)) (kind-well k) a
 
-frame-well : (n : ℕ) (c : Chip) (sent : List ℕ) → Well c → (n ≡ 0 → Accepted (c .rest) (opcode sent) sent) → Well (frameChip n c sent)
+frame-well : (n : ℕ) (c : Chip) (f : Frame) → Well c → (n ≡ 0 → Accepted (c .rest) (opcode (f .sent)) (f .sent)) → Well (frameChip n c f)
 unfolding frameChip
-frame-well n c sent h a = go (eqb n 0) refl (oneOf n (1 ∷ 2 ∷ []))
+frame-well n c f h a = go (eqb n 0) refl (oneOf n (1 ∷ 2 ∷ []))
   where
     go : (x : Bool) → eqb n 0 ≡ x → (y : Bool)
-        → Well (pick x (after (formOf (opcode sent) .kind) sent c) (pick y c (chipOf (c .buffer) (withEnable false (c .rest)))))
-    go true e y = done-well c sent h (a (eqb-true n 0 e))
+        → Well (pick x (after (formOf (opcode (f .sent)) .kind) (f .sent) (f .circumstances .tear .k) c) (pick y c (chipOf (c .buffer) (withEnable false (c .rest)))))
+    go true e y = done-well c (f .sent) (f .circumstances .tear .k) h (a (eqb-true n 0 e))
     go false e true = h
     go false e false = record { registers = h .registers; works = h .works }
 
@@ -532,20 +558,19 @@ module _ (c : Chip) (h : Well c) where
 
   cut-well : (n k : ℕ) → Well (cutChip n k c)
   unfolding cutChip
-  cut-well n k = go (eqb n 0) (ltb 0 k)
+  cut-well n k = go (eqb n 0)
     where
-      go : (x y : Bool) → Well (pick x (chipOf blank (afterCut (pick y (settled (c .rest .works .running) (c .rest)) (c .rest)))) c)
-      go true true = powered-well (settled (c .rest .works .running) (c .rest)) (ends (c .rest .works .running) refl .registers)
-      go true false = powered-well (c .rest) (h .registers)
-      go false y = h
+      go : (x : Bool) → Well (pick x (chipOf blank (afterCut (settledFirst k (c .rest)))) c)
+      go true = powered-well (settledFirst k (c .rest)) (registers-stopped (c .rest) (h .registers) k)
+      go false = h
 
 -- ---- the law
 
 pub step-well-formed : (s : State) (e : Event) → wellFormed (s .chip) ≡ true → wellFormed (step s e .chip) ≡ true
 unfolding step frame completion powerCut
-step-well-formed s (sends f) h = well-right _ (frame-well (first (frameTests s f)) (s .chip) (f .sent) (well-of (s .chip) h) (λ e. accepted s f e))
+step-well-formed s (sends f) h = well-right _ (frame-well (first (frameTests s f)) (s .chip) f (well-of (s .chip) h) (λ e. accepted s f e))
 step-well-formed s completes h = well-right _ (completed-well (s .chip) (well-of (s .chip) h) (first (completionTests s)))
-step-well-formed s (cuts k) h = well-right _ (cut-well (s .chip) (well-of (s .chip) h) (first (cutTests s)) k)
+step-well-formed s (cuts t) h = well-right _ (cut-well (s .chip) (well-of (s .chip) h) (first (cutTests s)) (t .k))
 
 -- a new chip is well-formed, of either part
 pub new-well-formed : (ba : Bool) → wellFormed (newOf ba) ≡ true

@@ -8,19 +8,21 @@ use mathlib.Core.List.{List, [], _∷_, _++_}
 use lib.Dec.{eqb, ltb}
 use lib.ListN.{length, getD, replicate}
 use Rattle.rules.specs.declared.Flags.{Flags}
+use Rattle.rules.specs.declared.Tear.{Tear}
 use Rattle.rules.specs.declared.Work.{Work}
 use Rattle.rules.specs.declared.Work.the-variants.{Nothing, EraseSector, EraseBlock, EraseArray, ProgramPage, ProgramSecurity, LockSecurity, WriteConfiguration, AddPermanent}
 use Rattle.rules.specs.Words.{num, pick, Each, written}
 use Rattle.rules.specs.Texts.{ascii}
 use Rattle.rules.specs.Blocks.{arraySize, securitySize}
-use Rattle.rules.specs.Works.{arrayRange}
+use Rattle.rules.specs.Works.{arrayRange, tearOf}
 use Rattle.rules.specs.Bursts.{burstLength}
 use Rattle.rules.specs.Commands.{newOf}
 use Rattle.rules.specs.Numbers.{State}
 use Rattle.rules.specs.Machine.{Outcome, Event, sends, completes, cuts, step, left, run}
 
--- ---- events as a text: "open, 06, 02 00 01 FE 11 22 33, completion, cut 5"
--- A frame is its bytes in hexadecimal, "11*3" for 11 11 11, "empty" for none; "open" is 06, 98
+-- ---- events as a text: "open, 06, 02 00 01 FE 11 22 33, completion, cut 5 F0, 66, 99 torn 5 F0"
+-- A frame is its bytes in hexadecimal, "11*3" for 11 11 11, "empty" for none; "open" is 06, 98. A power cut names k, in decimal, and m; so does a frame behind
+-- "torn". Where they are not named they are 0
 
 -- a letter in front of the first part; the separator begins a part of its own
 abbrev pub inFront : ℕ → ℕ → List (List ℕ) → List (List ℕ)
@@ -56,16 +58,32 @@ bytesOf ((a ∷ []) ∷ ws) = bytesOf ws
 bytesOf ((a ∷ b ∷ []) ∷ ws) = numeral 16 0 (a ∷ b ∷ []) ∷ bytesOf ws
 bytesOf ((a ∷ b ∷ star ∷ n) ∷ ws) = replicate (numeral 10 0 n) (numeral 16 0 (a ∷ b ∷ [])) ++ bytesOf ws
 
+-- k and m
+abbrev pub tearIn : List (List ℕ) → Tear
+tearIn ws = tearOf (numeral 10 0 (getD ws 0 [])) (numeral 16 0 (getD ws 1 []))
+
+-- the words in front of "torn", which no other word begins like, and those behind it
+abbrev pub untilTorn : List (List ℕ) → List (List ℕ)
+untilTorn [] = []
+untilTorn (w ∷ ws) = pick (eqb (getD w 0 0) (code "t")) [] (w ∷ untilTorn ws)
+
+abbrev pub behindTorn : List (List ℕ) → List (List ℕ)
+behindTorn [] = []
+behindTorn (w ∷ ws) = pick (eqb (getD w 0 0) (code "t")) ws (behindTorn ws)
+
 -- a frame, with sixteen bytes lent for the reply and its marks
+abbrev pub sendTorn : Tear → List ℕ → Event
+sendTorn t bytes = sends (record { sent = bytes; reply = written 16 (λ i. 0x5A); marks = written 16 (λ i. 0xA5); circumstances = record { tear = t } })
+
 abbrev pub send : List ℕ → Event
-send bytes = sends (record { sent = bytes; reply = written 16 (λ i. 0x5A); marks = written 16 (λ i. 0xA5) })
+send bytes = sendTorn (tearIn []) bytes
 
 -- the events of one part, by the first letters of its first word
 abbrev pub eventsIn : List (List ℕ) → List Event
 eventsIn [] = []
 eventsIn (w ∷ ws) =
-    let frame = send (bytesOf (w ∷ ws)) ∷ [] in
-    let cut = cuts (numeral 10 0 (getD ws 0 [])) ∷ [] in
+    let frame = sendTorn (tearIn (behindTorn ws)) (bytesOf (w ∷ untilTorn ws)) ∷ [] in
+    let cut = cuts (tearIn ws) ∷ [] in
     pick (eqb (getD w 0 0) (code "o")) (send (0x06 ∷ []) ∷ send (0x98 ∷ []) ∷ [])
     (pick (eqb (getD w 0 0) (code "e")) (send [] ∷ [])
     (pick (eqb (getD w 0 0) (code "c")) (pick (eqb (getD w 1 0) (code "o")) (completes ∷ []) cut)

@@ -1,4 +1,5 @@
--- The sentences of 01 on "Suspension", "Reset" and "Power cut k", and on the numbers given back, each on both sides. Proved in proofs/Sentences.
+-- The sentences of 01 on "Suspension", "Reset" and "Power cut k", and on the numbers given back, each on both sides. A power cut and a reset are 01's where m is FF for a
+-- program and 00 for an erase, a reset with k 0 (02, W-205). Proved in proofs/Sentences.
 use Prim.Native.Nat.{_+_}
 use mathlib.Core.List.{List, [], _∷_}
 use Rattle.rules.specs.Cases.{Section, old, section, _on_, _gives_, _is_, number, byte, mark, place, secured, from, to, flags, protected, permanent, runs, aside, buffered, replies, marked, leaves, WEL, IOC, WPEN, WPLD, SEC, ENABLE}
@@ -43,10 +44,10 @@ sentencesOfEnding =
     ∷ section old "Reset" "open, 06" (
     ("Reset (99): SPI" on "38, 66, 99, 9F" gives (number is 0 ∷ []))
     ∷ ("WEL 0" on "66, 99, 05" gives (byte 0 is 0x00 ∷ []))
-    ∷ ("BUSY 0, running work dropped with its target unchanged" on "02 00 10 00 00, 66, 99" gives (place 0x1000 is 0xFF ∷ buffered 0 is 0xFF ∷ flags is 0 ∷ runs is 0x00 ∷ aside is 0x00 ∷ []))
-    ∷ ("BUSY 0, running work dropped with its target unchanged" on "02 00 10 00 00, completion, 06, 20 00 10 00, 66, 99, completion" gives (number is 12 ∷ place 0x1000 is 0x00 ∷ []))
+    ∷ ("BUSY 0, running work dropped with its target unchanged" on "02 00 10 00 00, 66, 99 torn 0 FF" gives (place 0x1000 is 0xFF ∷ buffered 0 is 0xFF ∷ flags is 0 ∷ runs is 0x00 ∷ aside is 0x00 ∷ []))
+    ∷ ("BUSY 0, running work dropped with its target unchanged" on "02 00 10 00 00, completion, 06, 20 00 10 00, 66, 99 torn 0 00, completion" gives (number is 12 ∷ place 0x1000 is 0x00 ∷ []))
     ∷ ("WSE, WSP 0, suspended work dropped" on "20 00 10 00, B0, 66, 99, 30" gives (number is 8 ∷ []))
-    ∷ ("WSE, WSP 0, suspended work dropped" on "20 00 10 00, B0, 02 00 20 00 00, 66, 99" gives leaves 0 0 0 0x00 0x00)
+    ∷ ("WSE, WSP 0, suspended work dropped" on "20 00 10 00, B0, 02 00 20 00 00, 66, 99 torn 0 FF" gives leaves 0 0 0 0x00 0x00)
     ∷ ("suspended work dropped: the buffer is all FF" on "02 00 20 00 00, B0, 66, 99" gives (place 0x2000 is 0xFF ∷ buffered 0 is 0xFF ∷ []))
     ∷ ("IOC at its power-up value; WPEN stays" on "01 00 82, completion, 66, 99, 35" gives (byte 0 is 0x88 ∷ []))
     ∷ ("WPLD, SEC stay" on "85, completion, 06, 8D, 66, 99, 05" gives (byte 0 is 0x30 ∷ []))
@@ -75,26 +76,26 @@ sentencesOfEnding =
     ∷ ("after a power cut: no reset enable" on "66, cut 0, 99" gives (number is 6 ∷ []))
     ∷ [])
     ∷ section old "Power cut k: a program" "open, 06, 02 00 10 01 00 00 00" (
-    ("the first k bytes finished and the rest unchanged" on "cut 0" gives (number is 0 ∷ place 0x1001 is 0xFF ∷ []))
-    ∷ ("The range of 02, 32 and A5 is the whole page." on "cut 1" gives (place 0x1000 is 0xFF ∷ place 0x1001 is 0xFF ∷ []))
-    ∷ ("the first k bytes finished and the rest unchanged" on "cut 2" gives (place 0x1001 is 0x00 ∷ place 0x1002 is 0xFF ∷ []))
-    ∷ ("the first k bytes finished and the rest unchanged" on "cut 3" gives (place 0x1001 is 0x00 ∷ place 0x1002 is 0x00 ∷ place 0x1003 is 0xFF ∷ []))
-    ∷ ("all finished if k is larger" on "cut 1000000" gives (place 0x1001 is 0x00 ∷ place 0x1003 is 0x00 ∷ place 0x1004 is 0xFF ∷ []))
-    ∷ ("Then power-up" on "cut 3" gives leaves 0 0x5555_FFFF_FFFF 0 0x00 0x00)
-    ∷ ("Then power-up" on "cut 3" gives (buffered 1 is 0xFF ∷ []))
+    ("the first k bytes finished and the rest unchanged" on "cut 0 FF" gives (number is 0 ∷ place 0x1001 is 0xFF ∷ []))
+    ∷ ("The range of 02, 32 and A5 is the whole page." on "cut 1 FF" gives (place 0x1000 is 0xFF ∷ place 0x1001 is 0xFF ∷ []))
+    ∷ ("the first k bytes finished and the rest unchanged" on "cut 2 FF" gives (place 0x1001 is 0x00 ∷ place 0x1002 is 0xFF ∷ []))
+    ∷ ("the first k bytes finished and the rest unchanged" on "cut 3 FF" gives (place 0x1001 is 0x00 ∷ place 0x1002 is 0x00 ∷ place 0x1003 is 0xFF ∷ []))
+    ∷ ("all finished if k is larger" on "cut 1000000 FF" gives (place 0x1001 is 0x00 ∷ place 0x1003 is 0x00 ∷ place 0x1004 is 0xFF ∷ []))
+    ∷ ("Then power-up" on "cut 3 FF" gives leaves 0 0x5555_FFFF_FFFF 0 0x00 0x00)
+    ∷ ("Then power-up" on "cut 3 FF" gives (buffered 1 is 0xFF ∷ []))
     ∷ [])
     ∷ section old "Power cut k: 32 and A5" "open, 06, 01 00 02, completion, 06" (
-    ("The range of 32 is the whole page." on "32 00 10 01 00, cut 1" gives (place 0x1001 is 0xFF ∷ []))
-    ∷ ("The range of 32 is the whole page." on "32 00 10 01 00, cut 2" gives (place 0x1001 is 0x00 ∷ []))
-    ∷ ("The range of A5 is the whole page." on "A5 01 08 00 00, cut 8" gives (secured 0x108 is 0xFF ∷ []))
-    ∷ ("The range of A5 is the whole page." on "A5 01 08 00 00, cut 9" gives (secured 0x107 is 0xFF ∷ secured 0x108 is 0x00 ∷ secured 0x109 is 0xFF ∷ []))
+    ("The range of 32 is the whole page." on "32 00 10 01 00, cut 1 FF" gives (place 0x1001 is 0xFF ∷ []))
+    ∷ ("The range of 32 is the whole page." on "32 00 10 01 00, cut 2 FF" gives (place 0x1001 is 0x00 ∷ []))
+    ∷ ("The range of A5 is the whole page." on "A5 01 08 00 00, cut 8 FF" gives (secured 0x108 is 0xFF ∷ []))
+    ∷ ("The range of A5 is the whole page." on "A5 01 08 00 00, cut 9 FF" gives (secured 0x107 is 0xFF ∷ secured 0x108 is 0x00 ∷ secured 0x109 is 0xFF ∷ []))
     ∷ [])
     ∷ section old "Power cut k: an erase" "open, 06, 02 00 0F FF 00, completion, 06, 02 00 10 00 00 00 00 00, completion, 06, 02 00 1F FE 00 00, completion, 06, 02 00 20 00 00, completion, 06" (
-    ("20: in rising address order" on "20 00 10 00, cut 3" gives (place 0x0FFF is 0x00 ∷ place 0x1002 is 0xFF ∷ place 0x1003 is 0x00 ∷ []))
-    ∷ ("20: the rest unchanged" on "20 00 10 00, cut 4095" gives (place 0x1FFE is 0xFF ∷ place 0x1FFF is 0x00 ∷ []))
-    ∷ ("20: all finished if k is larger" on "20 00 10 00, cut 8192" gives (place 0x1FFF is 0xFF ∷ place 0x2000 is 0x00 ∷ []))
-    ∷ ("D8" on "D8 00 10 00, cut 4097" gives (place 0x0FFF is 0xFF ∷ place 0x1000 is 0xFF ∷ place 0x1001 is 0x00 ∷ []))
-    ∷ ("C7" on "C7, cut 4098" gives (place 0x1001 is 0xFF ∷ place 0x1002 is 0x00 ∷ []))
+    ("20: in rising address order" on "20 00 10 00, cut 3 00" gives (place 0x0FFF is 0x00 ∷ place 0x1002 is 0xFF ∷ place 0x1003 is 0x00 ∷ []))
+    ∷ ("20: the rest unchanged" on "20 00 10 00, cut 4095 00" gives (place 0x1FFE is 0xFF ∷ place 0x1FFF is 0x00 ∷ []))
+    ∷ ("20: all finished if k is larger" on "20 00 10 00, cut 8192 00" gives (place 0x1FFF is 0xFF ∷ place 0x2000 is 0x00 ∷ []))
+    ∷ ("D8" on "D8 00 10 00, cut 4097 00" gives (place 0x0FFF is 0xFF ∷ place 0x1000 is 0xFF ∷ place 0x1001 is 0x00 ∷ []))
+    ∷ ("C7" on "C7, cut 4098 00" gives (place 0x1001 is 0xFF ∷ place 0x1002 is 0x00 ∷ []))
     ∷ [])
     ∷ section old "Power cut k: 85, 01, E8" "06" (
     ("85 acts fully if k is 1 or more" on "85, cut 1" gives (flags is SEC ∷ []))
@@ -108,9 +109,9 @@ sentencesOfEnding =
     ∷ section old "Power cut k: what stays" "06, 85, completion, 06, 01 00 82, completion, 06, E8 00 00 00 00 00 05, completion, 06, 42 8A 20 00 00 00 F0, 06, 8D, 06" (
     ("SPI, WPLD 0, WEL 0, IOC 0, no reset enable, protection 5555FFFFFFFF; SEC, WPEN and the permanent register stay." on "66, cut 5" gives leaves (WPEN + SEC) 0x5555_FFFF_FFFF 5 0x00 0x00)
     ∷ ("SPI" on "38, cut 5" gives leaves (WPEN + SEC) 0x5555_FFFF_FFFF 5 0x00 0x00)
-    ∷ ("nothing running" on "20 00 20 00, cut 5" gives leaves (WPEN + SEC) 0x5555_FFFF_FFFF 5 0x00 0x00)
+    ∷ ("nothing running" on "20 00 20 00, cut 5 00" gives leaves (WPEN + SEC) 0x5555_FFFF_FFFF 5 0x00 0x00)
     ∷ ("Suspended work is dropped." on "02 00 20 00 00, B0, cut 256" gives (number is 0 ∷ place 0x2000 is 0xFF ∷ aside is 0x00 ∷ buffered 0 is 0xFF ∷ []))
-    ∷ ("k speaks of the running range only" on "02 00 20 00 00, B0, 20 00 40 00, cut 9999" gives (place 0x2000 is 0xFF ∷ runs is 0x00 ∷ aside is 0x00 ∷ []))
+    ∷ ("k speaks of the running range only" on "02 00 20 00 00, B0, 20 00 40 00, cut 9999 00" gives (place 0x2000 is 0xFF ∷ runs is 0x00 ∷ aside is 0x00 ∷ []))
     ∷ [])
     ∷ section old "Numbers: what they leave" "open, 06, 66" (
     ("12: completion with nothing running" on "completion" gives (number is 12 ∷ flags is (WEL + ENABLE) ∷ []))

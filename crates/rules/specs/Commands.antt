@@ -1,4 +1,4 @@
--- 01, Long and short; 42, 98, E8; Suspension; Reset; power-up; 02, W-201, C0; 02, W-204, the part: the record after a command, and after work ends.
+-- 01, Long and short; 42, 98, E8; Suspension; Reset; power-up; 02, W-201, C0; W-204, the part; W-205, what 85, 01 and E8 do at a reset: the record after a command, and after work ends.
 use Prim.Native.Nat.{ℕ, _/_}
 use mathlib.Core.Bool.{Bool, true, false}
 use mathlib.Core.List.{List}
@@ -72,27 +72,46 @@ bufferOf Long.SecurityLock sent b = b
 bufferOf Long.Configuration sent b = b
 bufferOf Long.Permanent sent b = b
 
--- ---- the record after a done frame, whose enable is used up
+-- ---- work that ends or is stopped
 
-abbrev pub atOnce : Short → List ℕ → Rest → Rest
-atOnce Short.Nothing sent r = r
-atOnce Short.EnableReset sent r = withEnable true r
-atOnce Short.Reset sent r = afterReset r
-atOnce Short.ToSqi sent r = withSqi true r
-atOnce Short.ToSpi sent r = withSqi false r
-atOnce Short.SetWel sent r = withWel true r
-atOnce Short.ClearWel sent r = withWel false r
-atOnce Short.WriteProtection sent r = withWel false (withProtection (bitOr (bitAnd (six sent) allLocks) (r .locks .permanent)) r)
-atOnce Short.LockDown sent r = withWel false (withWpld true r)
-atOnce Short.ClearLocks sent r = withWel false (withProtection (bitOr (bitAnd (r .locks .protection) readLocks) (r .locks .permanent)) r)
-atOnce Short.Suspend sent r = withSuspended (r .works .running) (withRunning Work.Nothing r)
-atOnce Short.Resume sent r = withRunning (r .works .suspended) (withSuspended Work.Nothing r)
-atOnce Short.SetBurst sent r = withBurst (burstOf (sentByte sent 1)) r
+-- the registers that finished work sets
+abbrev pub settled : Work → Rest → Rest
+settled Work.Nothing r = r
+settled (Work.EraseSector n) r = r
+settled (Work.EraseBlock n) r = r
+settled Work.EraseArray r = r
+settled (Work.ProgramPage n) r = r
+settled (Work.ProgramSecurity n) r = r
+settled Work.LockSecurity r = withSec true r
+settled (Work.WriteConfiguration i w) r = withIoc i (withWpen w r)
+settled (Work.AddPermanent v) r =
+    withProtection (bitOr (r .locks .protection) (bitAnd v writeLocks)) (withPermanent (bitOr (r .locks .permanent) (bitAnd v writeLocks)) r)
 
-abbrev pub act : Kind → List ℕ → Rest → Rest
-act (Kind.Show s) sent r = r
-act (Kind.Begin l) sent r = withRunning (workOf l sent) r
-act (Kind.Do s) sent r = atOnce s sent r
+-- the registers once the first k bytes are finished: 85, 01 and E8 act fully if k is 1 or more, else not
+abbrev pub settledFirst : ℕ → Rest → Rest
+settledFirst k r = pick (ltb 0 k) (settled (r .works .running) r) r
+
+-- ---- the record after a done frame, whose enable is used up; it carries k, of which only a reset makes use
+
+abbrev pub atOnce : Short → List ℕ → ℕ → Rest → Rest
+atOnce Short.Nothing sent k r = r
+atOnce Short.EnableReset sent k r = withEnable true r
+atOnce Short.Reset sent k r = afterReset (settledFirst k r)
+atOnce Short.ToSqi sent k r = withSqi true r
+atOnce Short.ToSpi sent k r = withSqi false r
+atOnce Short.SetWel sent k r = withWel true r
+atOnce Short.ClearWel sent k r = withWel false r
+atOnce Short.WriteProtection sent k r = withWel false (withProtection (bitOr (bitAnd (six sent) allLocks) (r .locks .permanent)) r)
+atOnce Short.LockDown sent k r = withWel false (withWpld true r)
+atOnce Short.ClearLocks sent k r = withWel false (withProtection (bitOr (bitAnd (r .locks .protection) readLocks) (r .locks .permanent)) r)
+atOnce Short.Suspend sent k r = withSuspended (r .works .running) (withRunning Work.Nothing r)
+atOnce Short.Resume sent k r = withRunning (r .works .suspended) (withSuspended Work.Nothing r)
+atOnce Short.SetBurst sent k r = withBurst (burstOf (sentByte sent 1)) r
+
+abbrev pub act : Kind → List ℕ → ℕ → Rest → Rest
+act (Kind.Show s) sent k r = r
+act (Kind.Begin l) sent k r = withRunning (workOf l sent) r
+act (Kind.Do s) sent k r = atOnce s sent k r
 
 -- its buffer: a reset drops it with the work
 abbrev pub bufferAtOnce : Short → List ℕ → List ℕ
@@ -115,24 +134,7 @@ bufferAfter (Kind.Show s) sent b = b
 bufferAfter (Kind.Begin l) sent b = bufferOf l sent b
 bufferAfter (Kind.Do s) sent b = bufferAtOnce s b
 
--- ---- the record when work ends
-
--- the registers that finished work sets
-abbrev pub settled : Work → Rest → Rest
-settled Work.Nothing r = r
-settled (Work.EraseSector n) r = r
-settled (Work.EraseBlock n) r = r
-settled Work.EraseArray r = r
-settled (Work.ProgramPage n) r = r
-settled (Work.ProgramSecurity n) r = r
-settled Work.LockSecurity r = withSec true r
-settled (Work.WriteConfiguration i w) r = withIoc i (withWpen w r)
-settled (Work.AddPermanent v) r =
-    withProtection (bitOr (r .locks .protection) (bitAnd v writeLocks)) (withPermanent (bitOr (r .locks .permanent) (bitAnd v writeLocks)) r)
-
--- the registers once the first k bytes are finished: 85, 01 and E8 act fully if k is 1 or more, else not
-abbrev pub settledFirst : ℕ → Rest → Rest
-settledFirst k r = pick (ltb 0 k) (settled (r .works .running) r) r
+-- ---- the record after a completion and after a power cut
 
 -- completion: BUSY and WEL 0
 abbrev pub rested : Rest → Rest

@@ -3,6 +3,7 @@ use Prim.Native.Nat.{ℕ, _<_}
 use mathlib.Core.Path.{_≡_}
 use mathlib.Core.Bool.{Bool, true, false, _&&_}
 use mathlib.Core.List.{List, [], _∷_}
+use Rattle.rules.specs.declared.Tear.{Tear}
 use Rattle.rules.specs.declared.Work.{Work}
 use Rattle.rules.specs.Blocks.{arraySize, readLocked, writeLocked}
 use Rattle.rules.specs.WellFormed.{wellFormed}
@@ -16,13 +17,13 @@ use Rattle.rules.specs.Promises.{Bench, Carried, Returned, benchOf, stat
 pub data Call : Type 0 where
   frameCall : Carried → Call
   completionCall : Call
-  cutCall : ℕ → Call
+  cutCall : Tear → Call
 
 -- the guarantee of the public function, at the state that it finds
 abbrev pub Meets : Bench → Call → Returned → Type 0
 Meets b (frameCall f) g = FramePromise b f g
 Meets b completionCall g = CompletionPromise b g
-Meets b (cutCall k) g = CutPromise b k g
+Meets b (cutCall t) g = CutPromise b t g
 
 -- the state that it leaves to the next call
 abbrev pub benchAfter : Returned → Bench
@@ -39,7 +40,7 @@ Chain b (e ∷ es) (g ∷ gs) = Meets b e g × Chain (benchAfter g) es gs
 abbrev pub eventOf : Call → Event
 eventOf (frameCall f) = sends (frameOf f)
 eventOf completionCall = completes
-eventOf (cutCall k) = cuts k
+eventOf (cutCall t) = cuts t
 
 abbrev pub eventsOf : List Call → List Event
 eventsOf [] = []
@@ -82,7 +83,7 @@ abbrev pub Uncut : List Event → Type 0
 Uncut [] = Unit {0}
 Uncut (sends f ∷ es) = Uncut es
 Uncut (completes ∷ es) = Uncut es
-Uncut (cuts k ∷ es) = ⊥
+Uncut (cuts t ∷ es) = ⊥
 
 -- after an event: nothing tells the two apart, the rest stays alike, and each chip's own key bytes are what they were at the start.
 -- The key blocks are those of the start

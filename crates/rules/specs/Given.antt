@@ -6,6 +6,7 @@ use mathlib.Core.List.{List, [], _∷_, map}
 use mathlib.Core.Logic.{_↔_}
 use lib.Dec.{eqb}
 use lib.ListN.{length}
+use Rattle.rules.specs.declared.Tear.{Tear}
 use Rattle.rules.specs.Words.{pick, oneOf}
 use Rattle.rules.specs.Frames.{opcode}
 use Rattle.rules.specs.WellFormed.{wellFormed}
@@ -82,7 +83,7 @@ pub record CompletionGiven (s : State) : Type 0 where
   pub is-12 : (completion s .number ≡ 12) ↔ ((stateRight s ≡ true) × (nothingRuns (s .chip .rest) ≡ true))
   pub no-other : oneOf (completion s .number) completionNumbers ≡ true
 
-pub record CutGiven (s : State) (k : ℕ) : Type 0 where
-  pub is-0 : (powerCut s k .number ≡ 0) ↔ (stateRight s ≡ true)
-  pub is-1 : (powerCut s k .number ≡ 1) ↔ (stateRight s ≡ false)
-  pub no-other : oneOf (powerCut s k .number) cutNumbers ≡ true
+pub record CutGiven (s : State) (t : Tear) : Type 0 where
+  pub is-0 : (powerCut s t .number ≡ 0) ↔ (stateRight s ≡ true)
+  pub is-1 : (powerCut s t .number ≡ 1) ↔ (stateRight s ≡ false)
+  pub no-other : oneOf (powerCut s t .number) cutNumbers ≡ true

@@ -1,4 +1,4 @@
--- Document 01 as definitions, in its order; Bursts and Parts are document 02's. Words hold the tools; Starred holds the cases marked * under one statement.
+-- Document 01 as definitions, in its order; Bursts, Parts and Tears are document 02's. Words hold the tools; Starred holds the cases marked * under one statement.
 pub mod Words
 pub mod Texts
 pub mod Blocks
@@ -20,6 +20,8 @@ pub mod Cases
 pub mod Starred
 pub mod Parts
 pub mod CasesOfBursts
+pub mod Tears
+pub mod CasesOfTears
 pub mod CasesOfReading
 pub mod CasesOfWriting
 pub mod CasesOfEnding

@@ -6,6 +6,7 @@ use lib.Dec.{eqb, ltb, leb}
 use lib.ListN.{length}
 use lib.Bits.{bitAnd}
 use Rattle.rules.specs.declared.Chip.{Chip}
+use Rattle.rules.specs.declared.Circumstances.{Circumstances}
 use Rattle.rules.specs.declared.Rest.{Rest}
 use Rattle.rules.specs.declared.Refusal.{Refusal}
 use Rattle.rules.specs.declared.Answer.{Answer}
@@ -50,6 +51,7 @@ pub record Frame : Type 0 where
   pub sent : List ℕ
   pub reply : Lent
   pub marks : Lent
+  pub circumstances : Circumstances
 
 -- ---- the conditions, those of a frame by its opcode o
 

@@ -24,7 +24,7 @@ ofPart p s = record { chip = chipOf (s .chip .buffer) (withBa p (s .chip .rest))
 abbrev pub powersUp : State → Event → Bool
 powersUp s (sends f) = eqb (step s (sends f) .number) 0 && eqb (opcode (f .sent)) 0x99
 powersUp s completes = false
-powersUp s (cuts k) = eqb (step s (cuts k) .number) 0
+powersUp s (cuts t) = eqb (step s (cuts t) .number) 0
 
 -- the same outcome, of a part, where IOC is its power-up value or what it was
 abbrev pub outcomeOfPart : Bool → Bool → Outcome → Outcome

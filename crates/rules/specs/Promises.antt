@@ -4,8 +4,11 @@ use mathlib.Core.List.{List}
 use Prim.Native.Nat.{ℕ}
 use Rattle.rules.specs.declared.After.{After}
 use Rattle.rules.specs.declared.Chip.{Chip}
+use Rattle.rules.specs.declared.Circumstances.{Circumstances}
+use Rattle.rules.specs.declared.Tear.{Tear}
 use Rattle.rules.specs.declared.Turn.{Turn}
 use Rattle.rules.specs.Words.{lent}
+use Rattle.rules.specs.Works.{tearOf}
 use Rattle.rules.specs.Fields.{chipOf}
 use Rattle.rules.specs.Numbers.{answerNumber, State, Frame}
 use Rattle.rules.specs.Machine.{Outcome, frame, completion, powerCut}
@@ -22,6 +25,11 @@ pub record Carried : Type 0 where
   pub sent : List ℕ
   pub reply : List ℕ
   pub marks : List ℕ
+  pub circumstances : Circumstances
+
+-- where none are said: k 0 and m 00
+abbrev pub zeroed : Circumstances
+zeroed = record { tear = tearOf 0 0 }
 
 -- the result, and what all lent memory holds at the end
 pub record Returned : Type 0 where
@@ -34,8 +42,8 @@ pub record Returned : Type 0 where
 abbrev pub benchOf : Chip → List ℕ → List ℕ → Bench
 benchOf c array security = record { chip = c; array = array; security = security }
 
-abbrev pub carriedOf : List ℕ → List ℕ → List ℕ → Carried
-carriedOf sent reply marks = record { sent = sent; reply = reply; marks = marks }
+abbrev pub carriedOf : List ℕ → List ℕ → List ℕ → Circumstances → Carried
+carriedOf sent reply marks x = record { sent = sent; reply = reply; marks = marks; circumstances = x }
 
 abbrev pub returnedOf : After → List ℕ → List ℕ → List ℕ → List ℕ → Returned
 returnedOf r array security reply marks = record { after = r; array = array; security = security; reply = reply; marks = marks }
@@ -50,7 +58,7 @@ abbrev pub stateOf : Bench → State
 stateOf b = record { chip = b .chip; array = lent (b .array); security = lent (b .security) }
 
 abbrev pub frameOf : Carried → Frame
-frameOf f = record { sent = f .sent; reply = lent (f .reply); marks = lent (f .marks) }
+frameOf f = record { sent = f .sent; reply = lent (f .reply); marks = lent (f .marks); circumstances = f .circumstances }
 
 abbrev pub outcomeOf : Returned → Outcome
 outcomeOf g =
@@ -71,5 +79,5 @@ pub record FramePromise (b : Bench) (f : Carried) (g : Returned) : Type 0 where
 pub record CompletionPromise (b : Bench) (g : Returned) : Type 0 where
   pub outcome : outcomeOf g ≡ completion (stateOf b)
 
-pub record CutPromise (b : Bench) (k : ℕ) (g : Returned) : Type 0 where
-  pub outcome : outcomeOf g ≡ powerCut (stateOf b) k
+pub record CutPromise (b : Bench) (t : Tear) (g : Returned) : Type 0 where
+  pub outcome : outcomeOf g ≡ powerCut (stateOf b) t

@@ -1,11 +1,12 @@
--- What runs or is suspended: its kind, and its range (01, Long and short; Suspension; Power cut).
+-- What runs or is suspended: its kind, its range, and what it leaves where it ends or is stopped (01, Long and short; Suspension; Power cut; 02, W-205).
 use Prim.Native.Nat.{ℕ, _-_, _*_}
-use mathlib.Core.Bool.{Bool, true, false, _&&_}
+use mathlib.Core.Bool.{Bool, true, false}
 use mathlib.Core.List.{List}
-use lib.Dec.{ltb}
+use lib.Dec.{eqb, ltb}
 use lib.ListN.{getD}
-use lib.Bits.{bitAnd}
+use lib.Bits.{bitAnd, bitOr}
 use Rattle.rules.specs.declared.Range.{Range}
+use Rattle.rules.specs.declared.Tear.{Tear}
 use Rattle.rules.specs.declared.Work.{Work}
 use Rattle.rules.specs.declared.Work.the-variants.{Nothing, EraseSector, EraseBlock, EraseArray, ProgramPage, ProgramSecurity, LockSecurity, WriteConfiguration, AddPermanent}
 use Rattle.rules.specs.Words.{pick, range, nowhere, holds, Lent}
@@ -55,11 +56,27 @@ arrayRange w = about w .array
 abbrev pub securityRange : Work → Range
 securityRange w = about w .security
 
--- byte i of the work's range, of old value x, finished: erase sets FF, a program leaves the old value AND the buffer byte
+-- ---- work that ends or is stopped: byte i of its range, of old value x
+
+-- finished: erase sets FF, a program leaves the old value AND the buffer byte
 abbrev pub finished : Work → List ℕ → ℕ → ℕ → ℕ
 finished w buffer i x = pick (isErase w) 0xFF (bitAnd x (getD buffer i 0))
 
--- memory in which the first k bytes of the work's range r, in rising address order, are finished and the rest is unchanged
-unfoldable pub finish : Work → Range → List ℕ → ℕ → Lent → Lent
-finish w r buffer k m =
-    record { size = m .size; byte = λ a. pick (holds r a && ltb (a - r .start) k) (finished w buffer (a - r .start) (m .byte a)) (m .byte a) }
+-- torn by m: for a program, old AND (finished OR m), and for an erase, old OR m
+abbrev pub torn : Work → List ℕ → ℕ → ℕ → ℕ → ℕ
+torn w buffer m i x = pick (isErase w) (bitOr x m) (bitAnd x (bitOr (finished w buffer i x) m))
+
+-- the first k bytes are finished; byte k is torn; the rest is unchanged
+abbrev pub stopped : Work → List ℕ → Tear → ℕ → ℕ → ℕ
+stopped w buffer t i x = pick (ltb i (t .k)) (finished w buffer i x) (pick (eqb i (t .k)) (torn w buffer (t .m) i x) x)
+
+abbrev pub tearOf : ℕ → ℕ → Tear
+tearOf k m = record { k = k; m = m }
+
+-- the case "all", a completion's: no range is larger than the array, so that none has a byte k to be torn
+abbrev pub all : Tear
+all = tearOf arraySize 0
+
+-- memory in which the work's range r, in rising address order, is finished as far as t says
+unfoldable pub finish : Work → Range → List ℕ → Tear → Lent → Lent
+finish w r buffer t m = record { size = m .size; byte = λ a. pick (holds r a) (stopped w buffer t (a - r .start) (m .byte a)) (m .byte a) }

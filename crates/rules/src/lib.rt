@@ -65,6 +65,18 @@ pub struct Chip {
     pub rest: Rest,
 }
 
+// Where work is stopped before its end: the first k bytes of its range are finished, and byte k, counted from 0, is torn by the byte m.
+pub struct Tear {
+    pub k: u64,
+    pub m: u8,
+}
+
+// What a frame event carries beside its bytes and its buffers.
+pub struct Circumstances {
+    // used only by an accepted 99 while busy
+    pub tear: Tear,
+}
+
 // Why an event is refused: document 01's list, in its order, then document 02's numbers.
 pub enum Refusal {
     Malformed,

@@ -4,8 +4,8 @@
 -- good as many; words are runs of other bytes. Each of the signs > = ! / * ~ is a word by itself, also where it touches another. # ends a word and
 -- starts a remark, to the line's end. The bytes EF BB BF at the input's very start are skipped.
 --
---     a frame      BYTES [ > N [ / M ] [ = EXPECTED | = kept ] ] [ ! R ]       or  > N .. alone: the empty frame
---     an event     done [ ! R ]          cut N [ ! R ]
+--     a frame      BYTES [ torn N [ BYTE ] ] [ > N [ / M ] [ = EXPECTED | = kept ] ] [ ! R ]       or  > N .. alone: the empty frame
+--     an event     done [ ! R ]          cut N [ BYTE ] [ ! R ]
 --     a question   status [ = EXPECTED ]     work     locks     dump [id] A N [ = EXPECTED ]
 --     the chip     new [old]     fill [id] A N BYTE     buffer A N BYTE     pattern     lend N N     record FIELDS     is FIELDS
 --     files        save FILE [ ! R ]     load FILE [ ! R ]     save raw FILE [ ! R ]     load raw FILE [ ! R ]     compare raw FILE
@@ -14,6 +14,7 @@
 -- BYTES is one or more of BYTE or BYTE * N, that byte N times. EXPECTED is one or more of BYTE, ?? for any and ~ BYTE for a byte that is unknown and reads so; each may
 -- be followed by * N. FIELDS, in any order, are protect H, perm H, run KIND, aside KIND and the flags sqi wel ioc wpen wpld sec enable ba. KIND is sector H,
 -- block H, array, page H, id H, lock, config H or bits H.
+-- torn and cut say where what runs is stopped: the count k, and the byte m. Without m it is document 01's: FF where a program runs, 00 where an erase does.
 -- BYTE is two hex digits; N and M are decimal numbers, from 1 after *; R is a decimal number from 0 to 15; A is one to six hex digits, H one to sixteen; hex
 -- digits are of either case, words of lower case only.
 -- FILE is a word of any bytes: only a blank or the line's end ends it, and signs and # are part of it; it does not begin with #, and a file called raw is ./raw.

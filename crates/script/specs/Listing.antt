@@ -6,8 +6,8 @@ use mathlib.Core.List.{List, [], _∷_}
 use lib.ListN.{replicate, set, take}
 use Rattle.rules.specs.Words.{pick}
 use Rattle.rules.specs.Texts.{ascii}
-use Rattle.grammar.specs.Places.{lineStart, afterByte, afterByteStar, afterBytes, afterReply, afterReplyCount, afterSlash, afterMarkCount, afterEqual, afterExpected, afterTilde, afterExpectedStar, afterExpectedTimes, afterRefuse, lineDone, afterEvent, afterCut, afterQuestion, afterAsked, afterAnswer, afterAnswerTilde, afterAnswerStar, afterAnswerTimes, afterDump, afterDumpId, afterDumpPlace, afterFill, afterFillId, afterFillPlace, afterFillCount, afterLend, afterLendArray, inFields, afterProtect, afterPerm, afterRun, afterAside, afterRunKind, afterAsideKind, afterNoReply, afterNoReplySlash, afterAny, afterAnyStar, afterAnyTimes, afterAnswerAny, afterAnswerAnyStar, afterAnswerAnyTimes, afterBurst, afterSave, afterLoad, afterRaw, afterCompare, afterCompareRaw, afterNew}
-use Rattle.grammar.specs.Slots.{verb, wanted, marksGiven, marks, expecting, judged, refused, from, size, filling, burst, ofId, old, protection, permanent, runKind, runNumber, asideKind, asideNumber, sqi, wel, ioc, wpen, wpld, sec, enable, ba}
+use Rattle.grammar.specs.Places.{lineStart, afterByte, afterByteStar, afterBytes, afterReply, afterReplyCount, afterSlash, afterMarkCount, afterEqual, afterExpected, afterTilde, afterExpectedStar, afterExpectedTimes, afterRefuse, lineDone, afterEvent, afterCut, afterQuestion, afterAsked, afterAnswer, afterAnswerTilde, afterAnswerStar, afterAnswerTimes, afterDump, afterDumpId, afterDumpPlace, afterFill, afterFillId, afterFillPlace, afterFillCount, afterLend, afterLendArray, inFields, afterProtect, afterPerm, afterRun, afterAside, afterRunKind, afterAsideKind, afterNoReply, afterNoReplySlash, afterAny, afterAnyStar, afterAnyTimes, afterAnswerAny, afterAnswerAnyStar, afterAnswerAnyTimes, afterBurst, afterSave, afterLoad, afterRaw, afterCompare, afterCompareRaw, afterNew, afterTorn, afterTornCount, afterTornByte, afterCutCount}
+use Rattle.grammar.specs.Slots.{verb, wanted, marksGiven, marks, expecting, judged, refused, from, size, filling, burst, tearing, ofId, old, protection, permanent, runKind, runNumber, asideKind, asideNumber, sqi, wel, ioc, wpen, wpld, sec, enable, ba}
 use Rattle.grammar.specs.Verbs as verbs
 use Rattle.script.specs.declared.Line.{Line}
 use Rattle.script.specs.declared.Reading.{Reading}
@@ -125,6 +125,9 @@ lines =
     (0x03 ∷ 0x00 ∷ 0x01 ∷ 0xFE ∷ []) (0x11 ∷ 0x22 ∷ 0xFF ∷ 0x00 ∷ []) (1 ∷ 1 ∷ 1 ∷ 0 ∷ [])
     ∷ sends "02 00 00 00 00 ! 11         # a refusal is expected" (0x02 ∷ 0x00 ∷ 0x00 ∷ 0x00 ∷ 0x00 ∷ []) (λ l. with judged 1 (with refused 11 l))
     ∷ plain "cut 100                     # power cut after 100 bytes" verbs.cut (with from 100)
+    ∷ plain "cut 100 F0                  # and byte 100 torn by F0" verbs.cut (λ l. with from 100 (with tearing 0x1F0 l))
+    ∷ sends "99 torn 100 F0              # a reset, the same" (0x99 ∷ []) (λ l. with from 100 (with tearing 0x1F0 l))
+    ∷ sends "99 torn 100                 # its m as 01 has it" (0x99 ∷ []) (with from 100)
     ∷ plain "new                         # a new chip, array all FF" verbs.new alone
     ∷ plain "new old                     # the same of the old part" verbs.new (with old 1)
     ∷ plain "" verbs.blank alone
@@ -143,6 +146,11 @@ lines =
     ∷ sends "03 > 2 = kept ! 4" (0x03 ∷ []) (λ l. with wanted 2 (with expecting 2 (with judged 1 (with refused 4 l))))
     ∷ plain "done!12" verbs.done (λ l. with judged 1 (with refused 12 l))
     ∷ plain "cut 7!5" verbs.cut (λ l. with from 7 (with judged 1 (with refused 5 l)))
+    ∷ plain "cut 0 00!0" verbs.cut (λ l. with tearing 0x100 (with judged 1 l))
+    ∷ sends "99 torn 0 00 ! 6" (0x99 ∷ []) (λ l. with tearing 0x100 (with judged 1 (with refused 6 l)))
+    ∷ sends "99 torn 7!0" (0x99 ∷ []) (λ l. with from 7 (with judged 1 l))
+    ∷ row "99 torn 7>2=FF*2" verbs.frame (λ l. with from 7 (with wanted 2 (with expecting 1 l))) (0x99 ∷ []) (0xFF ∷ 0xFF ∷ []) (1 ∷ 1 ∷ [])
+    ∷ sends "05 5A*2 torn 18446744073709551615 ff > 1 / 0" (0x05 ∷ 0x5A ∷ 0x5A ∷ []) (λ l. with from 0xFFFF_FFFF_FFFF_FFFF (with tearing 0x1FF (with wanted 1 (with marksGiven 1 l))))
     ∷ plain "status" verbs.status alone
     ∷ row "status = 00 ??" verbs.status (with expecting 1) [] (0x00 ∷ 0x00 ∷ []) (1 ∷ 0 ∷ [])
     ∷ row "status = ?? ~08" verbs.status (with expecting 1) [] (0x00 ∷ 0x08 ∷ []) (0 ∷ 2 ∷ [])
@@ -230,6 +238,16 @@ wrongLines =
     ∷ wrong "done 5" afterEvent "5" 1 6
     ∷ wrong "cut" afterCut "" 0 4
     ∷ wrong "cut ten" afterCut "ten" 3 5
+    ∷ wrong "cut 5 F" afterCutCount "F" 1 7
+    ∷ wrong "cut 5 F0 F0" afterEvent "F0" 2 10
+    ∷ wrong "cut torn 5" afterCut "torn" 4 5
+    ∷ wrong "torn 5" lineStart "torn" 4 1
+    ∷ wrong "done torn 5" afterEvent "torn" 4 6
+    ∷ wrong "> 1 torn 5" afterReplyCount "torn" 4 5
+    ∷ wrong "99 torn" afterTorn "" 0 8
+    ∷ wrong "99 torn F0" afterTorn "F0" 2 9
+    ∷ wrong "99 torn 5 F" afterTornCount "F" 1 11
+    ∷ wrong "99 torn 5 F0 F0" afterTornByte "F0" 2 14
     ∷ wrong "status ! 0" afterQuestion "!" 1 8
     ∷ wrong "dump 0 4 = kept" afterAsked "kept" 4 12
     ∷ wrong "dump 0 4 = 11 ! 0" afterAnswer "!" 1 15
@@ -289,6 +307,9 @@ hints =
     ∷ hinted "record WEL" lowerCase
     ∷ hinted "new OLD" lowerCase
     ∷ hinted "compare RAW x" lowerCase
+    ∷ hinted "99 Torn 5" lowerCase
+    ∷ hinted "99 torn 5 0xF0" twoDigits
+    ∷ hinted "cut 5 F" twoDigits
     ∷ hinted "Finish" noHint
     ∷ hinted "0G" noHint
     ∷ hinted "=" noHint

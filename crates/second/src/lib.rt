@@ -1,8 +1,8 @@
 // A bench chip, the SST26WF016BA or the old part SST26WF016B, written from the rules of the bench chip (document 01), the
-// requests for burst reads (W-201), for chips sent by post (W-203) and for the BA part (W-204), and the two parts' data sheet
-// (002). One flat state, and three events over it: a frame, a completion, a power cut; beside them a chip is written to a file
-// and read from one. The text goes through document 01 in its order; the words in quotation marks are its own, or a request's
-// where a comment or the section's title says so.
+// requests for burst reads (W-201), for chips sent by post (W-203), for the BA part (W-204) and for a reset in the middle of an
+// erase (W-205), and the two parts' data sheet (002). One flat state, and three events over it: a frame, a completion, a power
+// cut; beside them a chip is written to a file and read from one. The text goes through document 01 in its order; the words in
+// quotation marks are its own, or a request's where a comment or the section's title says so.
 // Every function is proved to be safe and to end, and says nothing more than that.
 ghost use Prim.Native.Nat.{_≤_, _<_};
 
@@ -36,6 +36,12 @@ pub struct Flat {
 pub struct Step {
     pub number: u8,
     pub state: Flat,
+}
+
+// What a frame event carries beside its bytes and its buffers: the count k and the byte m of W-205.
+pub struct Extra {
+    pub k: u64,
+    pub m: u8,
 }
 
 // A byte of a reply, with its mark.
@@ -691,8 +697,8 @@ fn dropped(s: Flat) -> Flat {
     next
 }
 
-// "Reset (99): SPI, BUSY, WEL, WSE, WSP 0, IOC at its power-up value, running and suspended work dropped with its target
-// unchanged. WPLD, SEC, WPEN and both protection registers stay." W-201: "Power-up and reset set 8"
+// "Reset (99): SPI, BUSY, WEL, WSE, WSP 0, IOC at its power-up value, running and suspended work dropped .. WPLD, SEC, WPEN and
+// both protection registers stay." W-201: "Power-up and reset set 8". What W-205 has the running work do comes before this.
 fn reset(s: Flat) -> Flat {
     let mut next = dropped(s);
     next.sqi = false;
@@ -749,9 +755,9 @@ fn acted(s: Flat, opcode: u8, sent: &[u8]) -> Flat {
     }
 }
 
-// ---- Completion and power cut ----
+// ---- Completion, power cut, and a reset while busy ----
 
-// The first k bytes of a range of this size.
+// How many "the first k bytes" of a range of this size are: k if it "has a byte k (counted from 0)", else all of it.
 fn cut_to(size: usize, k: u64) -> usize
     ensures { λ r. ⌜ r ≤ size ⌝ }
 {
@@ -784,20 +790,47 @@ fn program(memory: &mut [u8], start: usize, buffer: [u8; 256], count: usize)
     }
 }
 
+// An erase that ends after k bytes. W-205: "The first k bytes are finished. If the range has a byte k (counted from 0), that
+// byte becomes, .. for an erase, old OR m. The rest is unchanged."
+fn erase_to(array: &mut [u8], start: usize, size: usize, k: u64, m: u8)
+    requires { ⌜ start ≤ 2097152 ⌝ }
+    requires { ⌜ size ≤ 2097152 ⌝ }
+{
+    let count = cut_to(size, k);
+    erase(array, start, start + count);
+    if count < size {
+        let old = byte_at(array, start + count);
+        put(array, start + count, old | m);
+    }
+}
+
+// A program that ends after k bytes. W-205: "for a program, old AND (finished OR m)". "The range of 02, 32 and A5 is the whole
+// page."
+fn program_to(memory: &mut [u8], start: usize, buffer: [u8; 256], k: u64, m: u8)
+    requires { ⌜ start ≤ 2097152 ⌝ }
+{
+    let count = cut_to(256, k);
+    program(memory, start, buffer, count);
+    if count < 256 {
+        let old = byte_at(memory, start + count);
+        let finished = old & buffer[count];
+        put(memory, start + count, old & (finished | m));
+    }
+}
+
 // "The running operation's range, in rising address order, has its first k bytes finished and the rest unchanged (all
-// finished if k is larger). The range of 02, 32 and A5 is the whole page."
-fn finish_bytes(s: Flat, array: &mut [u8], security: &mut [u8], k: u64) {
+// finished if k is larger)", but for W-205's byte k.
+fn finish_bytes(s: Flat, array: &mut [u8], security: &mut [u8], k: u64, m: u8) {
     let kind = s.run_kind;
     let number = s.run_number;
     let buffer = s.buffer;
     let start = range_start(kind, number);
-    let size = range_size(kind, number);
     match kind {
-        1 | 2 | 3 => erase(array, start, start + cut_to(size, k)),
-        4 => program(array, start, buffer, cut_to(256, k)),
+        1 | 2 | 3 => erase_to(array, start, range_size(kind, number), k, m),
+        4 => program_to(array, start, buffer, k, m),
         5 => {
             let page = number as usize % 8;
-            program(security, page * 256, buffer, cut_to(256, k));
+            program_to(security, page * 256, buffer, k, m);
         }
         _ => {}
     }
@@ -824,6 +857,25 @@ fn finish_registers(s: Flat) -> Flat {
         _ => {}
     }
     next
+}
+
+// What the running operation has done when a power cut stops it, or by W-205 "an accepted 99 while busy". Where nothing runs, and
+// to the range of suspended work, nothing is done. The record is the one before the power-up or the reset.
+fn stopped(s: Flat, array: &mut [u8], security: &mut [u8], k: u64, m: u8) -> Flat {
+    finish_bytes(s, array, security, k, m);
+    // "85, 01 and E8 act fully if k is 1 or more, else not", W-205: "before the registers are reset"
+    if k == 0 {
+        return s;
+    }
+    finish_registers(s)
+}
+
+// W-205: k and m are "used only by an accepted 99 while busy"; s is the record of a frame that is accepted.
+fn stopped_by(opcode: u8, s: Flat, array: &mut [u8], security: &mut [u8], x: Extra) -> Flat {
+    if opcode != 0x99 {
+        return s;
+    }
+    stopped(s, array, security, x.k, x.m)
 }
 
 // "Completion sets BUSY and WEL to 0." After a program the buffer is all FF again.
@@ -1193,7 +1245,23 @@ fn admitted(s: Flat, array: usize, security: usize) -> bool {
     well_formed(s)
 }
 
-// A frame: the bytes sent while CE# is low, and the two reply buffers.
+// The reply and the record of a frame that is done; s has its enable used up already.
+fn carried_out(
+    s: Flat,
+    array: &mut [u8],
+    security: &mut [u8],
+    sent: &[u8],
+    reply: &mut [u8],
+    marks: &mut [u8],
+    x: Extra,
+) -> Flat {
+    answer(s, array, security, sent, reply, marks);
+    let opcode = byte_at(sent, 0);
+    let left = stopped_by(opcode, s, array, security, x);
+    acted(left, opcode, sent)
+}
+
+// A frame: the bytes sent while CE# is low, and the two reply buffers. W-205: it "also carries a count k and a byte m"
 pub fn frame(
     s: Flat,
     array: &mut [u8],
@@ -1201,6 +1269,7 @@ pub fn frame(
     sent: &[u8],
     reply: &mut [u8],
     marks: &mut [u8],
+    x: Extra,
 ) -> Step {
     // "Refusal 1 and 12 change nothing at all."
     if !frame_sized(sent.len(), reply.len(), marks.len()) {
@@ -1222,8 +1291,7 @@ pub fn frame(
         no_reply(reply, marks);
         return given(number, used);
     }
-    answer(s, array, security, sent, reply, marks);
-    let next = acted(used, byte_at(sent, 0), sent);
+    let next = carried_out(used, array, security, sent, reply, marks, x);
     given(0, next)
 }
 
@@ -1236,24 +1304,19 @@ pub fn completion(s: Flat, array: &mut [u8], security: &mut [u8]) -> Step {
     if s.run_kind == 0 {
         return given(12, s);
     }
-    finish_bytes(s, array, security, 2097152);
+    // No range has a byte 2,097,152: all of it is finished, and no m is used.
+    finish_bytes(s, array, security, 2097152, 0);
     let next = completed(s);
     given(0, next)
 }
 
-// A power cut with a count k.
-pub fn power_cut(s: Flat, array: &mut [u8], security: &mut [u8], k: u64) -> Step {
+// A power cut with a count k; W-205: it "carries m too".
+pub fn power_cut(s: Flat, array: &mut [u8], security: &mut [u8], k: u64, m: u8) -> Step {
     if !admitted(s, array.len(), security.len()) {
         return given(1, s);
     }
-    finish_bytes(s, array, security, k);
-    // "85, 01 and E8 act fully if k is 1 or more, else not."
-    if k == 0 {
-        let unfinished = powered_up(s);
-        return given(0, unfinished);
-    }
-    let finished = finish_registers(s);
-    let next = powered_up(finished);
+    let left = stopped(s, array, security, k, m);
+    let next = powered_up(left);
     given(0, next)
 }
 

@@ -1,10 +1,11 @@
-// The record without its buffer when work ends.
+// The record without its buffer when work ends or is stopped.
 use rules::Rest;
 use rules::Work;
 use rules::Works;
 ghost use mathlib.Core.Path.{_≡_};
-ghost use Rattle.rules.specs.Words.{pick};
-ghost use Rattle.rules.specs.Commands.{settled, rested, afterCut};
+ghost use mathlib.Core.Bool.{false};
+ghost use Rattle.rules.specs.Fields.{withEnable};
+ghost use Rattle.rules.specs.Commands.{afterReset, settled, settledFirst, rested, afterCut};
 
 // The registers that finished work sets.
 fn settle(r: Rest) -> Rest
@@ -65,18 +66,33 @@ pub fn completed(r: Rest) -> Rest
     rest(settle(r))
 }
 
-// After a power cut; `some`: at least one byte was finished.
-pub fn cut(r: Rest, some: bool) -> Rest
-    ensures { λ q. ⌜ q ≡ afterCut (pick some (settled (r .works .running) r) r) ⌝ }
+// Where work is stopped after k bytes.
+fn settled_first(r: Rest, k: u64) -> Rest
+    ensures { λ q. ⌜ q ≡ settledFirst k r ⌝ }
 {
-    if some {
-        let left = settle(r);
-        return power::powered_up(
-            left.flags.ba,
-            left.flags.sec,
-            left.flags.wpen,
-            left.locks.permanent,
-        );
+    if 0 < k {
+        return settle(r);
     }
-    power::powered_up(r.flags.ba, r.flags.sec, r.flags.wpen, r.locks.permanent)
+    r
+}
+
+// After a power cut.
+pub fn cut(r: Rest, k: u64) -> Rest
+    ensures { λ q. ⌜ q ≡ afterCut (settledFirst k r) ⌝ }
+{
+    let left = settled_first(r, k);
+    power::powered_up(
+        left.flags.ba,
+        left.flags.sec,
+        left.flags.wpen,
+        left.locks.permanent,
+    )
+}
+
+// After a reset.
+pub fn reset(r: Rest, k: u64) -> Rest
+    ensures { λ q. ⌜ q ≡ afterReset (settledFirst k (withEnable false r)) ⌝ }
+{
+    let left = settled_first(r, k);
+    power::reset(left)
 }

@@ -1,8 +1,9 @@
 -- A row of what is told of the line that was played, by its part.
 use Prim.Native.Nat.{ℕ, _*_, min}
 use mathlib.Core.List.{List}
-use lib.Dec.{ltb}
+use lib.Dec.{eqb, ltb}
 use lib.ListN.{length}
+use Rattle.rules.specs.declared.Work.{Work}
 use Rattle.rules.specs.Words.{pick}
 use Rattle.rules.specs.Blocks.{arraySize, securitySize}
 use Rattle.grammar.specs.Slots as slots
@@ -20,6 +21,7 @@ use Rattle.lending.specs.Lending.{wanted, marksWanted}
 use Rattle.reasons.specs.Reasons.{numberRow, whyRow, unmetRow, expectedFrom, cameRow}
 use Rattle.heads.specs.Heads.{headRow, secondRow}
 use Rattle.heads.specs.Statuses.{configurationRow, bitRow, protocolTold}
+use Rattle.tear_rows.specs.Tears.{stoppedRow, tornRow}
 use Rattle.byte_rows.specs.Bytes.{byteRow, moreRow}
 use Rattle.byte_rows.specs.Unheld.{unheldRow}
 use Rattle.ordering.specs.declared.Part.{Part}
@@ -28,6 +30,11 @@ use Rattle.ordering.specs.declared.Place.{Place}
 -- row i of a remark, from its 79 i-th byte on
 unfoldable pub remarkPart : List ℕ → ℕ → Row
 remarkPart remark i = pick (ltb (min i 65537 * 79) (length remark)) (remarkRow remark (min i 65537 * 79)) blank
+
+-- what the line stopped, and what it tore
+unfoldable pub tornPart : ℕ → ℕ → ℕ → Work → List ℕ → List ℕ → List ℕ → List ℕ → Row
+tornPart i verb number ran s sent array security =
+    pick (eqb i 0) (stoppedRow verb number ran (slot s slots.from) sent) (tornRow verb number ran s sent array security)
 
 -- a part's row i, by the line and what it came to. The lists are what the line sent, expects, how it expects it, remarks, was answered, and the two memories
 abbrev pub partRow : Part → ℕ → Playing → Line → List ℕ → List ℕ → List ℕ → List ℕ → List ℕ → List ℕ → List ℕ → List ℕ → Row
@@ -47,6 +54,8 @@ partRow Part.Protocol i p l sent expected known remark reply marks array securit
 partRow Part.Number i p l sent expected known remark reply marks array security = numberRow (l .verb) (p .number)
 partRow Part.Why i p l sent expected known remark reply marks array security =
     whyRow (l .verb) (p .number) (p .bench .array) (p .bench .security) (slot (l .slots) slots.wanted) (marksWanted Event.Frame (l .slots)) (p .before) sent
+partRow Part.Torn i p l sent expected known remark reply marks array security =
+    tornPart i (l .verb) (p .number) (p .before .rest .works .running) (l .slots) sent array security
 partRow Part.Unmet i p l sent expected known remark reply marks array security =
     unmetRow i (p .verdict) (slot (l .slots) slots.refused) (l .expected) (slot (l .slots) slots.wanted)
 partRow Part.Expected i p l sent expected known remark reply marks array security =

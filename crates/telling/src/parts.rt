@@ -3,11 +3,12 @@ use lending::marks_given;
 use ordering::Part;
 use ordering::Place;
 use rows::Row;
+use rules::Work;
 use rules::plain::smaller;
 use script::Line;
 use standing::Playing;
 ghost use mathlib.Core.Path.{_≡_};
-ghost use Rattle.telling.specs.Parts.{remarkPart, partRow, rowOf};
+ghost use Rattle.telling.specs.Parts.{remarkPart, tornPart, partRow, rowOf};
 
 fn remark_row(remark: &[u8], i: usize) -> Row
     ensures { λ q. ⌜ q ≡ remarkPart (now (remark .entry)) i ⌝ }
@@ -17,6 +18,25 @@ fn remark_row(remark: &[u8], i: usize) -> Row
         return rows::remark(remark, from);
     }
     rows::empty()
+}
+
+// What the line stopped, and what it tore.
+fn torn_row(
+    i: usize,
+    verb: u8,
+    number: u8,
+    ran: Work,
+    slots: [u64; 24],
+    sent: &[u8],
+    array: &[u8],
+    security: &[u8],
+) -> Row
+    ensures { λ q. ⌜ q ≡ tornPart i verb number ran slots (now (sent .entry)) (now (array .entry)) (now (security .entry)) ⌝ }
+{
+    if i == 0 {
+        return tear_rows::stopped(verb, number, ran, slots[7], sent);
+    }
+    tear_rows::torn(verb, number, ran, slots, sent, array, security)
 }
 
 // A part's row i of a line, with what is lent cut to what the line is about.
@@ -103,6 +123,7 @@ fn part_row(
             before,
             sent,
         ),
+        Part::Torn => torn_row(i, l.verb, p.number, ran, slots, sent, array, security),
         Part::Unmet => reasons::unmet(i, v, slots[6], l.expected, wanted),
         Part::Expected => reasons::expected(v.place, v.compared, expected, known),
         Part::Came => reasons::came(v.place, v.compared, reply, marks, expected, known),

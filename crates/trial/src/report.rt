@@ -6,7 +6,7 @@ use second::Flat;
 use standing::Playing;
 
 // Places of what is counted: frames by opcode; done ones, of the old part and of BA; events by number, by what runs, by what is suspended; burst reads by
-// their length; runs by how they begin and by the part; the checklist's lines.
+// their length; runs by how they begin and by the part; the checklist's lines; resets and power cuts by what they stop.
 const SENT: usize = 4096;
 
 const DONE: usize = 4352;
@@ -28,6 +28,10 @@ const BURSTS: usize = 4930;
 const RUNS: usize = 4946;
 
 const LINES: usize = 4960;
+
+const RESETS: usize = 5050;
+
+const CUTS: usize = 5060;
 
 fn plus(base: usize, n: usize) -> usize {
     std::num::wrapping_add_usize(base, n)
@@ -72,10 +76,16 @@ pub fn event_counted(tally: &mut Counts, before: Flat, l: Line, frame: &[u8], nu
     if before.sus_kind != 0 {
         bump(tally, plus(BESIDE, before.run_kind as usize));
     }
+    if (l.verb == 3) & (number == 0) {
+        bump(tally, plus(CUTS, before.run_kind as usize));
+    }
     if l.sent != 0 {
         let opcode = at(frame, 0) as usize;
         bump(tally, plus(SENT, opcode));
         if number == 0 {
+            if opcode == 0x99 {
+                bump(tally, plus(RESETS, before.run_kind as usize));
+            }
             bump(tally, plus(by_part(before.ba, DONE, DONE_BA), opcode));
             if (opcode == 0x0c) | (opcode == 0xec) {
                 bump(tally, plus(BURSTS, before.burst as usize));
@@ -194,6 +204,9 @@ pub fn counts_said(tally: &Counts) {
         b"work beside a suspension",
     );
     kinds_said(tally, BURSTS, b"\x00\x01\x02\x03", b"burst reads");
+    let kinds = b"\x01\x02\x03\x04\x05\x06\x07\x08";
+    kinds_said(tally, RESETS, kinds, b"work stopped by a reset");
+    kinds_said(tally, CUTS, kinds, b"work stopped by a power cut");
     runs_said(tally, 0, b"runs from new chips");
     runs_said(tally, 1, b"runs from records");
     runs_said(tally, 2, b"runs from broken records");

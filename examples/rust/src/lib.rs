@@ -30,6 +30,7 @@ mod library {
             reply_len: usize,
             marks: *mut u8,
             marks_len: usize,
+            x: super::Circumstances,
         ) -> u8;
         pub fn fulkibono_completion(
             record: *mut u8,
@@ -47,6 +48,7 @@ mod library {
             security: *mut u8,
             security_len: usize,
             k: u64,
+            m: u8,
         ) -> u8;
         pub fn fulkibono_image_write(
             record: *const u8,
@@ -174,6 +176,20 @@ impl Work {
     }
 }
 
+/// What a frame carries beside its bytes and buffers. It counts only where the frame is a 99 that is accepted while something runs: such a reset stops the
+/// running operation in its middle, and so does a power cut. Of the operation's range the first k bytes are finished (all, if k is larger); byte k, if the
+/// range has one, becomes old AND (finished OR m) for a program and old OR m for an erase; the others are unchanged. 85, 01 and E8 act fully if k is 1 or
+/// more, else not, and then the registers are reset.
+///
+/// The default is all zero. Mind the first byte of a program: k 0 and m 00 leave the target of an erase unchanged and finish the first byte of a page that
+/// is being programmed. `Record::untorn` leaves either unchanged.
+#[repr(C)]
+#[derive(Clone, Copy, PartialEq, Eq, Debug, Default)]
+pub struct Circumstances {
+    pub k: u64,
+    pub m: u8,
+}
+
 /// A chip record. Its bytes can be kept and read back; bytes that are no record's are refused by every event, with number 1.
 #[repr(transparent)]
 #[derive(Clone, PartialEq, Eq)]
@@ -245,7 +261,33 @@ impl Record {
         8 << (self.0[PLACE_BURST] & 3)
     }
 
-    /// The bytes sent while CE# is low. Reply and marks have one length.
+    /// The m that leaves byte k of what runs unchanged: FF of a program, else 00.
+    pub fn clean_m(&self) -> u8 {
+        match self.running().kind {
+            KIND_PAGE_PROGRAM | KIND_SECURITY_PROGRAM => 0xFF,
+            _ => 0x00,
+        }
+    }
+
+    /// With these a reset leaves all of its target unchanged.
+    pub fn untorn(&self) -> Circumstances {
+        Circumstances { k: 0, m: self.clean_m() }
+    }
+
+    /// `frame` where a reset leaves its target unchanged.
+    pub fn send(
+        &mut self,
+        array: &mut Array,
+        security: &mut Security,
+        sent: &[u8],
+        reply: &mut [u8],
+        marks: &mut [u8],
+    ) -> Result<(), Refusal> {
+        self.frame(array, security, sent, reply, marks, self.untorn())
+    }
+
+    /// The bytes sent while CE# is low. Reply and marks have one length. No frame but a 99 that stops the running operation changes the array or the
+    /// Security ID.
     pub fn frame(
         &mut self,
         array: &mut Array,
@@ -253,6 +295,7 @@ impl Record {
         sent: &[u8],
         reply: &mut [u8],
         marks: &mut [u8],
+        x: Circumstances,
     ) -> Result<(), Refusal> {
         // Safety: each part is lent with its own length, and the references keep them apart.
         answer(unsafe {
@@ -269,6 +312,7 @@ impl Record {
                 reply.len(),
                 marks.as_mut_ptr(),
                 marks.len(),
+                x,
             )
         })
     }
@@ -288,8 +332,9 @@ impl Record {
         })
     }
 
-    /// A power cut after k bytes of the running operation, and power-up. 85, 01 and E8 act fully if k is 1 or more, else not.
-    pub fn power_cut(&mut self, array: &mut Array, security: &mut Security, k: u64) -> Result<(), Refusal> {
+    /// A power cut in the middle of the running operation, and power-up. k and m say how far it came, as in `Circumstances`: with `clean_m` byte k is
+    /// unchanged.
+    pub fn power_cut(&mut self, array: &mut Array, security: &mut Security, k: u64, m: u8) -> Result<(), Refusal> {
         // Safety: as in `frame`.
         answer(unsafe {
             library::fulkibono_power_cut(
@@ -300,6 +345,7 @@ impl Record {
                 security.0.as_mut_ptr(),
                 SECURITY,
                 k,
+                m,
             )
         })
     }

@@ -16,11 +16,21 @@ impl Bench {
     }
 
     fn send(&mut self, sent: &[u8], n: usize) -> (u8, Vec<u8>, Vec<u8>) {
+        self.send_in(sent, n, self.chip.untorn())
+    }
+
+    fn send_in(&mut self, sent: &[u8], n: usize, x: Circumstances) -> (u8, Vec<u8>, Vec<u8>) {
         let (mut reply, mut marks) = (vec![0u8; n], vec![0u8; n]);
         let array = Array::of(&mut self.array).unwrap();
         let security = Security::of(&mut self.security).unwrap();
-        let number = self.chip.frame(array, security, sent, &mut reply, &mut marks).err().map_or(0, |r| r.number());
+        let number = self.chip.frame(array, security, sent, &mut reply, &mut marks, x).err().map_or(0, |r| r.number());
         (number, reply, marks)
+    }
+
+    /// 66, then 99 with k and m.
+    fn reset(&mut self, k: u64, m: u8) {
+        let x = Circumstances { k, m };
+        assert_eq!((self.send_in(&[0x66], 0, x).0, self.send_in(&[0x99], 0, x).0), (0, 0));
     }
 
     fn image(&mut self) -> Result<Vec<u8>, u8> {
@@ -41,10 +51,15 @@ impl Bench {
         self.chip.completion(array, security).err().map_or(0, |r| r.number())
     }
 
+    /// With byte k unchanged.
     fn cut(&mut self, k: u64) -> u8 {
+        self.cut_torn(k, self.chip.clean_m())
+    }
+
+    fn cut_torn(&mut self, k: u64, m: u8) -> u8 {
         let array = Array::of(&mut self.array).unwrap();
         let security = Security::of(&mut self.security).unwrap();
-        self.chip.power_cut(array, security, k).err().map_or(0, |r| r.number())
+        self.chip.power_cut(array, security, k, m).err().map_or(0, |r| r.number())
     }
 
     /// The byte that 35 reads.
@@ -117,9 +132,14 @@ fn a_reset_and_a_power_up_give_the_part_its_ioc() {
             assert_eq!((b.send(&[0x66], 0).0, b.send(&[0x99], 0).0), (0, 0));
             assert_eq!(b.configuration(), 0x08 | ioc | said & 0x80);
             assert_eq!((other.cut(0), other.configuration()), (0, 0x08 | ioc | said & 0x80));
-            // in flight: a reset and a cut at 0 lose it, a cut at 1 leaves WPEN
+            // in flight: a reset and a cut at 0 lose it, at 1 or more they leave WPEN, and m is not used
             let mut b = running();
             assert_eq!((b.send(&[0x66], 0).0, b.send(&[0x99], 0).0, b.configuration()), (0, 0, 0x08 | ioc));
+            for (k, m) in [(1, 0xFF), (2, 0x00), (u64::MAX, 0x80)] {
+                let mut b = running();
+                b.reset(k, m);
+                assert_eq!(b.configuration(), 0x08 | ioc | said & 0x80);
+            }
             let mut b = running();
             assert_eq!((b.cut(0), b.configuration()), (0, 0x08 | ioc));
             let mut b = running();
@@ -169,6 +189,134 @@ fn a_power_cut_in_an_erase() {
     assert_eq!(b.cut(10), 0);
     assert!(b.array[0x2000..0x200A].iter().all(|&x| x == 0xFF) && b.array[0x200A..0x3000].iter().all(|&x| x == 0));
     assert!(b.chip == Record::new());
+}
+
+/// A program of 00 over FF: of the page only the byte at k keeps bits, those of m.
+#[test]
+fn a_reset_in_a_program() {
+    let mut zeros = vec![0x02, 0x00, 0x21, 0x00];
+    zeros.resize(4 + 256, 0x00);
+    for (k, m) in [(100, 0xF0), (255, 0xF0), (0, 0x00), (0, 0xFF), (0, 0x81), (256, 0xF0), (u64::MAX, 0xFF)] {
+        for cut in [false, true] {
+            let mut b = Bench::new();
+            b.send(&[0x06], 0);
+            b.send(&[0x98], 0);
+            b.send(&[0x06], 0);
+            assert_eq!(b.send(&zeros, 0).0, 0);
+            if cut {
+                assert_eq!(b.cut_torn(k, m), 0);
+            } else {
+                b.reset(k, m);
+            }
+            for (i, &byte) in b.array.iter().enumerate() {
+                let place = i.wrapping_sub(0x2100) as u64;
+                let there = if place >= 256 || place > k { 0xFF } else if place == k { m } else { 0x00 };
+                assert_eq!(byte, there, "place {i:06X} with k {k}, m {m:02X}");
+            }
+            assert!(b.chip.running() == Record::new().running() && b.chip.flag(FLAG_IOC) && !b.chip.flag(FLAG_WEL));
+            // a power-up closes the array again, a reset leaves the protection as it is
+            assert_eq!(b.chip.protection(), if cut { 0x5555_FFFF_FFFF } else { 0 });
+        }
+    }
+}
+
+#[test]
+fn a_reset_in_an_erase() {
+    for (k, m, there) in [(0, 0x30, 0x3F), (100, 0x30, 0x3F), (4095, 0x80, 0x8F), (7, 0x00, 0x0F), (7, 0xFF, 0xFF)] {
+        let mut b = Bench::new();
+        b.send(&[0x06], 0);
+        b.send(&[0x98], 0);
+        b.array[0x1000..0x4000].fill(0x0F);
+        b.send(&[0x06], 0);
+        assert_eq!(b.send(&[0x20, 0x00, 0x20, 0x00], 0).0, 0);
+        b.reset(k, m);
+        let torn = 0x2000 + k as usize;
+        assert!(b.array[0x2000..torn].iter().all(|&x| x == 0xFF) && b.array[torn] == there);
+        assert!(b.array[torn + 1..0x4000].iter().all(|&x| x == 0x0F) && b.array[0x1000..0x2000].iter().all(|&x| x == 0x0F));
+    }
+}
+
+#[test]
+fn k_and_m_count_only_where_a_reset_stops_what_runs() {
+    let x = Circumstances { k: 9, m: 0x00 };
+    let suspended = || {
+        let mut b = Bench::new();
+        b.send(&[0x06], 0);
+        b.send(&[0x98], 0);
+        b.array[0x2000..0x3000].fill(0x0F);
+        b.send(&[0x06], 0);
+        b.send(&[0x20, 0x00, 0x20, 0x00], 0);
+        assert_eq!(b.send_in(&[0xB0], 0, x).0, 0);
+        b
+    };
+    let untouched = |b: &Bench| b.array[0x2000..0x3000].iter().all(|&x| x == 0x0F);
+    // only suspended work: dropped, its target unchanged
+    let mut b = suspended();
+    b.reset(9, 0xFF);
+    assert!(untouched(&b) && b.chip.suspended().kind == KIND_NOTHING);
+    // suspended work beside a running program: dropped too, and the program is torn
+    let mut b = suspended();
+    b.send(&[0x06], 0);
+    assert_eq!(b.send_in(&[0x02, 0x00, 0x40, 0x00, 0x11, 0x22], 0, x).0, 0);
+    assert_eq!(b.send_in(&[0x99], 0, x).0, 6);
+    assert_eq!((b.array[0x4000], b.chip.running().kind), (0xFF, KIND_PAGE_PROGRAM));
+    b.reset(1, 0xF0);
+    assert!(untouched(&b) && b.array[0x4000..0x4002] == [0x11, 0xF2]);
+    assert!(b.chip.suspended().kind == KIND_NOTHING && b.chip.running().kind == KIND_NOTHING);
+    // an idle chip
+    b.reset(9, 0x00);
+    assert!(untouched(&b) && b.array[0x4000..0x4003] == [0x11, 0xF2, 0xFF]);
+}
+
+/// The default, all zero, leaves an erase's target and finishes the first byte of a program; `untorn` leaves both.
+#[test]
+fn the_default_and_a_programs_first_byte() {
+    assert_eq!(Circumstances::default(), Circumstances { k: 0, m: 0 });
+    for (x, there) in [(Some(Circumstances::default()), [0x11, 0xFF]), (None, [0xFF, 0xFF])] {
+        let mut b = Bench::new();
+        b.send(&[0x06], 0);
+        b.send(&[0x98], 0);
+        b.send(&[0x06], 0);
+        b.send(&[0x02, 0x00, 0x40, 0x00, 0x11, 0x22], 0);
+        assert_eq!(b.chip.untorn(), Circumstances { k: 0, m: 0xFF });
+        let x = x.unwrap_or(b.chip.untorn());
+        b.reset(x.k, x.m);
+        assert_eq!(b.array[0x4000..0x4002], there);
+    }
+}
+
+/// In the Security ID: 85 and A5.
+#[test]
+fn a_reset_in_the_security_id() {
+    let mut b = Bench::new();
+    b.send(&[0x06], 0);
+    assert_eq!(b.send(&[0xA5, 0x01, 0x00, 0x00, 0x00, 0x00], 0).0, 0);
+    b.reset(1, 0x3C);
+    assert_eq!(b.security[0xFF..0x103], [0xFF, 0x00, 0x3C, 0xFF]);
+    for (k, locked) in [(0, false), (1, true)] {
+        b.send(&[0x06], 0);
+        assert_eq!(b.send(&[0x85], 0).0, 0);
+        b.reset(k, 0x00);
+        assert_eq!(b.chip.flag(FLAG_SEC), locked);
+    }
+}
+
+/// 8D's bits that E8 sent: lost at 0; at 1 they are in both registers after a reset, and the protection register is the power-up's after a cut.
+#[test]
+fn a_reset_in_the_permanent_bits() {
+    for (k, bits) in [(0, 0), (1, 0x8000_0000_0000)] {
+        for cut in [false, true] {
+            let mut b = Bench::new();
+            b.send(&[0x06], 0);
+            assert_eq!(b.send(&[0xE8, 0x80, 0, 0, 0, 0, 0], 0).0, 0);
+            if cut {
+                assert_eq!(b.cut_torn(k, 0xFF), 0);
+            } else {
+                b.reset(k, 0xFF);
+            }
+            assert_eq!((b.chip.permanent(), b.chip.protection()), (bits, 0x5555_FFFF_FFFF | if cut { 0 } else { bits }));
+        }
+    }
 }
 
 #[test]
@@ -265,7 +413,7 @@ fn sizes_are_held() {
     let mut b = Bench::new();
     let array = Array::of(&mut b.array).unwrap();
     let security = Security::of(&mut b.security).unwrap();
-    let refused = b.chip.frame(array, security, &[0x05], &mut [0; 2], &mut [0; 1]).unwrap_err();
+    let refused = b.chip.send(array, security, &[0x05], &mut [0; 2], &mut [0; 1]).unwrap_err();
     assert_eq!(refused.number(), 1);
     assert_eq!(refused.to_string(), "record not well-formed, or a length outside \"Sizes\"");
 }

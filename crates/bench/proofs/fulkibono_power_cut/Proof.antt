@@ -1,5 +1,6 @@
 -- The event, with nothing lent for a reply. Assumes nothing.
 use mathlib.Core.Path.{refl}
+use Rattle.rules.specs.Works.{tearOf}
 use Rattle.rules.specs.Demands.{cutCall}
 use Rattle.bench.specs.Boundary.{lentBenchOf}
 use Rattle.bench.proofs.Calls.{event-left}
@@ -18,4 +19,4 @@ fulkibono-power-cut-spec =
     (λ c. search needs)
     (λ c. search needs)
     (λ c. search needs)
-    (λ c. let a = c .before .before .before .before .before .before .before .before .before .before .before .before .before .before .before .before .before .before .args in let m = c .before .before .before .before .before .before .before .before .event in event-left (lentBenchOf (a .bytes .now) (a .array .now) (a .security .now)) (cutCall (a .k)) _ (m .last .1 .0) (m .last .1 .1 .0) (m .last .1 .1 .1 .0) (m .last .1 .1 .1 .1 .1 .0) (m .last .1 .1 .1 .1 .1 .1 .0) (m .kept .1 .1 .1 .1 .1 .0) (m .kept .1 .1 .1 .1 .1 .1 .0) (m .ensures)))
+    (λ c. let a = c .before .before .before .before .before .before .before .before .before .before .before .before .before .before .before .before .before .before .args in let m = c .before .before .before .before .before .before .before .before .event in event-left (lentBenchOf (a .bytes .now) (a .array .now) (a .security .now)) (cutCall (tearOf (a .k) (a .m))) _ (m .last .1 .0) (m .last .1 .1 .0) (m .last .1 .1 .1 .0) (m .last .1 .1 .1 .1 .1 .0) (m .last .1 .1 .1 .1 .1 .1 .0) (m .kept .1 .1 .1 .1 .1 .0) (m .kept .1 .1 .1 .1 .1 .1 .0) (m .ensures)))

@@ -24,4 +24,4 @@ completion-turn-spec =
     (λ c. search needs)
     (λ c. search needs)
     (λ c. search needs)
-    (λ c. let a = c .before .before .before .before .before .before .before .before .before .before .before .before .before .before .before .before .before .before .before .before .before .before .before .args in record { outcome = completion-done (a .r) (a .page .now) (a .array .now) (a .security .now) _ (c .before .before .before .before .before .before .before .before .before .before .before .before .before .before .before .before .before .before .before .before .before .before .before .pre .known) _ _ _ _ (c .before .before .before .before .before .before .before .before .before .before .before .before .before .finish-array .last .1 .1 .1 .0) (c .before .before .before .before .before .before .before .before .finish-security .last .1 .1 .1 .0) (not-false _ (c .before .before .before .before .before .before .before .before .before .before .before .before .before .before .before .before .before .before .before .if1 .left)) (c .before .before .before .before .before .before .before .before .before .before .before .before .before .before .before .before .before .is-nothing .ensures) (c .before .before .before .before .before .before .before .before .before .before .before .before .before .before .before .before .if2 .left) (c .done .ensures) (c .before .completed .ensures) (c .before .before .before .before .page-rested .ensures) (c .before .before .before .before .before .before .before .before .before .before .before .before .before .finish-array .ensures) (c .before .before .before .before .before .before .before .before .finish-security .ensures) }))
+    (λ c. let a = c .before .before .before .before .before .before .before .before .before .before .before .before .before .before .before .before .before .before .before .before .before .before .before .args in record { outcome = completion-done (a .r) (a .page .now) (a .array .now) (a .security .now) _ (c .before .before .before .before .before .before .before .before .before .before .before .before .before .before .before .before .before .before .before .before .before .before .before .pre .known) _ _ _ _ (c .before .before .before .before .before .before .before .before .before .before .before .before .before .finish-array .last .1 .1 .1 .1 .0) (c .before .before .before .before .before .before .before .before .finish-security .last .1 .1 .1 .1 .0) (not-false _ (c .before .before .before .before .before .before .before .before .before .before .before .before .before .before .before .before .before .before .before .if1 .left)) (c .before .before .before .before .before .before .before .before .before .before .before .before .before .before .before .before .before .is-nothing .ensures) (c .before .before .before .before .before .before .before .before .before .before .before .before .before .before .before .before .if2 .left) (c .done .ensures) (c .before .completed .ensures) (c .before .before .before .before .page-rested .ensures) (c .before .before .before .before .before .before .before .before .before .before .before .before .before .finish-array .ensures) (c .before .before .before .before .before .before .before .before .finish-security .ensures) }))

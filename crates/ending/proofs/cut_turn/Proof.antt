@@ -1,4 +1,4 @@
--- Malformed, or power-up after the first k bytes. Assumes nothing.
+-- Malformed, or power-up after what was finished. Assumes nothing.
 use mathlib.Core.Path.{sym, _∙_}
 use borrow.Author.Tests.{not-true, not-false}
 use Rattle.turns.proofs.Events.{state-parts, running-right}
@@ -12,7 +12,7 @@ cut-turn-spec =
     tie.close
     (tie.spec
     (λ c κs. search needs)
-    (λ c. let a = c .before .before .before .before .before .args in record { outcome = cut-malformed (a .r) (a .page .now) (a .array .now) (a .security .now) _ (c .before .before .before .before .before .pre .known) (a .k) _ (c .refused .ensures) (not-true _ (c .before .if1 .taken)) })
+    (λ c. let a = c .before .before .before .before .before .args in record { outcome = cut-malformed (a .r) (a .page .now) (a .array .now) (a .security .now) _ (c .before .before .before .before .before .pre .known) (a .tear) _ (c .refused .ensures) (not-true _ (c .before .if1 .taken)) })
     (λ c κs. let a = c .before .before .before .before .before .before .before .args in let s = sym (c .before .before .before .before .before .before .before .pre .known) ∙ not-false _ (c .before .before .before .if1 .left) in (running-right (a .r) (a .page .now) (a .array .now) (a .security .now) s, (state-parts (a .r) (a .page .now) (a .array .now) (a .security .now) s .whole, c .before .before .before .before .before .before .before .pre .paged)))
     (λ c κs. let a = c .before .before .before .before .before .before .before .before .before .before .before .before .args in let s = sym (c .before .before .before .before .before .before .before .before .before .before .before .before .pre .known) ∙ not-false _ (c .before .before .before .before .before .before .before .before .if1 .left) in (running-right (a .r) (a .page .now) (a .array .now) (a .security .now) s, (state-parts (a .r) (a .page .now) (a .array .now) (a .security .now) s .secure, c .before .before .before .before .before .before .before .before .before .before .before .before .pre .paged)))
     (λ c κs. search needs)
@@ -21,4 +21,4 @@ cut-turn-spec =
     (λ c. search needs)
     (λ c. search needs)
     (λ c. search needs)
-    (λ c. let a = c .before .before .before .before .before .before .before .before .before .before .before .before .before .before .before .before .before .before .before .before .before .args in record { outcome = cut-done (a .r) (a .page .now) (a .array .now) (a .security .now) _ (c .before .before .before .before .before .before .before .before .before .before .before .before .before .before .before .before .before .before .before .before .before .pre .known) (a .k) _ _ _ (c .before .before .before .before .before .before .before .before .before .before .before .before .before .finish-array .last .1 .1 .1 .0) (c .before .before .before .before .before .before .before .before .finish-security .last .1 .1 .1 .0) (not-false _ (c .before .before .before .before .before .before .before .before .before .before .before .before .before .before .before .before .before .if1 .left)) (c .done .ensures) (c .before .cut .ensures) (search needs) (c .before .before .before .before .before .before .before .before .before .before .before .before .before .finish-array .ensures) (c .before .before .before .before .before .before .before .before .finish-security .ensures) }))
+    (λ c. let a = c .before .before .before .before .before .before .before .before .before .before .before .before .before .before .before .before .before .before .before .before .before .args in record { outcome = cut-done (a .r) (a .page .now) (a .array .now) (a .security .now) _ (c .before .before .before .before .before .before .before .before .before .before .before .before .before .before .before .before .before .before .before .before .before .pre .known) (a .tear) _ _ _ (c .before .before .before .before .before .before .before .before .before .before .before .before .before .finish-array .last .1 .1 .1 .1 .0) (c .before .before .before .before .before .before .before .before .finish-security .last .1 .1 .1 .1 .0) (not-false _ (c .before .before .before .before .before .before .before .before .before .before .before .before .before .before .before .before .before .if1 .left)) (c .done .ensures) (c .before .cut .ensures) (search needs) (c .before .before .before .before .before .before .before .before .before .before .before .before .before .finish-array .ensures) (c .before .before .before .before .before .before .before .before .finish-security .ensures) }))

@@ -35,7 +35,7 @@ same-length-2 : tie.Need-same-length-2
 same-length-2 c = search needs
 
 returns : tie.Need-returns
-returns c = cut-off (c .before .before .before .before .before .before .before .before .before .before .before .before .args .b) (c .before .before .before .before .before .before .before .before .before .before .before .before .args .array .now) (c .before .before .before .before .before .before .before .before .before .before .before .before .args .security .now) _ _ (c .before .before .before .before .before .before .before .before .smaller .ensures) (c .before .before .before .before .before .before .before .smaller2 .ensures) (c .before .before .before .before .before .before .before .before .before .before .before .before .args .k) _ _ _ (c .before .before .before .before .power-cut .kept .1 .0) (c .before .before .before .before .power-cut .kept .1 .1 .0) (c .before .before .before .before .power-cut .ensures)
+returns c = cut-off (c .before .before .before .before .before .before .before .before .before .before .before .before .args .b) (c .before .before .before .before .before .before .before .before .before .before .before .before .args .array .now) (c .before .before .before .before .before .before .before .before .before .before .before .before .args .security .now) _ _ (c .before .before .before .before .before .before .before .before .smaller .ensures) (c .before .before .before .before .before .before .before .smaller2 .ensures) (c .before .before .before .before .before .before .before .before .before .before .before .before .args .tear) _ _ _ (c .before .before .before .before .power-cut .kept .1 .0) (c .before .before .before .before .power-cut .kept .1 .1 .0) (c .before .before .before .before .power-cut .ensures)
 
 pub cut-spec : {M : Type 1} → statement M
 cut-spec =

@@ -21,8 +21,8 @@ ended-requires c κs = search needs
 enum-told-3 : tie.Need-enum-told-3
 enum-told-3 c = search needs
 
-array-read-cut : tie.Need-array-read-cut
-array-read-cut c = search needs
+tear-of-requires : tie.Need-tear-of-requires
+tear-of-requires c κs = search needs
 
 cut-requires : tie.Need-cut-requires
 cut-requires c κs = search needs
@@ -60,7 +60,7 @@ same-length-8 c = search needs
 
 returns-3 : tie.Need-returns-3
 unfolding powerCut
-returns-3 c = rw (c .before .before .before .before .before .before .before .enum-told3 .given .1) (no-reply _ _ _ _ _ _ _ _ _ refl refl (c .before .before .before .before .cut .ensures))
+returns-3 c = let a = c .before .before .before .before .before .before .before .before .before .before .before .before .before .before .before .before .before .args in rw (c .before .before .before .before .before .before .before .before .enum-told3 .given .1) (no-reply _ _ _ _ _ _ _ _ _ refl refl (rw (c .before .before .before .before .before .before .before .tear-of .ensures) at (c .before .before .before .before .cut .ensures)))
 
 pub happened-spec : {M : Type 1} → statement M
 happened-spec =
@@ -71,7 +71,7 @@ happened-spec =
     enum-told-2
     ended-requires
     enum-told-3
-    array-read-cut
+    tear-of-requires
     cut-requires
     same-length
     same-length-2

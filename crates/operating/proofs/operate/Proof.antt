@@ -1,4 +1,8 @@
 -- The calls in a row are the operation. Assumes nothing.
+use mathlib.Core.Path.{ap, _∙_}
+use Rattle.rules.specs.declared.Circumstances.{Circumstances}
+use Rattle.rules.specs.Promises.{benchOf, carriedOf, stateOf, frameOf}
+use Rattle.operating.specs.Operations.{operated}
 use Rattle.operating.proofs.Laws.{operates}
 use borrow.Author.Needs.{needs}
 use Rattle.operating.proofs.operate.Statement.{statement}
@@ -15,6 +19,9 @@ due-requires c κs = search needs
 
 settled-requires : tie.Need-settled-requires
 settled-requires c κs = search needs
+
+untorn-requires : tie.Need-untorn-requires
+untorn-requires c κs = search needs
 
 frame-requires : tie.Need-frame-requires
 frame-requires c κs = search needs
@@ -45,17 +52,15 @@ same-length-4 c = search needs
 
 returns : tie.Need-returns
 returns c =
-    let shown = c .before .before .before .before .before in
-    let done = shown .before .before in
-    let framed = done .before .before .before .before .before .before .before .before .before in
-    let settled = framed .before .before .before .before .before .before .before .before .before in
-    let due = settled .before .before .before in
-    let first = due .before in
-    let start = first .before .before in
+    let framed = c .before .before .before .before .before .before .before .before .before .before .before .before .before .before .before .before in
+    let settled = c .before .before .before .before .before .before .before .before .before .before .before .before .before .before .before .before .before .before .before .before .before .before .before .before .before .before in
+    let first = c .before .before .before .before .before .before .before .before .before .before .before .before .before .before .before .before .before .before .before .before .before .before .before .before .before .before .before .before .before .before in
+    let a = c .before .before .before .before .before .before .before .before .before .before .before .before .before .before .before .before .before .before .before .before .before .before .before .before .before .before .before .before .before .before .before .before .before .before .before .before .before .before .args in
     record {
-      outcome = operates (start .before .before .before .before .before .before .args .b) (shown .show .last .1 .1 .1 .0)
-          (start .opcode-of .ensures) (first .is-busy .ensures) (due .due .ensures) (settled .settled .ensures) (framed .frame .ensures)
-          (done .is-done .ensures) (shown .show .ensures) (c .before .is-busy2 .ensures) (c .reads-after .ensures);
+      outcome = operates (a .b) (c .before .before .before .before .before .show .last .1 .1 .1 .0)
+          (c .before .before .before .before .before .before .before .before .before .before .before .before .before .before .before .before .before .before .before .before .before .before .before .before .before .before .before .before .before .before .before .before .opcode-of .ensures) (first .is-busy .ensures) (c .before .before .before .before .before .before .before .before .before .before .before .before .before .before .before .before .before .before .before .before .before .before .before .before .before .before .before .before .before .due .ensures) (settled .settled .ensures) (framed .frame .ensures)
+          (c .before .before .before .before .before .before .before .is-done .ensures) (c .before .before .before .before .before .show .ensures) (c .before .is-busy2 .ensures) (c .reads-after .ensures)
+          ∙ ap (λ (x : Circumstances). operated (a .b) (stateOf (benchOf (a .b .chip) (a .array .now) (a .security .now))) (frameOf (carriedOf (a .sent .now) (a .reply .now) (a .marks .now) x))) (c .before .before .before .before .before .before .before .before .before .before .before .before .before .before .before .before .before .before .before .before .before .untorn .ensures);
     }
 
 pub operate-spec : {M : Type 1} → statement M
@@ -66,6 +71,7 @@ operate-spec =
     is-busy-requires
     due-requires
     settled-requires
+    untorn-requires
     frame-requires
     is-done-requires
     show-requires

@@ -48,6 +48,9 @@ enum-told-14 c = search needs
 enum-told-15 : tie.Need-enum-told-15
 enum-told-15 c = search needs
 
+enum-told-16 : tie.Need-enum-told-16
+enum-told-16 c = search needs
+
 returns : tie.Need-returns
 returns c = rw (c .enum-told .given .1)
 
@@ -93,5 +96,8 @@ returns-14 c = rw (c .enum-told14 .given .1)
 returns-15 : tie.Need-returns-15
 returns-15 c = rw (c .enum-told15 .given .1)
 
+returns-16 : tie.Need-returns-16
+returns-16 c = rw (c .enum-told16 .given .1)
+
 pub part-after-spec : {M : Type 1} → statement M
-part-after-spec = tie.close (tie.spec enum-told enum-told-2 enum-told-3 enum-told-4 enum-told-5 enum-told-6 enum-told-7 enum-told-8 enum-told-9 enum-told-10 enum-told-11 enum-told-12 enum-told-13 enum-told-14 enum-told-15 returns returns-2 returns-3 returns-4 returns-5 returns-6 returns-7 returns-8 returns-9 returns-10 returns-11 returns-12 returns-13 returns-14 returns-15)
+part-after-spec = tie.close (tie.spec enum-told enum-told-2 enum-told-3 enum-told-4 enum-told-5 enum-told-6 enum-told-7 enum-told-8 enum-told-9 enum-told-10 enum-told-11 enum-told-12 enum-told-13 enum-told-14 enum-told-15 enum-told-16 returns returns-2 returns-3 returns-4 returns-5 returns-6 returns-7 returns-8 returns-9 returns-10 returns-11 returns-12 returns-13 returns-14 returns-15 returns-16)

@@ -93,6 +93,12 @@ enum-told-15 c = search needs
 empty-requires-11 : tie.Need-empty-requires-11
 empty-requires-11 c κs = search needs
 
+enum-told-16 : tie.Need-enum-told-16
+enum-told-16 c = search needs
+
+empty-requires-12 : tie.Need-empty-requires-12
+empty-requires-12 c κs = search needs
+
 returns : tie.Need-returns
 returns c = rw (c .before .enum-told .given .1) (c .empty .ensures)
 
@@ -138,6 +144,9 @@ returns-14 c = rw (c .before .enum-told14 .given .1) (c .empty10 .ensures)
 returns-15 : tie.Need-returns-15
 returns-15 c = rw (c .before .enum-told15 .given .1) (c .empty11 .ensures)
 
+returns-16 : tie.Need-returns-16
+returns-16 c = rw (c .before .enum-told16 .given .1) (c .empty12 .ensures)
+
 pub part-row-spec : {M : Type 1} → statement M
 part-row-spec =
     tie.close
@@ -172,6 +181,8 @@ part-row-spec =
     empty-requires-10
     enum-told-15
     empty-requires-11
+    enum-told-16
+    empty-requires-12
     returns
     returns-2
     returns-3
@@ -186,4 +197,5 @@ part-row-spec =
     returns-12
     returns-13
     returns-14
-    returns-15)
+    returns-15
+    returns-16)

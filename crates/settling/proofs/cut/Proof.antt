@@ -9,6 +9,4 @@ cut-spec =
     (tie.spec
     (λ c κs. search needs)
     (λ c κs. search needs)
-    (λ c. rw (c .powered-up .ensures, c .before .settle .ensures, c .before .before .if1 .taken))
-    (λ c κs. search needs)
-    (λ c. rw (c .powered-up2 .ensures, c .before .if1 .left)))
+    (λ c. rw (c .powered-up .ensures, c .before .settled-first .ensures)))

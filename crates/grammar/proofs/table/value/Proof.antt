@@ -14,16 +14,23 @@ returns-2 : tie.Need-returns-2
 unfolding valueOf
 returns-2 c = rw (ne-eqb _ _ (c .before .if1 .left), eq-eqb _ _ (c .if2 .taken))
 
-cast-result : tie.Need-cast-result
-cast-result c = search needs
+add-result : tie.Need-add-result
+add-result c = search needs
 
 returns-3 : tie.Need-returns-3
 unfolding valueOf
-returns-3 c = rw (ne-eqb _ _ (c .before .before .if1 .left), ne-eqb _ _ (c .before .if2 .left)) (omega arith)
+returns-3 c = rw (ne-eqb _ _ (c .before .before .before .if1 .left), ne-eqb _ _ (c .before .before .if2 .left), eq-eqb _ _ (c .before .if3 .taken))
+
+cast-result : tie.Need-cast-result
+cast-result c = search needs
 
 returns-4 : tie.Need-returns-4
 unfolding valueOf
-returns-4 c = rw (ne-eqb _ _ (c .before .before .if1 .left), ne-eqb _ _ (c .before .if2 .left)) (omega arith)
+returns-4 c = rw (ne-eqb _ _ (c .before .before .before .if1 .left), ne-eqb _ _ (c .before .before .if2 .left), ne-eqb _ _ (c .before .if3 .left)) (omega arith)
+
+returns-5 : tie.Need-returns-5
+unfolding valueOf
+returns-5 c = rw (ne-eqb _ _ (c .before .before .before .if1 .left), ne-eqb _ _ (c .before .before .if2 .left), ne-eqb _ _ (c .before .if3 .left)) (omega arith)
 
 pub value-spec : {M : Type 1} → statement M
-value-spec = tie.close (tie.spec returns returns-2 cast-result returns-3 returns-4)
+value-spec = tie.close (tie.spec returns returns-2 add-result returns-3 cast-result returns-4 returns-5)

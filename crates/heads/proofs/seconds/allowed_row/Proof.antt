@@ -1,4 +1,5 @@
 -- The form of the place. Assumes nothing.
+use borrow.Author.Tests.{lt-ltb, le-ltb}
 use Rattle.heads.specs.Heads.{allowedRow}
 use borrow.Author.Needs.{needs}
 use Rattle.heads.proofs.seconds.allowed_row.Statement.{statement}
@@ -6,9 +7,6 @@ use Rattle.heads.proofs.seconds.allowed_row.Tie as tie
 
 below-requires : tie.Need-below-requires
 below-requires c κs = search needs
-
-smaller-requires : tie.Need-smaller-requires
-smaller-requires c κs = search needs
 
 add-form : tie.Need-add-form
 add-form c = search needs
@@ -18,7 +16,21 @@ form-requires c κs = search needs
 
 returns : tie.Need-returns
 unfolding allowedRow
-returns c = rw (← c .before .before .below .ensures, ← c .before .smaller .ensures) (c .form .ensures)
+returns c = rw (lt-ltb _ _ (c .before .if1 .taken), ← c .before .before .below .ensures) (c .form .ensures)
+
+smaller-requires : tie.Need-smaller-requires
+smaller-requires c κs = search needs
+
+add-form-2 : tie.Need-add-form-2
+add-form-2 c = search needs
+
+form-requires-2 : tie.Need-form-requires-2
+form-requires-2 c κs = search needs
+
+returns-2 : tie.Need-returns-2
+unfolding allowedRow
+returns-2 c = rw (le-ltb _ _ (c .before .before .if1 .left), ← c .before .before .before .below .ensures, ← c .before .smaller .ensures) (c .form2 .ensures)
 
 pub allowed-row-spec : {M : Type 1} → statement M
-allowed-row-spec = tie.close (tie.spec below-requires smaller-requires add-form form-requires returns)
+allowed-row-spec =
+    tie.close (tie.spec below-requires add-form form-requires returns smaller-requires add-form-2 form-requires-2 returns-2)

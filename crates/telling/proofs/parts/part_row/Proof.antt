@@ -72,32 +72,38 @@ why-requires c κs = search needs
 enum-told-11 : tie.Need-enum-told-11
 enum-told-11 c = search needs
 
+torn-row-requires : tie.Need-torn-row-requires
+torn-row-requires c κs = search needs
+
+enum-told-12 : tie.Need-enum-told-12
+enum-told-12 c = search needs
+
 array-read-unmet : tie.Need-array-read-unmet
 array-read-unmet c = search needs
 
 unmet-requires : tie.Need-unmet-requires
 unmet-requires c κs = search needs
 
-enum-told-12 : tie.Need-enum-told-12
-enum-told-12 c = search needs
+enum-told-13 : tie.Need-enum-told-13
+enum-told-13 c = search needs
 
 expected-requires : tie.Need-expected-requires
 expected-requires c κs = search needs
 
-enum-told-13 : tie.Need-enum-told-13
-enum-told-13 c = search needs
+enum-told-14 : tie.Need-enum-told-14
+enum-told-14 c = search needs
 
 came-requires : tie.Need-came-requires
 came-requires c κs = search needs
 
-enum-told-14 : tie.Need-enum-told-14
-enum-told-14 c = search needs
+enum-told-15 : tie.Need-enum-told-15
+enum-told-15 c = search needs
 
 unheld-requires : tie.Need-unheld-requires
 unheld-requires c κs = search needs
 
-enum-told-15 : tie.Need-enum-told-15
-enum-told-15 c = search needs
+enum-told-16 : tie.Need-enum-told-16
+enum-told-16 c = search needs
 
 empty-requires : tie.Need-empty-requires
 empty-requires c κs = search needs
@@ -133,19 +139,22 @@ returns-10 : tie.Need-returns-10
 returns-10 c = rw (c .before .before .enum-told10 .given .1, ← c .before .marks-given .ensures) (c .why .ensures)
 
 returns-11 : tie.Need-returns-11
-returns-11 c = rw (c .before .enum-told11 .given .1) (c .unmet .ensures)
+returns-11 c = rw (c .before .enum-told11 .given .1) (c .torn-row .ensures)
 
 returns-12 : tie.Need-returns-12
-returns-12 c = rw (c .before .enum-told12 .given .1) (c .expected .ensures)
+returns-12 c = rw (c .before .enum-told12 .given .1) (c .unmet .ensures)
 
 returns-13 : tie.Need-returns-13
-returns-13 c = rw (c .before .enum-told13 .given .1) (c .came .ensures)
+returns-13 c = rw (c .before .enum-told13 .given .1) (c .expected .ensures)
 
 returns-14 : tie.Need-returns-14
-returns-14 c = rw (c .before .enum-told14 .given .1) (c .unheld .ensures)
+returns-14 c = rw (c .before .enum-told14 .given .1) (c .came .ensures)
 
 returns-15 : tie.Need-returns-15
-returns-15 c = rw (c .before .enum-told15 .given .1) (c .empty .ensures)
+returns-15 c = rw (c .before .enum-told15 .given .1) (c .unheld .ensures)
+
+returns-16 : tie.Need-returns-16
+returns-16 c = rw (c .before .enum-told16 .given .1) (c .empty .ensures)
 
 pub part-row-spec : {M : Type 1} → statement M
-part-row-spec = tie.close (tie.spec array-read-wanted enum-told remark-row-requires enum-told-2 first-requires enum-told-3 second-requires enum-told-4 row-requires enum-told-5 more-requires enum-told-6 configuration-requires enum-told-7 bit-requires enum-told-8 protocol-requires enum-told-9 number-requires enum-told-10 marks-given-requires why-requires enum-told-11 array-read-unmet unmet-requires enum-told-12 expected-requires enum-told-13 came-requires enum-told-14 unheld-requires enum-told-15 empty-requires returns returns-2 returns-3 returns-4 returns-5 returns-6 returns-7 returns-8 returns-9 returns-10 returns-11 returns-12 returns-13 returns-14 returns-15)
+part-row-spec = tie.close (tie.spec array-read-wanted enum-told remark-row-requires enum-told-2 first-requires enum-told-3 second-requires enum-told-4 row-requires enum-told-5 more-requires enum-told-6 configuration-requires enum-told-7 bit-requires enum-told-8 protocol-requires enum-told-9 number-requires enum-told-10 marks-given-requires why-requires enum-told-11 torn-row-requires enum-told-12 array-read-unmet unmet-requires enum-told-13 expected-requires enum-told-14 came-requires enum-told-15 unheld-requires enum-told-16 empty-requires returns returns-2 returns-3 returns-4 returns-5 returns-6 returns-7 returns-8 returns-9 returns-10 returns-11 returns-12 returns-13 returns-14 returns-15 returns-16)

@@ -1,0 +1,2 @@
+-- What holds of the functions.
+pub mod Unique

@@ -1,0 +1,2 @@
+-- The rows of what was stopped and torn.
+pub mod Tears
