@@ -331,6 +331,30 @@ static void at_work(void)
     memcpy(kept, c.bytes, sizeof c.bytes);
 }
 
+/* an open chip on which any work runs, mostly with the reset enabled */
+static void any_work(void)
+{
+    static const uint16_t most[] = { 1, 512, 40, 1, 8192, 8, 1, 4 };
+    const uint8_t wren = 0x06, open_all = 0x98;
+    fulkibono_record c;
+    uint8_t kind = (uint8_t)(1 + below(8));
+    size_t number = kind < 8 ? below(most[kind]) : below(0x10000);
+    if (below(2))
+        fulkibono_make(&c);
+    else
+        fulkibono_make_old(&c);
+    must(fulkibono_send(&c, array.open, security.open, &wren, 1, NULL, NULL, 0) == 0, "06");
+    must(fulkibono_send(&c, array.open, security.open, &open_all, 1, NULL, NULL, 0) == 0, "98");
+    c.bytes[FULKIBONO_PLACE_RUNNING_KIND] = kind;
+    c.bytes[FULKIBONO_PLACE_RUNNING_NUMBER] = (uint8_t)number;
+    c.bytes[FULKIBONO_PLACE_RUNNING_NUMBER + 1] = (uint8_t)(number >> 8);
+    for (size_t i = 0; i < 256 && (kind == FULKIBONO_KIND_PAGE_PROGRAM || kind == FULKIBONO_KIND_SECURITY_PROGRAM); i++)
+        c.bytes[FULKIBONO_PLACE_PAGE + i] = (uint8_t)any();
+    if (below(4))
+        c.bytes[FULKIBONO_PLACE_FLAGS] |= FULKIBONO_FLAG_RESET_ENABLE;
+    memcpy(kept, c.bytes, sizeof c.bytes);
+}
+
 static void image_round(uint8_t *before)
 {
     uint8_t number, wrote[FULKIBONO_RECORD_SIZE];
@@ -467,6 +491,8 @@ int main(int argc, char **argv)
         fulkibono_circumstances x = { some_k(), some_m() };
         if (i % 50 == 0)
             image_round(before);
+        else if (i % 10 == 0)
+            any_work();
         some_record();
         some_memory();
         memcpy(before, array.lent, array.n);
@@ -511,6 +537,8 @@ int main(int argc, char **argv)
         }
         }
     }
+    for (int i = 0; i <= 8; i++)
+        must(torn_work[i] > 0 || rounds < 20000, "a kind of work was never stopped");
     printf("hostile: %ld rounds, no finding; numbers given:", rounds);
     for (int i = 0; i <= 15; i++)
         printf(" %d:%ld", i, counts[i]);

@@ -255,7 +255,7 @@ static void torn(void)
                     opened();
                     memcpy(array, old, sizeof array);
                     memcpy(security, old_security, sizeof security);
-                    for (i = 0; i < 256; i++)
+                    for (i = 0; program && i < 256; i++)
                         chip.bytes[FULKIBONO_PLACE_PAGE + i] = (uint8_t)(i * 29 + 3);
                     run(work[w].kind, work[w].number);
                     r = fulkibono_array_range(fulkibono_running(&chip));

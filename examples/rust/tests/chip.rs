@@ -301,20 +301,23 @@ fn a_reset_in_the_security_id() {
     }
 }
 
-/// 8D's bits that E8 sent: lost at 0; at 1 they are in both registers after a reset, and the protection register is the power-up's after a cut.
+/// E8 on an open chip, with a write lock and the read lock above it: lost at 0; at 1 the write lock is in both registers after a reset, and in the permanent
+/// one after a cut, whose power-up sets the other.
 #[test]
 fn a_reset_in_the_permanent_bits() {
-    for (k, bits) in [(0, 0), (1, 0x8000_0000_0000)] {
+    for (k, bits) in [(0, 0), (1, 0x4000_0000_0000)] {
         for cut in [false, true] {
             let mut b = Bench::new();
             b.send(&[0x06], 0);
-            assert_eq!(b.send(&[0xE8, 0x80, 0, 0, 0, 0, 0], 0).0, 0);
+            b.send(&[0x98], 0);
+            b.send(&[0x06], 0);
+            assert_eq!(b.send(&[0xE8, 0xC0, 0, 0, 0, 0, 0], 0).0, 0);
             if cut {
                 assert_eq!(b.cut_torn(k, 0xFF), 0);
             } else {
                 b.reset(k, 0xFF);
             }
-            assert_eq!((b.chip.permanent(), b.chip.protection()), (bits, 0x5555_FFFF_FFFF | if cut { 0 } else { bits }));
+            assert_eq!((b.chip.permanent(), b.chip.protection()), (bits, if cut { 0x5555_FFFF_FFFF } else { bits }));
         }
     }
 }
