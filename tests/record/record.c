@@ -242,7 +242,7 @@ static void torn(void)
     for (i = 0; i < FULKIBONO_SECURITY; i++)
         old_security[i] = (uint8_t)(i * 91 + 5);
     for (w = 0; w < sizeof work / sizeof *work; w++)
-        for (at = 0; at < 7; at++)
+        for (at = 0; at < 8; at++)
             for (j = 0; j < sizeof ms; j++)
                 for (by_cut = 0; by_cut < 2; by_cut++) {
                     int program = work[w].kind == FULKIBONO_KIND_PAGE_PROGRAM || work[w].kind == FULKIBONO_KIND_SECURITY_PROGRAM, right = 1;
@@ -263,7 +263,7 @@ static void torn(void)
                     was = r.size ? old : old_security;
                     if (!r.size)
                         r = fulkibono_security_range(fulkibono_running(&chip));
-                    k = at < 3 ? at : at == 6 ? UINT64_MAX : r.size + at - 4;
+                    k = at < 3 ? at : at < 6 ? r.size + at - 4 : at == 6 ? UINT64_MAX : (uint64_t)1 << 32;
                     must(fulkibono_clean_m(&chip) == (program ? 0xFF : 0x00), "the m that leaves byte k");
                     stopped(k, m, (int)by_cut);
                     for (i = 0; i < r.size; i++) {
@@ -282,28 +282,31 @@ static void torn(void)
 static void not_used(void)
 {
     static const uint64_t ks[] = { 0, 5, UINT64_MAX };
+    const fulkibono_range whole = { 0, FULKIBONO_ARRAY };
     unsigned i;
-    for (i = 0; i < 3; i++) {
+    for (i = 0; i < 6; i++) {
+        uint64_t k = ks[i / 2];
+        uint8_t m = i % 2 ? 0xFF : 0x00;
         opened();
         memset(array, 0x0F, sizeof array);
         written(0x20, 0x3000, 4);
-        must(reset_frame(0x99, ks[i], 0xFF) == FULKIBONO_NO_ENABLE, "99 with no enable");
-        must(reset_frame(0x66, ks[i], 0xFF) == 0 && reset_frame(0x05, ks[i], 0xFF) == 0, "66 and 05");
-        must(reset_frame(0x99, ks[i], 0xFF) == FULKIBONO_NO_ENABLE, "99 with an enable that is used up");
-        must(reset_frame(0x66, ks[i], 0xFF) == 0 && reset_frame(0x03, ks[i], 0xFF) == FULKIBONO_WRONG_LENGTH, "03 while busy");
+        must(reset_frame(0x99, k, m) == FULKIBONO_NO_ENABLE, "99 with no enable");
+        must(reset_frame(0x66, k, m) == 0 && reset_frame(0x05, k, m) == 0, "66 and 05");
+        must(reset_frame(0x99, k, m) == FULKIBONO_NO_ENABLE, "99 with an enable that is used up");
+        must(reset_frame(0x66, k, m) == 0 && reset_frame(0x03, k, m) == FULKIBONO_WRONG_LENGTH, "03 while busy");
         runs(FULKIBONO_KIND_SECTOR_ERASE, 3);
-        must(reset_frame(0xB0, ks[i], 0xFF) == 0, "B0");
-        stopped(ks[i], 0xFF, 0); /* only suspended work: it is dropped */
-        stopped(ks[i], 0xFF, 0); /* and an idle chip */
-        must(alone((fulkibono_range){ 0, FULKIBONO_ARRAY }, 0x0F), "k and m are not used");
+        must(reset_frame(0xB0, k, m) == 0, "B0");
+        stopped(k, m, 0); /* only suspended work: it is dropped */
+        stopped(k, m, 0); /* and an idle chip */
+        must(alone(whole, 0x0F), "k and m are not used");
         /* beside a running program the suspended erase is dropped, its target unchanged */
         written(0x20, 0x3000, 4);
-        must(reset_frame(0xB0, ks[i], 0xFF) == 0, "B0");
+        must(reset_frame(0xB0, k, m) == 0, "B0");
         written(0x02, 0x005000000000, 7);
         stopped(2, 0xF3, 0);
         must(array[0x5000] == 0 && array[0x5001] == 0 && array[0x5002] == 0x03 && array[0x5003] == 0x0F, "the program beside it");
         memset(array + 0x5000, 0x0F, 3);
-        must(alone((fulkibono_range){ 0, FULKIBONO_ARRAY }, 0x0F), "suspended work is dropped");
+        must(alone(whole, 0x0F), "suspended work is dropped");
     }
 }
 
@@ -369,6 +372,8 @@ static void no_range(void)
         for (said = 0; said < 4; said++) { /* a reset gives the part its IOC again, as the power-up of a cut does */
             int ioc = said & 1, wpen = said >> 1;
             begin();
+            written(0x01, (uint64_t)(0xFF00 | !ba << 1), 3);
+            ends();
             written(0x01, (uint64_t)(0xFF00 | ioc << 1 | wpen << 7), 3);
             runs(FULKIBONO_KIND_CONFIGURATION, said);
             ended(ks[way], by);
