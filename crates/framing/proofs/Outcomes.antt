@@ -22,7 +22,7 @@ use Rattle.rules.specs.Programs.{blank}
 use Rattle.rules.specs.Fields.{chipOf, withEnable}
 use Rattle.rules.specs.Commands.{afterReset, settledFirst, act, bufferAfter}
 use Rattle.rules.specs.Numbers.{refusalNumber, State, Frame, stateRight, frameRight, malformed, first, commandTests, frameTests}
-use Rattle.rules.specs.Machine.{stops, frame}
+use Rattle.rules.specs.Machine.{frame}
 use Rattle.rules.specs.Promises.{benchOf, carriedOf, returnedOf, afterOf, stateOf, frameOf, outcomeOf}
 use Rattle.rules.specs.Tears.{resets}
 use Rattle.rules.proofs.Bools.{and-split, not-intro}

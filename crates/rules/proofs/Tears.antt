@@ -1,6 +1,6 @@
 -- W-205: what k and m decide, and what they do not; and its cases. Every event finishes the running work by one definition or leaves it, so that each law is one of
 -- TornBytes, lifted to events. Assumes nothing.
-use Prim.Native.Nat.{ℕ, _+_, _-_, _≤_, _<_, min, max}
+use Prim.Native.Nat.{ℕ, _+_, _-_, _≤_, min, max}
 use mathlib.Core.Path.{_≡_, refl, sym, ap, _∙_, subst}
 use mathlib.Core.Bool.{Bool, true, false, not, _&&_, _||_, true≢false, false≢true}
 use mathlib.Core.List.{List, [], _∷_}
@@ -28,7 +28,7 @@ use Rattle.rules.specs.Fields.{chipOf, withEnable}
 use Rattle.rules.specs.Commands.{settled, settledFirst, act, bufferAfter, afterReset, afterCut}
 use Rattle.rules.specs.WellFormed.{wellFormed, besideRight}
 use Rattle.rules.specs.Numbers.{State, Frame, stateRight, frameRight, first, commandTests, frameTests, completionTests, cutTests}
-use Rattle.rules.specs.Machine.{Outcome, workedArray, workedSecurity, frameChip, stops, frameCell, frameReply, frameMarks, frame, completedChip, completion, cutChip, powerCut, Event, sends, completes, cuts, step}
+use Rattle.rules.specs.Machine.{workedArray, workedSecurity, frameChip, stops, frameCell, frameReply, frameMarks, frame, completedChip, completion, cutChip, powerCut, Event, sends, completes, cuts, step}
 use Rattle.rules.specs.Tears.{running, withTear, OfBytes, resets, ResetExactly, stopsWork, FrameUnused, CutUnused, PastTheEnd, RangeAlone, FramesLeave, SuspendedStays, cutOf01, cleanly, CutAs01, ResetAs01, Clears, ProgramsClear, ErasesSet}
 use Rattle.rules.specs.CasesOfTears.{tears, TearsHold}
 use Rattle.rules.proofs.Bools.{and-split, and-both, or-left, or-none, same-test, never}

@@ -5,7 +5,8 @@ use Rattle.rules.specs.Cases.{Section, old, ba, either, section, _on_, _
 
 unfoldable pub tears : List Section
 tears =
-    section either "For a program, old AND (finished OR m): 00 over FF" "open, 06, 02 00 10 00 00*256, 66" (
+    -- 00 is sent to 10FE, 10FF and, by wrap, 1000 to 1065
+    section either "For a program, old AND (finished OR m): 00 over FF" "open, 06, 02 00 10 FE 00*104, 66" (
     ("Worked: 00 over FF with m of F0 leaves F0." on "99 torn 100 F0" gives (number is 0 ∷ place 0x0FFF is 0xFF ∷ place 0x1000 is 0x00 ∷ place 0x1063 is 0x00 ∷ place 0x1064 is 0xF0 ∷ place 0x1065 is 0xFF ∷ place 0x10FF is 0xFF ∷ []))
     ∷ ("The first k bytes are finished: none" on "99 torn 0 F0" gives (place 0x1000 is 0xF0 ∷ place 0x1001 is 0xFF ∷ []))
     ∷ ("If the range has a byte k: its last" on "99 torn 255 F0" gives (place 0x10FE is 0x00 ∷ place 0x10FF is 0xF0 ∷ place 0x1100 is 0xFF ∷ []))
@@ -22,15 +23,15 @@ tears =
     ∷ ("a power cut carries m too" on "cut 256 F0" gives (place 0x10FF is 0x00 ∷ place 0x1100 is 0xFF ∷ []))
     ∷ [])
     -- finished is 14 where 55 is sent
-    ∷ section either "For a program, old AND (finished OR m): 55 over 3C" "open, 06, 02 00 10 00 3C*256, completion, 06, 02 00 10 00 55*200, 66" (
+    ∷ section either "For a program, old AND (finished OR m): 55 over 3C" "open, 06, 02 00 10 63 3C*3, completion, 06, 02 00 10 63 55*2, 66" (
     ("m 0F" on "99 torn 100 0F" gives (place 0x1063 is 0x14 ∷ place 0x1064 is 0x1C ∷ place 0x1065 is 0x3C ∷ []))
     ∷ ("m A1" on "99 torn 100 A1" gives (place 0x1063 is 0x14 ∷ place 0x1064 is 0x34 ∷ place 0x1065 is 0x3C ∷ []))
     ∷ ("m FF" on "99 torn 100 FF" gives (place 0x1064 is 0x3C ∷ []))
     ∷ ("m 00" on "99 torn 100 00" gives (place 0x1064 is 0x14 ∷ []))
-    ∷ ("a byte that was not sent" on "99 torn 220 00" gives (place 0x10C7 is 0x14 ∷ place 0x10C8 is 0x3C ∷ place 0x10DC is 0x3C ∷ []))
+    ∷ ("a byte that was not sent" on "99 torn 101 00" gives (place 0x1063 is 0x14 ∷ place 0x1064 is 0x14 ∷ place 0x1065 is 0x3C ∷ []))
     ∷ ("at a power cut" on "cut 100 0F" gives (place 0x1063 is 0x14 ∷ place 0x1064 is 0x1C ∷ place 0x1065 is 0x3C ∷ []))
     ∷ [])
-    ∷ section either "And for an erase, old OR m" "open, 06, 02 00 0F 00 0F*256, completion, 06, 02 00 10 00 0F*256, completion, 06, 02 00 1F 00 0F*256, completion, 06, 02 00 20 00 0F*256, completion, 06, 20 00 10 00, 66" (
+    ∷ section either "And for an erase, old OR m" "open, 06, 02 00 0F FF 0F, completion, 06, 02 00 10 00 0F*102, completion, 06, 02 00 1F FE 0F 0F, completion, 06, 02 00 20 00 0F, completion, 06, 20 00 10 00, 66" (
     ("0F with m of 30 gives 3F" on "99 torn 100 30" gives (number is 0 ∷ place 0x0FFF is 0x0F ∷ place 0x1000 is 0xFF ∷ place 0x1063 is 0xFF ∷ place 0x1064 is 0x3F ∷ place 0x1065 is 0x0F ∷ place 0x1FFF is 0x0F ∷ place 0x2000 is 0x0F ∷ []))
     ∷ ("The first k bytes are finished: none" on "99 torn 0 30" gives (place 0x1000 is 0x3F ∷ place 0x1001 is 0x0F ∷ []))
     ∷ ("If the range has a byte k: its last" on "99 torn 4095 30" gives (place 0x1FFE is 0xFF ∷ place 0x1FFF is 0x3F ∷ place 0x2000 is 0x0F ∷ []))
@@ -43,23 +44,23 @@ tears =
     ∷ ("at a power cut" on "cut 4095 30" gives (place 0x1FFE is 0xFF ∷ place 0x1FFF is 0x3F ∷ place 0x2000 is 0x0F ∷ []))
     ∷ ("at a power cut" on "cut 4096 30" gives (place 0x1FFF is 0xFF ∷ place 0x2000 is 0x0F ∷ []))
     ∷ [])
-    ∷ section either "D8 and C7" "open, 06, 02 00 5F 00 0F*256, completion, 06, 02 00 60 00 0F*256, completion, 06, 02 1F FF 00 0F*256, completion, 06" (
+    ∷ section either "D8 and C7" "open, 06, 02 00 5F FE 0F 0F, completion, 06, 02 00 60 00 0F 0F, completion, 06, 02 1F FF FE 0F 0F, completion, 06" (
     ("D8, its last byte" on "D8 00 40 00, 66, 99 torn 8191 30" gives (place 0x5FFE is 0xFF ∷ place 0x5FFF is 0x3F ∷ place 0x6000 is 0x0F ∷ []))
     ∷ ("D8, past its end" on "D8 00 40 00, 66, 99 torn 8192 30" gives (place 0x5FFF is 0xFF ∷ place 0x6000 is 0x0F ∷ []))
     ∷ ("C7, in the middle" on "C7, 66, 99 torn 24576 30" gives (place 0x5FFF is 0xFF ∷ place 0x6000 is 0x3F ∷ place 0x6001 is 0x0F ∷ []))
-    ∷ ("C7, its last byte" on "C7, 66, 99 torn 2097151 30" gives (place 0x60FF is 0xFF ∷ place 0x1FFFFE is 0xFF ∷ place 0x1FFFFF is 0x3F ∷ []))
+    ∷ ("C7, its last byte" on "C7, 66, 99 torn 2097151 30" gives (place 0x6001 is 0xFF ∷ place 0x1FFFFE is 0xFF ∷ place 0x1FFFFF is 0x3F ∷ []))
     ∷ ("C7, past its end" on "C7, 66, 99 torn 2097152 30" gives (place 0x1FFFFF is 0xFF ∷ []))
     ∷ ("D8 at a power cut" on "D8 00 40 00, cut 8191 30" gives (place 0x5FFE is 0xFF ∷ place 0x5FFF is 0x3F ∷ place 0x6000 is 0x0F ∷ []))
     ∷ ("C7 at a power cut" on "C7, cut 2097151 30" gives (place 0x1FFFFE is 0xFF ∷ place 0x1FFFFF is 0x3F ∷ []))
     ∷ [])
     ∷ section either "32 and A5" "open, 06, 01 00 02, completion, 06" (
-    ("32 is torn as 02" on "32 00 10 00 00*256, 66, 99 torn 100 F0" gives (place 0x1063 is 0x00 ∷ place 0x1064 is 0xF0 ∷ place 0x1065 is 0xFF ∷ []))
-    ∷ ("32 at a power cut" on "32 00 10 00 00*256, cut 100 F0" gives (place 0x1063 is 0x00 ∷ place 0x1064 is 0xF0 ∷ place 0x1065 is 0xFF ∷ []))
-    ∷ ("A5: the Security ID may change in a frame" on "A5 00 08 00*248, 66, 99 torn 100 F0" gives (number is 0 ∷ secured 7 is 0xFF ∷ secured 8 is 0x00 ∷ secured 99 is 0x00 ∷ secured 100 is 0xF0 ∷ secured 101 is 0xFF ∷ place 100 is 0xFF ∷ []))
-    ∷ ("A5: its last byte" on "A5 00 08 00*248, 66, 99 torn 255 F0" gives (secured 0xFE is 0x00 ∷ secured 0xFF is 0xF0 ∷ secured 0x100 is 0xFF ∷ []))
-    ∷ ("A5: past its end" on "A5 00 08 00*248, 66, 99 torn 256 F0" gives (secured 0xFF is 0x00 ∷ secured 0x100 is 0xFF ∷ []))
-    ∷ ("A5: the first eight places stay" on "A5 00 08 00*248, 66, 99 torn 7 00" gives (secured 0 is 0xFF ∷ secured 7 is 0xFF ∷ secured 8 is 0xFF ∷ []))
-    ∷ ("A5 at a power cut" on "A5 00 08 00*248, cut 8 F0" gives (secured 7 is 0xFF ∷ secured 8 is 0xF0 ∷ secured 9 is 0xFF ∷ []))
+    ("32 is torn as 02" on "32 00 10 63 00*3, 66, 99 torn 100 F0" gives (place 0x1063 is 0x00 ∷ place 0x1064 is 0xF0 ∷ place 0x1065 is 0xFF ∷ []))
+    ∷ ("32 at a power cut" on "32 00 10 63 00*3, cut 100 F0" gives (place 0x1063 is 0x00 ∷ place 0x1064 is 0xF0 ∷ place 0x1065 is 0xFF ∷ []))
+    ∷ ("A5: the Security ID may change in a frame" on "A5 00 08 00*94, 66, 99 torn 100 F0" gives (number is 0 ∷ secured 7 is 0xFF ∷ secured 8 is 0x00 ∷ secured 99 is 0x00 ∷ secured 100 is 0xF0 ∷ secured 101 is 0xFF ∷ place 100 is 0xFF ∷ []))
+    ∷ ("A5: its last byte" on "A5 00 FE 00 00, 66, 99 torn 255 F0" gives (secured 0xFE is 0x00 ∷ secured 0xFF is 0xF0 ∷ secured 0x100 is 0xFF ∷ []))
+    ∷ ("A5: past its end" on "A5 00 FE 00 00, 66, 99 torn 256 F0" gives (secured 0xFF is 0x00 ∷ secured 0x100 is 0xFF ∷ []))
+    ∷ ("A5: the first eight places stay" on "A5 00 08 00, 66, 99 torn 7 00" gives (secured 0 is 0xFF ∷ secured 7 is 0xFF ∷ secured 8 is 0xFF ∷ []))
+    ∷ ("A5 at a power cut" on "A5 00 08 00 00, cut 8 F0" gives (secured 7 is 0xFF ∷ secured 8 is 0xF0 ∷ secured 9 is 0xFF ∷ []))
     ∷ [])
     ∷ section old "At such a reset 85, 01 and E8 act fully if k is 1 or more, else not, before the registers are reset" "open, 06" (
     ("85, k 1" on "85, 66, 99 torn 1 00" gives (number is 0 ∷ flags is SEC ∷ runs is 0x00 ∷ place 0 is 0xFF ∷ secured 0 is 0xFF ∷ secured 1 is 0xFF ∷ []))
@@ -78,7 +79,7 @@ tears =
     ∷ ("85, k 1" on "85, 66, 99 torn 1 00" gives (flags is (IOC + SEC + BA) ∷ []))
     ∷ ("E8, k 1" on "E8 00 00 00 00 00 03, 66, 99 torn 1 00" gives (permanent is 3 ∷ protected is 3 ∷ flags is (IOC + BA) ∷ []))
     ∷ [])
-    ∷ section either "Used only by an accepted 99 while busy" "open, 06, 02 00 10 00 00*256" (
+    ∷ section either "Used only by an accepted 99 while busy" "open, 06, 02 00 10 00 00 00" (
     ("99 refused with 6" on "99 torn 256 00" gives (number is 6 ∷ place 0x1000 is 0xFF ∷ runs is 0x02 ∷ []))
     ∷ ("99 refused with 4" on "66, 99 00 torn 256 00" gives (number is 4 ∷ place 0x1000 is 0xFF ∷ runs is 0x02 ∷ []))
     ∷ ("66" on "66 torn 256 00" gives (number is 0 ∷ place 0x1000 is 0xFF ∷ runs is 0x02 ∷ []))
@@ -91,11 +92,11 @@ tears =
     ∷ ("a long command that starts" on "completion, 06, 85 torn 1 00, 66, 99, 05" gives (byte 0 is 0x00 ∷ []))
     ∷ ("a power cut with nothing running" on "completion, 06, 20 00 10 00, completion, cut 1 00" gives (number is 0 ∷ place 0 is 0xFF ∷ place 1 is 0xFF ∷ place 0x1001 is 0xFF ∷ []))
     ∷ [])
-    ∷ section either "Suspended work beside it is dropped, its target unchanged" "open, 06, 02 00 10 00 0F*256, completion, 06" (
-    ("an erase" on "20 00 10 00, B0, 02 00 20 00 00*256, 66, 99 torn 100 F0" gives (number is 0 ∷ place 0x1000 is 0x0F ∷ place 0x1064 is 0x0F ∷ place 0x2063 is 0x00 ∷ place 0x2064 is 0xF0 ∷ place 0x2065 is 0xFF ∷ runs is 0x00 ∷ aside is 0x00 ∷ []))
-    ∷ ("a program" on "02 00 20 00 00*256, B0, 20 00 10 00, 66, 99 torn 100 30" gives (number is 0 ∷ place 0x1063 is 0xFF ∷ place 0x1064 is 0x3F ∷ place 0x1065 is 0x0F ∷ place 0x2000 is 0xFF ∷ place 0x2064 is 0xFF ∷ runs is 0x00 ∷ aside is 0x00 ∷ buffered 0 is 0xFF ∷ []))
-    ∷ ("an erase, at a power cut" on "20 00 10 00, B0, 02 00 20 00 00*256, cut 100 F0" gives (place 0x1000 is 0x0F ∷ place 0x1064 is 0x0F ∷ place 0x2064 is 0xF0 ∷ place 0x2065 is 0xFF ∷ []))
-    ∷ ("a program, at a power cut" on "02 00 20 00 00*256, B0, 20 00 10 00, cut 100 30" gives (place 0x1064 is 0x3F ∷ place 0x1065 is 0x0F ∷ place 0x2064 is 0xFF ∷ []))
+    ∷ section either "Suspended work beside it is dropped, its target unchanged" "open, 06, 02 00 10 63 0F*3, completion, 06" (
+    ("an erase" on "20 00 10 00, B0, 02 00 20 63 00*3, 66, 99 torn 100 F0" gives (number is 0 ∷ place 0x1063 is 0x0F ∷ place 0x1064 is 0x0F ∷ place 0x2063 is 0x00 ∷ place 0x2064 is 0xF0 ∷ place 0x2065 is 0xFF ∷ runs is 0x00 ∷ aside is 0x00 ∷ []))
+    ∷ ("a program" on "02 00 20 63 00*3, B0, 20 00 10 00, 66, 99 torn 100 30" gives (number is 0 ∷ place 0x1063 is 0xFF ∷ place 0x1064 is 0x3F ∷ place 0x1065 is 0x0F ∷ place 0x2063 is 0xFF ∷ place 0x2064 is 0xFF ∷ runs is 0x00 ∷ aside is 0x00 ∷ buffered 0 is 0xFF ∷ []))
+    ∷ ("an erase, at a power cut" on "20 00 10 00, B0, 02 00 20 63 00*3, cut 100 F0" gives (place 0x1063 is 0x0F ∷ place 0x1064 is 0x0F ∷ place 0x2064 is 0xF0 ∷ place 0x2065 is 0xFF ∷ []))
+    ∷ ("a program, at a power cut" on "02 00 20 63 00*3, B0, 20 00 10 00, cut 100 30" gives (place 0x1064 is 0x3F ∷ place 0x1065 is 0x0F ∷ place 0x2064 is 0xFF ∷ []))
     ∷ [])
     ∷ []
 

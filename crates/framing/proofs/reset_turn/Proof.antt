@@ -1,6 +1,6 @@
 -- What runs is stopped, the page is blank, and there is no reply. Assumes nothing.
 use Rattle.turns.proofs.Events.{state-parts, running-right}
-use Rattle.framing.proofs.Outcomes.{reset-lengths, frame-reset}
+use Rattle.framing.proofs.Outcomes.{frame-reset}
 use borrow.Author.Needs.{needs}
 use Rattle.framing.proofs.reset_turn.Statement.{statement}
 use Rattle.framing.proofs.reset_turn.Tie as tie

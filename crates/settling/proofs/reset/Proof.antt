@@ -1,6 +1,5 @@
 -- What is left of the record, then the reset, whose enable work does not set. Assumes nothing.
-use mathlib.Core.Path.{ap, _∙_}
-use Rattle.rules.specs.declared.Rest.{Rest}
+use mathlib.Core.Path.{ap}
 use Rattle.rules.specs.Commands.{afterReset}
 use Rattle.rules.proofs.Effects.{used-settled}
 use borrow.Author.Needs.{needs}
