@@ -48,8 +48,11 @@ carriedBy completionCall = carriedOf [] [] [] zeroed
 carriedBy (cutCall t) = carriedOf [] [] [] zeroed
 
 -- the circumstances that C passes with a frame
+abbrev pub circumstancesOf : ℕ → ℕ → Circumstances
+circumstancesOf k m = record { tear = tearOf k m }
+
 abbrev pub circumstancesIn : Passed → Circumstances
-circumstancesIn x = record { tear = tearOf (x .k) (x .m) }
+circumstancesIn x = circumstancesOf (x .k) (x .m)
 
 -- the number n, and every lent byte as it was
 abbrev pub untouched : ℕ → LentBench → Call → Came

@@ -20,7 +20,7 @@ ghost use Rattle.meanings.specs.Meanings.{MeaningBytes};
 ghost use Rattle.image.specs.Form.{fileSize};
 ghost use Rattle.image.specs.Promises.{postedNumber};
 ghost use Rattle.record_code.specs.Layout.{recordSize, code, decode};
-ghost use Rattle.bench.specs.Boundary.{lentBenchOf, cameOf, circumstancesIn, StopAsked, CallPromise, NewPromise};
+ghost use Rattle.bench.specs.Boundary.{lentBenchOf, cameOf, circumstancesOf, circumstancesIn, StopAsked, CallPromise, NewPromise};
 ghost use Rattle.bench.specs.Images.{idleOf, imageReadOf, WriteImagePromise, ReadImagePromise};
 
 // ---- the chip
@@ -60,15 +60,15 @@ pub struct Passed {
     pub m: u8,
 }
 
-fn circumstances_in(x: Passed) -> Circumstances
-    ensures { λ r. ⌜ r ≡ circumstancesIn x ⌝ }
+fn circumstances_of(k: u64, m: u8) -> Circumstances
+    ensures { λ r. ⌜ r ≡ circumstancesOf k m ⌝ }
 {
-    let tear = Tear { k: x.k, m: x.m };
+    let tear = Tear { k, m };
     Circumstances { tear }
 }
 
 // An event that stops what runs: with power-up or without. It is rare, and reads and writes the record by functions of its own, so that nothing of it is in the way of
-// the others.
+// the others; k and m come as two numbers, so that no other event copies what C passed.
 fn stop(
     up: bool,
     bytes: &mut [u8],
@@ -76,14 +76,15 @@ fn stop(
     security: &mut [u8],
     reply: &mut [u8],
     marks: &mut [u8],
-    x: Passed,
+    k: u64,
+    m: u8,
 ) -> u8
     requires { ⌜ StopAsked up (now bytes) (now array) (now security) (now reply) (now marks) ⌝ }
-    ensures { λ r. ⌜ CallPromise (lentBenchOf (now (bytes .entry)) (now (array .entry)) (now (security .entry))) (stopCall up (now (reply .entry)) (now (marks .entry)) (circumstancesIn x)) (cameOf r (now (bytes .exit)) (now (array .exit)) (now (security .exit)) (now (reply .exit)) (now (marks .exit))) ⌝ }
+    ensures { λ r. ⌜ CallPromise (lentBenchOf (now (bytes .entry)) (now (array .entry)) (now (security .entry))) (stopCall up (now (reply .entry)) (now (marks .entry)) (circumstancesOf k m)) (cameOf r (now (bytes .exit)) (now (array .exit)) (now (security .exit)) (now (reply .exit)) (now (marks .exit))) ⌝ }
 {
     let mut r = record_code::idle_in(bytes);
     r.works = record_code::works_in(bytes);
-    let circumstances = circumstances_in(x);
+    let circumstances = circumstances_of(k, m);
     let t = chip::stop_turn(
         up,
         r,
@@ -119,10 +120,10 @@ fn event(
     let r = record_code::rest_in(bytes);
     let known = chip::state_right(r, &bytes[..256], array.len(), security.len());
     if chip::cuts(e, known) {
-        return stop(true, bytes, array, security, reply, marks, x);
+        return stop(true, bytes, array, security, reply, marks, x.k, x.m);
     }
     if chip::resets(e, known, r, sent, reply.len(), marks.len()) {
-        return stop(false, bytes, array, security, reply, marks, x);
+        return stop(false, bytes, array, security, reply, marks, x.k, x.m);
     }
     let t = chip::take_turn(
         e,

@@ -18,8 +18,8 @@ returns c =
     let a = s .args in
     let b = lentBenchOf (a .bytes .now) (a .array .now) (a .security .now) in
     subst (λ (x : Circumstances). CallPromise b (stopCall (a .up) (a .reply .now) (a .marks .now) x) (cameOf 0 (c .before .before .put-idle .last .0) (m .last .1 .1 .1 .0) (m .last .1 .1 .1 .1 .0) (m .last .1 .1 .1 .1 .1 .0) (m .last .1 .1 .1 .1 .1 .1 .0)))
-    (c .before .before .before .before .before .before .before .before .before .before .before .before .before .before .before .before .before .before .before .before .before .circumstances-in .ensures)
-    (call-stopped b (stopCall (a .up) (a .reply .now) (a .marks .now) (c .before .before .before .before .before .before .before .before .before .before .before .before .before .before .before .before .before .before .before .before .before .circumstances-in .result)) _ (m .result) (m .last .1 .1 .0) _ _ _ _ _ (s .pre .coded)
+    (c .before .before .before .before .before .before .before .before .before .before .before .before .before .before .before .before .before .before .before .before .before .circumstances-of .ensures)
+    (call-stopped b (stopCall (a .up) (a .reply .now) (a .marks .now) (c .before .before .before .before .before .before .before .before .before .before .before .before .before .before .before .before .before .before .before .before .before .circumstances-of .result)) _ (m .result) (m .last .1 .1 .0) _ _ _ _ _ (s .pre .coded)
     (rest-again (a .bytes .now) _ _ (c .before .before .before .before .before .before .before .before .before .before .before .before .before .before .before .before .before .before .before .before .before .before .before .before .idle-in .ensures) (c .before .before .before .before .before .before .before .before .before .before .before .before .before .before .before .before .before .before .before .before .before .before .works-in .ensures)) (m .ensures) (m .kept .1 .1 .0) (c .before .before .put-idle .ensures))
 
 pub stop-spec : {M : Type 1} → statement M
