@@ -1,5 +1,8 @@
 -- What is left of the record, then the reset, whose enable work does not set. Assumes nothing.
-use mathlib.Core.Path.{ap}
+use mathlib.Core.Bool.{false}
+use mathlib.Core.Path.{ap, _∙_}
+use Rattle.rules.specs.declared.Rest.{Rest}
+use Rattle.rules.specs.Fields.{withEnable}
 use Rattle.rules.specs.Commands.{afterReset}
 use Rattle.rules.proofs.Effects.{used-settled}
 use borrow.Author.Needs.{needs}
@@ -12,4 +15,4 @@ reset-spec =
     (tie.spec
     (λ c κs. search needs)
     (λ c κs. search needs)
-    (λ c. rw (c .reset .ensures, c .before .settled-first .ensures) (ap afterReset (used-settled (c .before .before .args .k) (c .before .before .args .r)))))
+    (λ c. c .reset .ensures ∙ ap (λ (q : Rest). afterReset (withEnable false q)) (c .before .settled-first .ensures) ∙ ap afterReset (used-settled (c .before .before .args .k) (c .before .before .args .r))))
