@@ -1,0 +1,7 @@
+-- 02, W-206, the station list: slots, the writes of a call, calls as programs of events, what the functions promise.
+pub mod Slots
+pub mod Plans
+pub mod Calls
+pub mod Promises
+pub mod Given
+pub mod Keeping
