@@ -1,2 +1,3 @@
--- What the proofs share.
+-- What the two walks share, and no second outcome.
 pub mod Walk
+pub mod Unique

@@ -31,5 +31,15 @@ pub fn keep(
 )
     ensures { λ _. ⌜ StorePromise (now (s .entry)) (deskOf (now (array .entry)) (now (security .entry)) (now (reply .entry)) (now (marks .entry))) station (now (bytes .entry)) allowance (now (list .entry)) (now (s .exit)) (deskOf (now (array .exit)) (now (security .exit)) (now (reply .exit)) (now (marks .exit))) ⌝ }
 {
-    *s = store::store(*s, array, security, reply, marks, station, bytes, allowance, list);
+    *s = store::store(
+        *s,
+        array,
+        security,
+        reply,
+        marks,
+        station,
+        bytes,
+        allowance,
+        list,
+    );
 }

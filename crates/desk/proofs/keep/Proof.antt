@@ -26,9 +26,22 @@ abbrev spells : (κs : Lfts 7) → Spells (Types κs)
 spells κs = (ptr-vals, (slice-vals, (slice-vals, (slice-vals, (slice-vals, (uint-vals w16, (slice-vals, (uint-vals w64, (slice-vals, tt)))))))))
 
 abbrev tells : (κs : Lfts 7) → Tellss (Types κs) (Ises (Types κs)) (spells κs)
-tells κs =
-    (mut-tells (named 0) (κs .0) R, (mut-slice-tells (named 1) (κs .1 .0) u8, (mut-slice-tells (named 2) (κs .1 .1 .0) u8, (mut-slice-tells (named 3) (κs .1 .1 .1 .0) u8, (mut-slice-tells (named 4) (κs .1 .1 .1 .1 .0) u8, 
-    (uint-tells w16, (shr-slice-tells (named 5) (κs .1 .1 .1 .1 .1 .0) u8, (uint-tells w64, (shr-slice-tells (named 6) (κs .1 .1 .1 .1 .1 .1 .0) u64, tt)))))))))
+tells κs = (
+  mut-tells (named 0) (κs .0) R,
+  (
+    mut-slice-tells (named 1) (κs .1 .0) u8,
+    (
+      mut-slice-tells (named 2) (κs .1 .1 .0) u8,
+      (
+        mut-slice-tells (named 3) (κs .1 .1 .1 .0) u8,
+        (
+          mut-slice-tells (named 4) (κs .1 .1 .1 .1 .0) u8,
+          (uint-tells w16, (shr-slice-tells (named 5) (κs .1 .1 .1 .1 .1 .0) u8, (uint-tells w64, (shr-slice-tells (named 6) (κs .1 .1 .1 .1 .1 .1 .0) u64, tt)))),
+        ),
+      ),
+    ),
+  ),
+)
 
 module _ {M : Type 1} (𝓤 : URA M) (H : Heap 𝓤) (A : Atoms 𝓤) (W : Given 𝓤 H A) (mem : Memory → SProp 𝓤) (run : Routine → Fun 𝓤) where
   abbrev Store : Contract 𝓤
