@@ -1,10 +1,10 @@
 -- `keep` meets its contract by a walk of its MIR, as `find` does: the record is copied out whole, `store::store` gets it by value and the slices as they were lent, and its result is stored whole. Assumes nothing.
-use Rattle.desk.proofs.Walk.{ℕ, refl, List, [], _∷_, URA, fullShare, Val, SProp, ent, emp, via, fst∗, id⊢, flft, fres, Memory, Routine, Heap, Calls, Loops, WpFn, Tables, Atoms, Fun, Lfts, Shares, toks, givenOf, tables}
+use Rattle.desk.proofs.Walk.{refl, List, [], _∷_, URA, fullShare, Val, SProp, ent, emp, via, fst∗, id⊢, flft, fres, Memory, Routine, Heap, Calls, Loops, WpFn, Tables, Atoms, Fun, Lfts, Shares, toks, givenOf, tables}
 use contract.Running.{tablesOf}
 use Rattle.desk.proofs.Walk.{Given, ‵, raw, _⊛_, _$_, _∵_, !, qed, by, move, keep, drop, use1, use3, split, join, pick, fsplit, fsplit3, fjoin, await}
 use Rattle.desk.proofs.Walk.{look, look-raw, init, store-raw, forget, stop, hop, fld, from, load, addr, unit-lit, of-opd, and-then, no-more, assigns, land, returns, enter, alloc1, alloc0, params1, pass1, pass0, free1, free0, agg, whole, sub, look-in}
-use Rattle.desk.proofs.Walk.{named, w16, w64, FmC, fmOf, RattleType, owns, flat, Is, shows, Are, Ises, Spells, Tellss, valss, uint-vals, uint-tells, u8, u64, ptr-vals, mut-tells, slice-vals, mut-slice-tells, shr-slice-tells, typesAt, opens, closes, peeks, said, spelt}
-use Rattle.desk.proofs.Walk.{Args, Vals, onEntry, lasts, atExit, Contract, Triple, calls-at, tripleOf, entered, cited, R, vals, typed, slice, bare, came, leaves}
+use Rattle.desk.proofs.Walk.{w16, w64, FmC, fmOf, RattleType, owns, flat, Is, shows, Are, Ises, Spells, Tellss, valss, uint-vals, ptr-vals, slice-vals, typesAt, opens, closes, peeks, said, spelt}
+use Rattle.desk.proofs.Walk.{Args, Vals, onEntry, lasts, atExit, Contract, Triple, calls-at, tripleOf, entered, cited, R, vals, typed, holds, slice, bare, came, leaves}
 use denote.Struct.Laws as LL
 use Rattle.stations.specs.declared.StoreRecord.{StoreRecord}
 use Rattle.stations.proofs.StoreRecord as T
@@ -26,22 +26,7 @@ abbrev spells : (κs : Lfts 7) → Spells (Types κs)
 spells κs = (ptr-vals, (slice-vals, (slice-vals, (slice-vals, (slice-vals, (uint-vals w16, (slice-vals, (uint-vals w64, (slice-vals, tt)))))))))
 
 abbrev tells : (κs : Lfts 7) → Tellss (Types κs) (Ises (Types κs)) (spells κs)
-tells κs = (
-  mut-tells (named 0) (κs .0) R,
-  (
-    mut-slice-tells (named 1) (κs .1 .0) u8,
-    (
-      mut-slice-tells (named 2) (κs .1 .1 .0) u8,
-      (
-        mut-slice-tells (named 3) (κs .1 .1 .1 .0) u8,
-        (
-          mut-slice-tells (named 4) (κs .1 .1 .1 .1 .0) u8,
-          (uint-tells w16, (shr-slice-tells (named 5) (κs .1 .1 .1 .1 .1 .0) u8, (uint-tells w64, (shr-slice-tells (named 6) (κs .1 .1 .1 .1 .1 .1 .0) u64, tt)))),
-        ),
-      ),
-    ),
-  ),
-)
+tells κs = (λ x vs p. p .0, (λ x vs p. p .0 .0, (λ x vs p. p .0 .0, (λ x vs p. p .0 .0, (λ x vs p. p .0 .0, (λ x vs p. p .0, (λ x vs p. p .0 .0, (λ x vs p. p .0, (λ x vs p. p .0 .0, tt)))))))))
 
 module _ {M : Type 1} (𝓤 : URA M) (H : Heap 𝓤) (A : Atoms 𝓤) (W : Given 𝓤 H A) (mem : Memory → SProp 𝓤) (run : Routine → Fun 𝓤) where
   abbrev Store : Contract 𝓤
@@ -54,15 +39,9 @@ module _ {M : Type 1} (𝓤 : URA M) (H : Heap 𝓤) (A : Atoms 𝓤) (W : Given
     abbrev vss : Vals keep.signature κs
     vss = valss (Types κs) (spells κs) a
 
-    -- the record lent, and where it lies
+    -- the record lent
     abbrev h : StoreRecord
     h = a .0 .now
-
-    abbrev b : ℕ
-    b = a .0 .ptr .0
-
-    abbrev o : ℕ
-    o = a .0 .ptr .1
 
     -- what the triple of `store` binds outside: the record by value, and the other parameters as they were passed
     abbrev z : Store .Ghost
@@ -79,26 +58,26 @@ module _ {M : Type 1} (𝓤 : URA M) (H : Heap 𝓤) (A : Atoms 𝓤) (W : Given
         pass1 ! (init ! 36 refl (tt, tt)) $ pass1 ! (init ! 34 refl (slice (are .1 .0 .0 .1 .0))) $ pass1 ! (init ! 32 refl (slice (are .1 .1 .0 .0 .1 .0))) $ pass1 ! (init ! 30 refl (slice (are .1 .1 .1 .0 .0 .1 .0))) $ pass1 ! (init ! 28 refl (slice (are .1 .1 .1 .1 .0 .0 .1 .0))) $
         pass1 ! (init ! 26 refl (tt, record { fits = are .1 .1 .1 .1 .1 .0 .1 })) $ pass1 ! (init ! 24 refl (slice (are .1 .1 .1 .1 .1 .1 .0 .0 .1 .0))) $ pass1 ! (init ! 22 refl (tt, record { fits = are .1 .1 .1 .1 .1 .1 .1 .0 .1 })) $ pass1 ! (init ! 20 refl (slice (are .1 .1 .1 .1 .1 .1 .1 .1 .0 .0 .1 .0))) $ pass0 ! $
         -- the borrow is opened, and the record copied out
-        move ! (40 ∷ 41 ∷ 42 ∷ []) $ opens ! tt R {h = h} b o (λ vs. spelt ! R (Is R) (shows 𝓤 H A R) vals (LL.tells T.the-type T′.the-laws) fullShare h vs b o $ move ! (1 ∷ []) $ peeks ! R (Is R) (shows 𝓤 H A R) h (vals h) (λ is. move ! (1 ∷ 0 ∷ []) $
+        move ! (40 ∷ 41 ∷ 42 ∷ []) $ opens ! tt R {h = h} (a .0 .ptr .0) (a .0 .ptr .1) (λ vs. spelt ! R (Is R) (shows 𝓤 H A R) vals (LL.tells T.the-type T′.the-laws) fullShare h vs (a .0 .ptr .0) (a .0 .ptr .1) $ move ! (1 ∷ []) $ peeks ! R (Is R) (shows 𝓤 H A R) h (vals h) (λ is. move ! (1 ∷ 0 ∷ []) $
         -- [the record's cell; what it owns; the open borrow; obs; auth; _19; ..; _0; ..; the tokens of the others; what they own]
         assigns ! (of-opd ! (load ! (from ! (hop ! (look ! 41 refl) (stop !))) (look-raw ! 0 refl))) (from ! (stop !)) (init ! 21 refl (typed 𝓤 H A W h _ is .0)) $
         assigns ! (addr ! (from ! (fld ! refl (hop ! (look-in ! 39 (sub ! 0 refl (whole !))) (stop !))))) (from ! (stop !)) (init ! 19 refl (tt, tt)) $
-        assigns ! (agg ! (and-then ! (load ! (from ! (stop !)) (look ! 19 refl)) (and-then ! (load ! (from ! (fld ! refl (stop !))) (look-in ! 39 (sub ! 1 refl (whole !)))) (no-more !)))) (from ! (stop !)) (init ! 17 refl (slice (are .1 .0 .0 .1 .0))) $
+        assigns ! (agg ! (and-then ! (holds ! 19 refl) (and-then ! (load ! (from ! (fld ! refl (stop !))) (look-in ! 39 (sub ! 1 refl (whole !)))) (no-more !)))) (from ! (stop !)) (init ! 17 refl (slice (are .1 .0 .0 .1 .0))) $
         assigns ! (addr ! (from ! (fld ! refl (hop ! (look-in ! 37 (sub ! 0 refl (whole !))) (stop !))))) (from ! (stop !)) (init ! 15 refl (tt, tt)) $
-        assigns ! (agg ! (and-then ! (load ! (from ! (stop !)) (look ! 15 refl)) (and-then ! (load ! (from ! (fld ! refl (stop !))) (look-in ! 37 (sub ! 1 refl (whole !)))) (no-more !)))) (from ! (stop !)) (init ! 13 refl (slice (are .1 .1 .0 .0 .1 .0))) $
+        assigns ! (agg ! (and-then ! (holds ! 15 refl) (and-then ! (load ! (from ! (fld ! refl (stop !))) (look-in ! 37 (sub ! 1 refl (whole !)))) (no-more !)))) (from ! (stop !)) (init ! 13 refl (slice (are .1 .1 .0 .0 .1 .0))) $
         assigns ! (addr ! (from ! (fld ! refl (hop ! (look-in ! 35 (sub ! 0 refl (whole !))) (stop !))))) (from ! (stop !)) (init ! 11 refl (tt, tt)) $
-        assigns ! (agg ! (and-then ! (load ! (from ! (stop !)) (look ! 11 refl)) (and-then ! (load ! (from ! (fld ! refl (stop !))) (look-in ! 35 (sub ! 1 refl (whole !)))) (no-more !)))) (from ! (stop !)) (init ! 9 refl (slice (are .1 .1 .1 .0 .0 .1 .0))) $
+        assigns ! (agg ! (and-then ! (holds ! 11 refl) (and-then ! (load ! (from ! (fld ! refl (stop !))) (look-in ! 35 (sub ! 1 refl (whole !)))) (no-more !)))) (from ! (stop !)) (init ! 9 refl (slice (are .1 .1 .1 .0 .0 .1 .0))) $
         assigns ! (addr ! (from ! (fld ! refl (hop ! (look-in ! 33 (sub ! 0 refl (whole !))) (stop !))))) (from ! (stop !)) (init ! 7 refl (tt, tt)) $
-        assigns ! (agg ! (and-then ! (load ! (from ! (stop !)) (look ! 7 refl)) (and-then ! (load ! (from ! (fld ! refl (stop !))) (look-in ! 33 (sub ! 1 refl (whole !)))) (no-more !)))) (from ! (stop !)) (init ! 5 refl (slice (are .1 .1 .1 .1 .0 .0 .1 .0))) $
+        assigns ! (agg ! (and-then ! (holds ! 7 refl) (and-then ! (load ! (from ! (fld ! refl (stop !))) (look-in ! 33 (sub ! 1 refl (whole !)))) (no-more !)))) (from ! (stop !)) (init ! 5 refl (slice (are .1 .1 .1 .1 .0 .0 .1 .0))) $
         -- the call: its result comes with what it owns, the last values of the others, and the clause of `store`
         move ! (45 ∷ 1 ∷ 46 ∷ []) $ use3 W (raw (Store .pre z)) (bare 𝓤 (onEntry 𝓤 H A store.signature (κs .1) (qs .1) (h, a .1) (vals h, vss .1))) $
-        calls-at ! fm Store known z (and-then ! (load ! (from ! (stop !)) (look ! 21 refl)) (and-then ! (load ! (from ! (stop !)) (look ! 17 refl)) (and-then ! (load ! (from ! (stop !)) (look ! 13 refl)) (and-then ! (load ! (from ! (stop !)) (look ! 9 refl)) (and-then ! (load ! (from ! (stop !)) (look ! 5 refl))
-        (and-then ! (load ! (from ! (stop !)) (look ! 31 refl)) (and-then ! (load ! (from ! (stop !)) (look ! 29 refl)) (and-then ! (load ! (from ! (stop !)) (look ! 27 refl)) (and-then ! (load ! (from ! (stop !)) (look ! 25 refl)) (no-more !)))))))))) (λ v.
+        calls-at ! fm Store known z (and-then ! (holds ! 21 refl) (and-then ! (holds ! 17 refl) (and-then ! (holds ! 13 refl) (and-then ! (holds ! 9 refl) (and-then ! (holds ! 5 refl)
+        (and-then ! (holds ! 31 refl) (and-then ! (holds ! 29 refl) (and-then ! (holds ! 27 refl) (and-then ! (holds ! 25 refl) (no-more !)))))))))) (λ v.
         use1 W (came 𝓤 H A store.ended (store.clauses 𝓤 H A mem run) z v) (id⊢ 𝓤 _) $ await ! tt $ pick ! (λ r. split ! $ move ! (1 ∷ []) $ pick ! (λ ws. split ! $ fsplit ! $ drop ! $ move ! (2 ∷ []) $ split ! $ move ! (1 ∷ []) $ peeks ! R (Is R) (shows 𝓤 H A R) r (v ∷ []) (λ is′.
         -- [what the new record owns; the tokens of the others; their last values; the clause; the record's cell; the open borrow; obs; auth; _19; ..; _0; ..]
         land ! (from ! (stop !)) (init ! 26 refl (typed 𝓤 H A W r _ is′ .0)) $
-        assigns ! (of-opd ! (load ! (from ! (stop !)) (look ! 26 refl))) (from ! (hop ! (look ! 44 refl) (stop !))) (store-raw ! 4 refl (typed 𝓤 H A W r _ is′ .0)) $
-        assigns ! (of-opd ! (unit-lit !)) (from ! (stop !)) (init ! 46 refl (tt, tt)) $ move ! (4 ∷ 0 ∷ 5 ∷ 6 ∷ 7 ∷ []) $ closes ! tt R r (v ∷ []) b o $
+        assigns ! (of-opd ! (holds ! 26 refl)) (from ! (hop ! (look ! 44 refl) (stop !))) (store-raw ! 4 refl (typed 𝓤 H A W r _ is′ .0)) $
+        assigns ! (of-opd ! (unit-lit !)) (from ! (stop !)) (init ! 46 refl (tt, tt)) $ move ! (4 ∷ 0 ∷ 5 ∷ 6 ∷ 7 ∷ []) $ closes ! tt R r (v ∷ []) (a .0 .ptr .0) (a .0 .ptr .1) $
         -- [obs; the borrow; its token; the tokens of the others; their last values; the clause; _19; ..; _0; ..]
         returns ! (look ! 44 refl) $ forget ! 6 refl $ forget ! 8 refl $ forget ! 10 refl $ forget ! 12 refl $ forget ! 14 refl $ forget ! 16 refl $ forget ! 18 refl $ forget ! 20 refl $ forget ! 22 refl $ forget ! 24 refl $ forget ! 26 refl $ forget ! 28 refl $ forget ! 30 refl $ forget ! 32 refl $ forget ! 34 refl $ forget ! 36 refl $ forget ! 38 refl $ forget ! 40 refl $ forget ! 42 refl $ forget ! 44 refl $
         move ! (44 ∷ 45 ∷ []) $ free1 ! $ move ! (42 ∷ 43 ∷ []) $ free1 ! $ move ! (40 ∷ 41 ∷ []) $ free1 ! $ move ! (38 ∷ 39 ∷ []) $ free1 ! $ move ! (36 ∷ 37 ∷ []) $ free1 ! $ move ! (34 ∷ 35 ∷ []) $ free1 ! $ move ! (32 ∷ 33 ∷ []) $ free1 ! $ move ! (30 ∷ 31 ∷ []) $ free1 ! $ move ! (28 ∷ 29 ∷ []) $ free1 ! $ move ! (26 ∷ 27 ∷ []) $ free1 ! $
