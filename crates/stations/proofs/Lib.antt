@@ -1,0 +1,2 @@
+-- Laws of the station list.
+pub mod Next
