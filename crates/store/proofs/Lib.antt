@@ -1,0 +1,2 @@
+-- Laws of the steps of a call.
+pub mod Steps
