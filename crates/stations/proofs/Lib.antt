@@ -1,2 +1,3 @@
 -- Laws of the station list.
 pub mod Next
+pub mod Sequel

@@ -2,11 +2,12 @@
 use Prim.Native.Nat.{ℕ, zero, suc, _+_, _-_, _/_, _%_, _^_, _<_, _≤_}
 use mathlib.Core.Path.{_≡_, refl, sym, ap, _∙_, subst}
 use mathlib.Core.Bool.{Bool, true, false, true≢false}
-use mathlib.Core.List.{List, [], _∷_}
+use mathlib.Core.List.{List, [], _∷_, _++_}
 use native.Mathlib.Omega.{arith}
-use lib.Dec.{eqb}
-use lib.ListN.{getD}
-use borrow.Author.Tests.{ne-eqb}
+use lib.Dec.{eqb, ltb}
+use lib.ListN.{length, getD, length-append, List·getD-append}
+use lib.Seq.{ext-getD, getD-append-add}
+use borrow.Author.Tests.{ne-eqb, ltb-true, ltb-false}
 use Rattle.rules.specs.declared.Answer.{Answer}
 use Rattle.rules.specs.declared.Refusal.{Refusal}
 use Rattle.rules.proofs.Promises.{answer-one}
@@ -15,6 +16,7 @@ use Rattle.rules.specs.Words.{bit, pick}
 use Rattle.rules.specs.Numbers.{State, answerNumber}
 use Rattle.rules.specs.Machine.{Outcome, completion, step, left}
 use Rattle.rules.specs.Promises.{Bench, Returned, zeroed, benchOf, carriedOf, stateOf, FramePromise, CompletionPromise}
+use Rattle.memory.specs.Patched.{Patched}
 use Rattle.stations.specs.Calls.{Script, ends, does, Ended, endedOf, played, short, onDone, arriving, polling, write}
 use Rattle.store.specs.Steps.{SentPromise, ArrivedPromise, PolledPromise, arrivedState, polledOf}
 use Rattle.store.specs.declared.writes.Polled.{Polled}
@@ -184,3 +186,41 @@ refused-some a w e =
 
 pub done-none : (a : Answer) → a ≡ Answer.Done → eqb (answerNumber a) 0 ≡ true
 done-none a e = ap (λ (x : Answer). eqb (answerNumber x) 0) e
+
+-- ---- a frame of two parts
+
+zero-plus : (i : ℕ) → 0 + i ≡ i
+zero-plus i = omega arith
+
+pub two-parts : (l l₁ l₀ head bytes : List ℕ) → Patched l l₁ 6 28 (λ i. getD bytes (0 + i) 0) → Patched l₁ l₀ 0 6 (λ i. getD head (0 + i) 0)
+    → length l₀ ≡ 34 → length head ≡ 6 → length bytes ≡ 28 → l ≡ head ++ bytes
+two-parts l l₁ l₀ head bytes second first whole six rest = ext-getD 0 l (head ++ bytes) (second .size ∙ first .size ∙ whole ∙ sym size) at
+  where
+    size : length (head ++ bytes) ≡ 34
+    size = let e = length-append head bytes in omega arith
+
+    front : (i : ℕ) → i < 6 → getD l i 0 ≡ getD (head ++ bytes) i 0
+    front i k =
+        second .before i k
+        ∙ ap (λ (x : ℕ). getD l₁ x 0) (sym (zero-plus i))
+        ∙ first .inside i k
+        ∙ ap (λ (x : ℕ). getD head x 0) (zero-plus i)
+        ∙ sym (List·getD-append head bytes 0 i (omega arith))
+
+    behind : (j : ℕ) → j < 28 → getD l (6 + j) 0 ≡ getD (head ++ bytes) (6 + j) 0
+    behind j k =
+        let q : length head + j ≡ 6 + j = omega arith in
+        second .inside j k
+        ∙ ap (λ (x : ℕ). getD bytes x 0) (zero-plus j)
+        ∙ sym (ap (λ (x : ℕ). getD (head ++ bytes) x 0) (sym q) ∙ getD-append-add head bytes j 0)
+
+    at : (i : ℕ) → i < length l → getD l i 0 ≡ getD (head ++ bytes) i 0
+    at i h = go (ltb i 6) refl
+      where
+        go : (b : Bool) → ltb i 6 ≡ b → getD l i 0 ≡ getD (head ++ bytes) i 0
+        go true e = front i (ltb-true i 6 e)
+        go false e =
+            let k = ltb-false i 6 e in
+            let long : length l ≡ 34 = second .size ∙ first .size ∙ whole in
+            let j : 6 + (i - 6) ≡ i = omega arith in
+            ap (λ (x : ℕ). getD l x 0) (sym j) ∙ behind (i - 6) (omega arith) ∙ ap (λ (x : ℕ). getD (head ++ bytes) x 0) j

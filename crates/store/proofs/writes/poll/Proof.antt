@@ -56,9 +56,11 @@ same-length-2 c = c .before .before .before .before .before .before .before .bef
 
 -- src/writes.rt:92:13
 returns : tie.Need-returns Inv-loop μ-loop
-returns c = let l = c .before .before .before .before .before .before .before .before .before .before .before .before .loop in let a = c .before .before .before .before .before .before .before .before .before .before .before .before .before .before .before .args in let told = c .before .before .before .before .before .before .before .before .poll-once .ensures in let g = c .before .enum-told2 .given in
-    (poll-refused (benchOf (l .at) (l .array) (l .security)) (a .allowance) (l .made) (a .entry) (a .polls) (omega arith) told (c .answer-number .ensures) (refused-some _ _ (g .1))
-    ∙ l .inv .3, omega arith)
+returns c = let l = c .before .before .before .before .before .before .before .before .before .before .before .before .loop in let a = c .before .before .before .before .before .before .before .before .before .before .before .before .before .before .before .args in let told = c .before .before .before .before .before .before .before .before .poll-once .ensures in let g = c .before .enum-told2 .given in (
+  poll-refused (benchOf (l .at) (l .array) (l .security)) (a .allowance) (l .made) (a .entry) (a .polls) (omega arith) told (c .answer-number .ensures) (refused-some _ _ (g .1))
+      ∙ l .inv .3,
+  omega arith,
+)
 
 -- src/writes.rt:102:24
 add-t17 : tie.Need-add-t17 Inv-loop μ-loop
@@ -74,9 +76,11 @@ same-length-4 c = c .before .before .before .before .before .before .before .bef
 
 -- src/writes.rt:99:13
 returns-2 : tie.Need-returns-2 Inv-loop μ-loop
-returns-2 c = let l = c .before .before .before .before .before .before .before .before .before .before .before .before .before .loop in let a = c .before .before .before .before .before .before .before .before .before .before .before .before .before .before .before .before .args in let told = c .before .before .before .before .before .before .before .before .before .poll-once .ensures in let g = c .before .before .enum-told .given in
-    (poll-ended (benchOf (l .at) (l .array) (l .security)) (a .allowance) (l .made) (a .entry) (a .polls) (omega arith) told (done-none _ (g .1)) (not-true _ (c .if1 .taken))
-    ∙ l .inv .3, omega arith)
+returns-2 c = let l = c .before .before .before .before .before .before .before .before .before .before .before .before .before .loop in let a = c .before .before .before .before .before .before .before .before .before .before .before .before .before .before .before .before .args in let told = c .before .before .before .before .before .before .before .before .before .poll-once .ensures in let g = c .before .before .enum-told .given in (
+  poll-ended (benchOf (l .at) (l .array) (l .security)) (a .allowance) (l .made) (a .entry) (a .polls) (omega arith) told (done-none _ (g .1)) (not-true _ (c .if1 .taken))
+      ∙ l .inv .3,
+  omega arith,
+)
 
 -- src/writes.rt:86:5
 loop-less : tie.Need-loop-less Inv-loop μ-loop
@@ -84,9 +88,13 @@ loop-less c = search needs
 
 -- src/writes.rt:86:5
 loop-again : tie.Need-loop-again Inv-loop μ-loop
-loop-again c = let l = c .before .before .before .before .before .before .before .before .before .before .before .before .before .loop in let a = c .before .before .before .before .before .before .before .before .before .before .before .before .before .before .before .before .args in let told = c .before .before .before .before .before .before .before .before .before .poll-once .ensures in let g = c .before .before .enum-told .given in
-    (omega arith, c .before .before .before .before .before .before .before .before .before .poll-once .kept .1 .0 ∙ c .before .before .before .before .before .before .before .before .before .before .before .before .before .loop .inv .1, c .before .before .before .before .before .before .before .before .before .poll-once .kept .1 .1 .0 ∙ c .before .before .before .before .before .before .before .before .before .before .before .before .before .loop .inv .2, poll-again (benchOf (l .at) (l .array) (l .security)) (a .allowance) (l .made) (a .entry) (a .polls) (omega arith) told (done-none _ (g .1)) (not-false _ (c .if1 .left))
-    ∙ l .inv .3)
+loop-again c = let l = c .before .before .before .before .before .before .before .before .before .before .before .before .before .loop in let a = c .before .before .before .before .before .before .before .before .before .before .before .before .before .before .before .before .args in let told = c .before .before .before .before .before .before .before .before .before .poll-once .ensures in let g = c .before .before .enum-told .given in (
+  omega arith,
+  c .before .before .before .before .before .before .before .before .before .poll-once .kept .1 .0 ∙ c .before .before .before .before .before .before .before .before .before .before .before .before .before .loop .inv .1,
+  c .before .before .before .before .before .before .before .before .before .poll-once .kept .1 .1 .0 ∙ c .before .before .before .before .before .before .before .before .before .before .before .before .before .loop .inv .2,
+  poll-again (benchOf (l .at) (l .array) (l .security)) (a .allowance) (l .made) (a .entry) (a .polls) (omega arith) told (done-none _ (g .1)) (not-false _ (c .if1 .left))
+      ∙ l .inv .3,
+)
 
 -- src/writes.rt:109:16
 add-t18 : tie.Need-add-t18 Inv-loop μ-loop
