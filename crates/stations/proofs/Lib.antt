@@ -1,2 +1,3 @@
 -- The laws of the station list.
 pub mod First
+pub mod Same
