@@ -147,16 +147,16 @@ place-one-of x (y ∷ ys) zero d h e = or-left (eqb x y) (oneOf x ys) (eq-eqb x 
 place-one-of x (y ∷ ys) (suc k) d h e = or-right (eqb x y) (oneOf x ys) (place-one-of x ys k d (omega arith) e)
 
 -- one of the first m entries
-pub record Among (l : List ℕ) (m d x : ℕ) : Type 0 where
+pub record Early (l : List ℕ) (m d x : ℕ) : Type 0 where
   pub at : ℕ
   pub early : at < m
   pub inside : at < length l
   pub is : getD l at d ≡ x
 
-pub one-of-take : (x : ℕ) (m : ℕ) (l : List ℕ) (d : ℕ) → oneOf x (take m l) ≡ true → Among l m d x
+pub one-of-take : (x : ℕ) (m : ℕ) (l : List ℕ) (d : ℕ) → oneOf x (take m l) ≡ true → Early l m d x
 one-of-take x m l d e = go (one-of-place x (take m l) d e)
   where
-    go : Place (take m l) d x → Among l m d x
+    go : Place (take m l) d x → Early l m d x
     go r =
         let k = r .at in
         let a = r .inside in

@@ -1,3 +1,5 @@
 -- The laws of the station list.
 pub mod First
 pub mod Same
+pub mod Midway
+pub mod Lookups
