@@ -3,3 +3,4 @@ pub mod First
 pub mod Same
 pub mod Midway
 pub mod Lookups
+pub mod Programmed
