@@ -4,3 +4,5 @@ pub mod Same
 pub mod Midway
 pub mod Lookups
 pub mod Programmed
+pub mod Shown
+pub mod Stored

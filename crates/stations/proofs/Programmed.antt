@@ -1,7 +1,7 @@
 -- A page program of part of one slot, done or stopped: the buffer has FF but for the bytes sent, and a byte AND FF, or AND itself OR m, is that byte. So no byte changes but those sent,
 -- and of a done program each of these is the old one AND what was sent. Assumes nothing.
 use Prim.Native.Nat.{ℕ, zero, suc, _+_, _-_, _*_, _/_, _%_, _≤_, _<_}
-use mathlib.Core.Path.{_≡_, refl, sym, ap, _∙_}
+use mathlib.Core.Path.{_≡_, refl, sym, ap, _∙_, subst}
 use mathlib.Core.Bool.{Bool, true, false, _&&_}
 use mathlib.Core.List.{List, [], _∷_}
 use mathlib.Core.Logic.{_⊎_, inl, inr}
@@ -59,7 +59,7 @@ no-read-lock p x h = ap (λ (k : ℕ). blockAt k .paired && bit (blockAt k .writ
 
 -- ---- one byte
 
-and-ff : (x : ℕ) → x < 256 → bitAnd x 0xFF ≡ x
+pub and-ff : (x : ℕ) → x < 256 → bitAnd x 0xFF ≡ x
 and-ff x h = byte-among x 0 h
 
 -- a byte that the buffer has FF for stays, however the program is stopped
@@ -184,3 +184,11 @@ module _ (i lo p : ℕ) (at : p ≡ i * 32 + lo) (ds : List ℕ) (few : i < 2048
 
       far : (a : ℕ) → a ≡ 0x10000 + p → 0x10000 + (i * 32 + (lo + d)) - a / 256 * 256 < 0x200000
       far a z = omega arith
+
+  -- the same, by the byte of the slot
+  pub slot-hit-at : (mem : Lent) (j : ℕ) → lo ≤ j → j < lo + length ds
+      → programmed sent mem .byte (0x10000 + (i * 32 + j)) ≡ bitAnd (mem .byte (0x10000 + (i * 32 + j))) (getD ds (j - lo) 0)
+  slot-hit-at mem j a b =
+      let z : lo + (j - lo) ≡ j = omega arith in
+      subst (λ (k : ℕ). programmed sent mem .byte (0x10000 + (i * 32 + k)) ≡ bitAnd (mem .byte (0x10000 + (i * 32 + k))) (getD ds (j - lo) 0)) z
+      (slot-hit mem (j - lo) (omega arith))
