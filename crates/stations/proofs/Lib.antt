@@ -5,4 +5,6 @@ pub mod Midway
 pub mod Lookups
 pub mod Programmed
 pub mod Shown
+pub mod Clears
 pub mod Stored
+pub mod Torn

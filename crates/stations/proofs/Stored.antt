@@ -4,13 +4,13 @@ use Prim.Native.Nat.{ℕ, zero, suc, _+_, _-_, _*_, _/_, _%_, _≤_, _<_}
 use mathlib.Core.Path.{_≡_, refl, sym, ap, ap₂, _∙_, subst}
 use mathlib.Core.Bool.{Bool, true, false, not, _&&_, _||_, true≢false, false≢true}
 use mathlib.Core.List.{List, [], _∷_}
-use mathlib.Core.Logic.{_⊎_, inl, inr}
+use mathlib.Core.Logic.{inl, inr}
 use native.Mathlib.Omega.{arith}
 use native.Mathlib.Decide.{ℕ-discrete}
 use lib.Dec.{eqb, ltb, leb}
 use lib.ListN.{length, getD, take}
 use lib.Bits.{bitAnd, and-zero-r, and-comm}
-use borrow.Author.Tests.{ltb-true, ltb-false, eqb-true, eqb-false, eq-eqb, ne-eqb, lt-ltb, le-ltb}
+use borrow.Author.Tests.{ltb-true, ltb-false, eqb-true, eqb-false, eq-eqb, ne-eqb, lt-ltb, le-ltb, le-leb, lt-leb}
 use Rattle.rules.specs.declared.Cell.{Cell}
 use Rattle.rules.specs.declared.Range.{Range}
 use Rattle.rules.specs.declared.Tear.{Tear}
@@ -27,82 +27,8 @@ use Rattle.stations.proofs.First.{Place, Early, one-of-take, one-of-pla
 use Rattle.stations.proofs.Same.{and-no-left, and-no-right, live-marks, empty-blank, live-of-split, free-empty}
 use Rattle.stations.proofs.Midway.{livesOf, lives-in, cleared-live, after-body, after-mark, after-other, after-same, none-cleared, after-unmarked, inFrame, Underway, free-not-live-of, live-not-free}
 use Rattle.stations.proofs.Programmed.{stoppedBy, programmed, programmedAll, and-ff, stopped-bytes, program-miss, slot-miss, slot-hit-at}
+use Rattle.stations.proofs.Clears.{Below, clear-miss, clear-hit, take-clearings}
 use Rattle.stations.proofs.Shown.{listOf, list-cell, list-plain, list-open, list-same, list-locks}
-
--- ---- clears
-
-zeros : (j : ℕ) → _≡_ {A = ℕ} (getD (0x00 ∷ 0x00 ∷ []) j 0) 0
-zeros zero = refl
-zeros (suc zero) = refl
-zeros (suc (suc j)) = refl
-
--- every slot of the list
-abbrev Below : List ℕ → Type 0
-Below is = (k : ℕ) → oneOf k is ≡ true → k < slotCount
-
-below-first : (c : ℕ) (is : List ℕ) → Below (c ∷ is) → c < slotCount
-below-first c is h = h c (or-left (eqb c c) (oneOf c is) (eq-eqb c c refl))
-
-below-rest : (c : ℕ) (is : List ℕ) → Below (c ∷ is) → Below is
-below-rest c is h k e = h k (or-right (eqb k c) (oneOf k is) e)
-
-clear-miss-one : (c : ℕ) → c < slotCount → (t : Tear) (mem : Lent) → OfBytes mem → (i j : ℕ) → j < 32 → (eqb i c && ltb j 2) ≡ false
-    → stoppedBy t (markFrame c 0x00 0x00) mem .byte (0x10000 + (i * 32 + j)) ≡ mem .byte (0x10000 + (i * 32 + j))
-clear-miss-one c l t mem small i j h e =
-    slot-miss c 0 (c * 32) (omega arith) (0x00 ∷ 0x00 ∷ []) l (omega arith) (omega arith) t mem small i j h (λ z. inr (go (ltb j 2) refl z))
-  where
-    go : (b : Bool) → ltb j 2 ≡ b → i ≡ c → 2 ≤ j
-    go true p z = absurd (true≢false (sym (and-both (eq-eqb i c z) p) ∙ e))
-    go false p z = ltb-false j 2 p
-
-pub clear-miss : (is : List ℕ) → Below is → (mem : Lent) → OfBytes mem → (i j : ℕ) → j < 32 → (oneOf i is && ltb j 2) ≡ false
-    → programmedAll (clearings is) mem .byte (0x10000 + (i * 32 + j)) ≡ mem .byte (0x10000 + (i * 32 + j))
-unfolding clearings
-clear-miss [] b mem small i j h e = refl
-clear-miss (c ∷ is) b mem small i j h e =
-    clear-miss is (below-rest c is b) (programmed (markFrame c 0x00 0x00) mem) (stopped-bytes all (markFrame c 0x00 0x00) mem small) i j h (apart (eqb i c) (oneOf i is) (ltb j 2) e .1)
-    ∙ clear-miss-one c (below-first c is b) all mem small i j h (apart (eqb i c) (oneOf i is) (ltb j 2) e .0)
-  where
-    apart : (x y z : Bool) → ((x || y) && z) ≡ false → ((x && z) ≡ false) × ((y && z) ≡ false)
-    apart true y true e = absurd (true≢false e)
-    apart true true false e = (refl, refl)
-    apart true false false e = (refl, refl)
-    apart false y z e = (refl, e)
-
-pub clear-hit : (is : List ℕ) → Below is → (mem : Lent) → OfBytes mem → (i j : ℕ) → j < 2 → oneOf i is ≡ true
-    → programmedAll (clearings is) mem .byte (0x10000 + (i * 32 + j)) ≡ 0
-unfolding clearings
-clear-hit [] b mem small i j h e = absurd (false≢true e)
-clear-hit (c ∷ is) b mem small i j h e = go (oneOf i is) refl (clear-hit is (below-rest c is b) after (stopped-bytes all (markFrame c 0x00 0x00) mem small) i j h)
-  where
-    after : Lent
-    after = programmed (markFrame c 0x00 0x00) mem
-
-    cleared : i ≡ c → after .byte (0x10000 + (i * 32 + j)) ≡ 0
-    cleared z =
-        subst (λ (k : ℕ). after .byte (0x10000 + (k * 32 + j)) ≡ 0) (sym z)
-        (slot-hit-at c 0 (c * 32) (omega arith) (0x00 ∷ 0x00 ∷ []) (below-first c is b) (omega arith) (omega arith) mem j (omega arith) (omega arith)
-        ∙ ap (bitAnd (mem .byte (0x10000 + (c * 32 + j)))) (zeros (j - 0)) ∙ and-zero-r (mem .byte (0x10000 + (c * 32 + j))))
-
-    other : oneOf i is ≡ false → eqb i c ≡ true
-    other f = first (eqb i c) (oneOf i is) f e
-      where
-        first : (x y : Bool) → y ≡ false → (x || y) ≡ true → x ≡ true
-        first true y f e = refl
-        first false y f e = absurd (true≢false (sym e ∙ f))
-
-    go : (x : Bool) → oneOf i is ≡ x → (oneOf i is ≡ true → programmedAll (clearings is) after .byte (0x10000 + (i * 32 + j)) ≡ 0)
-        → programmedAll (clearings is) after .byte (0x10000 + (i * 32 + j)) ≡ 0
-    go true p f = f p
-    go false p f =
-        clear-miss is (below-rest c is b) after (stopped-bytes all (markFrame c 0x00 0x00) mem small) i j (omega arith) (and-no-left (oneOf i is) (ltb j 2) p)
-        ∙ cleared (eqb-true i c (other p))
-
-pub take-clearings : (k : ℕ) (is : List ℕ) → take k (clearings is) ≡ clearings (take k is)
-unfolding clearings
-take-clearings zero is = refl
-take-clearings (suc k) [] = refl
-take-clearings (suc k) (i ∷ is) = ap (λ (l : List (List ℕ)). markFrame i 0x00 0x00 ∷ l) (take-clearings k is)
 
 -- ---- the list after the first w writes
 
@@ -141,15 +67,15 @@ module _ (protection : ℕ) (r : Range) (mem : Lent) (small : OfBytes mem) (n : 
   lives-below k i e = let p = one-of-take i k (livesOf v n) slotCount e in let h = lives-in v n (p .at) (p .inside) .0 in let z = p .is in omega arith
 
   -- the two first frames, where they miss, for any memory
-  record-miss : (t : Tear) (l : Lent) → OfBytes l → (i j : ℕ) → j < 32 → (eqb i free && leb 2 j) ≡ false
+  pub record-miss : (t : Tear) (l : Lent) → OfBytes l → (i j : ℕ) → j < 32 → (eqb i free && leb 2 j) ≡ false
       → stoppedBy t (recordFrame free n bytes) l .byte (0x10000 + (i * 32 + j)) ≡ l .byte (0x10000 + (i * 32 + j))
   record-miss t l s i j h e = slot-miss free 2 (free * 32 + 2) refl body room (omega arith) (omega arith) t l s i j h (λ z. inl (go (ltb j 2) refl z))
     where
       go : (b : Bool) → ltb j 2 ≡ b → i ≡ free → j < 2
       go true p z = ltb-true j 2 p
-      go false p z = absurd (true≢false (sym (and-both (eq-eqb i free z) (borrow.Author.Tests.le-leb 2 j (ltb-false j 2 p))) ∙ e))
+      go false p z = absurd (true≢false (sym (and-both (eq-eqb i free z) (le-leb 2 j (ltb-false j 2 p))) ∙ e))
 
-  mark-miss : (t : Tear) (l : Lent) → OfBytes l → (i j : ℕ) → j < 32 → (eqb i free && ltb j 2) ≡ false
+  pub mark-miss : (t : Tear) (l : Lent) → OfBytes l → (i j : ℕ) → j < 32 → (eqb i free && ltb j 2) ≡ false
       → stoppedBy t (markFrame free 0x53 0x54) l .byte (0x10000 + (i * 32 + j)) ≡ l .byte (0x10000 + (i * 32 + j))
   mark-miss t l s i j h e =
       slot-miss free 0 (free * 32) (omega arith) (0x53 ∷ 0x54 ∷ []) room (omega arith) (omega arith) t l s i j h (λ z. inr (go (ltb j 2) refl z))
@@ -187,7 +113,7 @@ module _ (protection : ℕ) (r : Range) (mem : Lent) (small : OfBytes mem) (n : 
         let z : j - 0 ≡ j = omega arith in
         slot-hit-at free 0 (free * 32) (omega arith) (0x53 ∷ 0x54 ∷ []) room (omega arith) (omega arith) one j (omega arith) (omega arith)
         ∙ ap₂ bitAnd
-        (record-miss all mem small free j (omega arith) (and-no-right (eqb free free) (leb 2 j) (borrow.Author.Tests.lt-leb 2 j h)) ∙ free-open j (omega arith) .1)
+        (record-miss all mem small free j (omega arith) (and-no-right (eqb free free) (leb 2 j) (lt-leb 2 j h)) ∙ free-open j (omega arith) .1)
         (ap (λ (k : ℕ). getD (0x53 ∷ 0x54 ∷ []) k 0) z)
         ∙ ff-and (getD (0x53 ∷ 0x54 ∷ []) j 0) (byte j)
       where
@@ -206,7 +132,7 @@ module _ (protection : ℕ) (r : Range) (mem : Lent) (small : OfBytes mem) (n : 
         go true p =
             let l = ltb-true j 2 p in
             list-same protection r mem one (free * 32 + j) (omega arith)
-            (record-miss all mem small free j h (and-no-right (eqb free free) (leb 2 j) (borrow.Author.Tests.lt-leb 2 j l)))
+            (record-miss all mem small free j h (and-no-right (eqb free free) (leb 2 j) (lt-leb 2 j l)))
             ∙ sym (after-unmarked v n bytes 1 free j (omega arith) l)
         go false p =
             let l = ltb-false j 2 p in
