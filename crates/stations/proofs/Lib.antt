@@ -8,3 +8,5 @@ pub mod Shown
 pub mod Clears
 pub mod Stored
 pub mod Torn
+pub mod Passing
+pub mod Keeping

@@ -220,3 +220,13 @@ module _ (v : Shown) (n : ℕ) (bytes : List ℕ) (room : freeSlot v < slotCount
       last =
           let z : nextLive v n w ≡ slotCount = List·getD-eq-default (livesOf v n) slotCount {n = w - 2} (omega arith) in
           lt-ltb (freeSlot v) (nextLive v n w) (omega arith)
+
+  -- with at most one live slot: old or new
+  pub after-either : length (livesOf v n) ≤ 1 → (found (afterWrites v n bytes w) n ≡ found v n) ⊎ (found (afterWrites v n bytes w) n ≡ bytes)
+  after-either few = go (ltb w (2 + length (livesOf v n))) refl
+    where
+      go : (b : Bool) → ltb w (2 + length (livesOf v n)) ≡ b → (found after n ≡ found v n) ⊎ (found after n ≡ bytes)
+      go true e =
+          midway-either v n bytes room after after-midway few
+          (turned v n room bytes right long w after (after-underway v n bytes w) (ltb-true w (2 + length (livesOf v n)) e))
+      go false e = inr (after-all (ltb-false w (2 + length (livesOf v n)) e))

@@ -40,6 +40,11 @@ each-byte (x ∷ xs) (h next r) (suc d) = each-byte xs r d
 ff-and : (x : ℕ) → x < 256 → bitAnd 0xFF x ≡ x
 ff-and x h = and-comm 0xFF x ∙ and-ff x h
 
+-- after none it is as before
+pub none-written : (v : Shown) (n : ℕ) (bytes : List ℕ) (p : ℕ) → afterWrites v n bytes 0 p ≡ v p
+unfolding afterWrites
+none-written v n bytes p = refl
+
 module _ (protection : ℕ) (r : Range) (mem : Lent) (small : OfBytes mem) (n : ℕ) (bytes : List ℕ) (long : length bytes ≡ dataSize)
     (room : freeSlot (listOf protection r mem) < slotCount) where
   abbrev v : Shown
@@ -189,14 +194,9 @@ module _ (protection : ℕ) (r : Range) (mem : Lent) (small : OfBytes mem) (n : 
               list-same protection r mem then (i * 32 + j) (omega arith) (kept (and-no-left (oneOf i some) (ltb j 2) p))
               ∙ sym (ap (λ (b : Bool). pick b (known 0x00) (v (i * 32 + j))) (and-no-left (oneOf i some) (ltb j 2) p))
 
-    -- after none
-    none-slot : (p : ℕ) → afterWrites v n bytes 0 p ≡ v p
-    unfolding afterWrites
-    none-slot p = refl
-
     pub stored-slot : (w i j : ℕ) → i < slotCount → j < 32
         → listOf protection r (programmedAll (take w (storingAt v n bytes free)) mem) (i * 32 + j) ≡ afterWrites v n bytes w (i * 32 + j)
-    stored-slot zero i j l h = sym (none-slot (i * 32 + j))
+    stored-slot zero i j l h = sym (none-written v n bytes (i * 32 + j))
     stored-slot (suc zero) i j l h = go (ℕ-discrete i free)
       where
         go : Dec (i ≡ free) → listOf protection r one (i * 32 + j) ≡ afterWrites v n bytes 1 (i * 32 + j)
