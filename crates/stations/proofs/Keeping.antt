@@ -16,7 +16,7 @@ use Rattle.stations.specs.Given.{Account, storeAccount}
 use Rattle.stations.specs.Keeping.{shownAt, afterWrites, Storable, nextLive, StoreLeaves, Keeps, StoreKeeps, RefusedLeaves, StoreRefused, Stays, StoreStays}
 use Rattle.stations.proofs.Midway.{livesOf}
 use Rattle.stations.proofs.Same.{alike-found}
-use Rattle.stations.proofs.Lookups.{after-others, after-before-mark, after-itself, after-all}
+use Rattle.stations.proofs.Lookups.{after-others, after-before-mark, after-itself, after-all, after-either}
 use Rattle.stations.proofs.Stored.{none-written}
 use Rattle.stations.proofs.Passing.{Written, StoreEnds, StoreDone, Passes, StorePasses, written-list, written-found, written-stays}
 
@@ -27,22 +27,35 @@ module _ (s t : State) (n : ℕ) (bytes : List ℕ) (w : ℕ) (g : Written s n b
       written-found s t n bytes w g small right q
       ∙ alike-found (shownAt s) (afterWrites (shownAt s) n bytes w) q (λ p h. sym (none-written (shownAt s) n bytes p) ∙ ap (λ (w : ℕ). afterWrites (shownAt s) n bytes w p) (sym z))
 
-  others : (q : ℕ) → (q ≡ n → ⊥) → found (shownAt t) q ≡ found (shownAt s) q
-  others q ne = go (g .room)
+  pub written-others : (q : ℕ) → (q ≡ n → ⊥) → found (shownAt t) q ≡ found (shownAt s) q
+  written-others q ne = go (g .room)
     where
       go : (w ≡ 0) ⊎ ((freeSlot (shownAt s) < slotCount) × (length bytes ≡ dataSize)) → found (shownAt t) q ≡ found (shownAt s) q
       go (inl z) = none-found z q
       go (inr e) = written-found s t n bytes w g small right q ∙ after-others (shownAt s) n bytes (e .0) right (e .1) w q ne
 
+  -- with at most one live slot: old or new data
+  pub written-either : length (livesOf (shownAt s) n) ≤ 1 → (found (shownAt t) n ≡ found (shownAt s) n) ⊎ (found (shownAt t) n ≡ bytes)
+  written-either few = go (g .room)
+    where
+      then : (found (afterWrites (shownAt s) n bytes w) n ≡ found (shownAt s) n) ⊎ (found (afterWrites (shownAt s) n bytes w) n ≡ bytes)
+          → (found (shownAt t) n ≡ found (shownAt s) n) ⊎ (found (shownAt t) n ≡ bytes)
+      then (inl e) = inl (written-found s t n bytes w g small right n ∙ e)
+      then (inr e) = inr (written-found s t n bytes w g small right n ∙ e)
+
+      go : (w ≡ 0) ⊎ ((freeSlot (shownAt s) < slotCount) × (length bytes ≡ dataSize)) → (found (shownAt t) n ≡ found (shownAt s) n) ⊎ (found (shownAt t) n ≡ bytes)
+      go (inl z) = inl (none-found z n)
+      go (inr e) = then (after-either (shownAt s) n bytes (e .0) right (e .1) w few)
+
   pub written-keeps : w ≡ 2 + length (livesOf (shownAt s) n) → Keeps s t n bytes
-  written-keeps z = record { itself = written-found s t n bytes w g small right n ∙ go (g .room); others = others }
+  written-keeps z = record { itself = written-found s t n bytes w g small right n ∙ go (g .room); others = written-others }
     where
       go : (w ≡ 0) ⊎ ((freeSlot (shownAt s) < slotCount) × (length bytes ≡ dataSize)) → found (afterWrites (shownAt s) n bytes w) n ≡ bytes
       go (inl y) = absurd (omega arith)
       go (inr e) = after-all (shownAt s) n bytes (e .0) right (e .1) w (omega arith)
 
   pub written-leaves : RefusedLeaves s t n bytes w
-  written-leaves = record { before-mark = λ h q. before (g .room) h q; others = others; itself = λ h. written-found s t n bytes w g small right n ∙ itself (g .room) h }
+  written-leaves = record { before-mark = λ h q. before (g .room) h q; others = written-others; itself = λ h. written-found s t n bytes w g small right n ∙ itself (g .room) h }
     where
       before : (w ≡ 0) ⊎ ((freeSlot (shownAt s) < slotCount) × (length bytes ≡ dataSize)) → w < 2 → (q : ℕ) → found (shownAt t) q ≡ found (shownAt s) q
       before (inl z) h q = none-found z q

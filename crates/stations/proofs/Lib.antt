@@ -10,3 +10,4 @@ pub mod Stored
 pub mod Torn
 pub mod Passing
 pub mod Keeping
+pub mod Cuts
