@@ -1,40 +1,34 @@
 -- A power cut at any moment of a store: nothing runs, and the list is that of the writes so far, or one frame runs, and the list is in the middle of the store. Assumes nothing.
-use Prim.Native.Nat.{ℕ, zero, suc, _+_, _/_, _<_, _≤_}
+use Prim.Native.Nat.{ℕ, _/_, _≤_}
 use mathlib.Core.Path.{_≡_, refl, sym, ap, ap₂, _∙_}
-use mathlib.Core.Bool.{Bool, true, false, _&&_}
-use mathlib.Core.List.{List, [], _∷_}
+use mathlib.Core.Bool.{Bool, true, false}
+use mathlib.Core.List.{List, []}
 use mathlib.Core.Logic.{_⊎_, inl, inr}
 use native.Mathlib.Omega.{arith}
-use lib.Dec.{eqb, ltb, leb}
+use lib.Dec.{eqb}
 use lib.ListN.{length, getD, take}
-use Rattle.rules.specs.declared.Chip.{Chip}
 use Rattle.rules.specs.declared.Range.{Range}
 use Rattle.rules.specs.declared.Tear.{Tear}
 use Rattle.rules.specs.declared.Work.{Work}
 use Rattle.rules.specs.declared.Work.the-variants.{Nothing, ProgramPage}
-use Rattle.rules.specs.Words.{pick, nowhere, holds, Lent}
+use Rattle.rules.specs.Words.{pick, nowhere, Lent}
 use Rattle.rules.specs.Works.{arrayRange, securityRange, tearOf, finish}
 use Rattle.rules.specs.Frames.{address}
-use Rattle.rules.specs.Programs.{blank, pageBuffer}
+use Rattle.rules.specs.Programs.{blank}
 use Rattle.rules.specs.Fields.{chipOf}
 use Rattle.rules.specs.Commands.{settledFirst, afterCut}
 use Rattle.rules.specs.Numbers.{State, first, cutTests}
 use Rattle.rules.specs.Machine.{workedArray, workedSecurity, cutChip, powerCut, left}
-use Rattle.rules.specs.Tears.{OfBytes}
-use Rattle.rules.proofs.Bools.{never}
 use Rattle.rules.proofs.Blocks.{holds-at}
 use Rattle.rules.proofs.TornBytes.{finish-same}
-use Rattle.stations.specs.Slots.{Shown, slotCount, dataSize, found, freeSlot}
-use Rattle.stations.specs.Plans.{storingAt}
-use Rattle.stations.specs.Keeping.{shownAt, afterWrites, Storable, AtRest, CutKeeps, StoreCut, mayChange, Stays, CutStays}
+use Rattle.stations.specs.Slots.{Shown, dataSize, found}
+use Rattle.stations.specs.Keeping.{shownAt, Storable, AtRest, CutKeeps, StoreCut, Stays, CutStays}
 use Rattle.stations.proofs.Midway.{livesOf}
 use Rattle.stations.proofs.Same.{alike-found}
-use Rattle.stations.proofs.Lookups.{after-others, after-either}
 use Rattle.stations.proofs.Programmed.{stoppedBy, programmedAll}
 use Rattle.stations.proofs.Shown.{listOf}
-use Rattle.stations.proofs.Stored.{none-written}
 use Rattle.stations.proofs.Torn.{torn-stays, torn-others, torn-itself}
-use Rattle.stations.proofs.Passing.{suspended, running, framesOf, Written, OnFrame, Passes, StorePasses, shown-as, written-found, written-stays}
+use Rattle.stations.proofs.Passing.{suspended, running, framesOf, Written, OnFrame, Passes, StorePasses, shown-as, written-stays}
 use Rattle.stations.proofs.Keeping.{written-others, written-either}
 
 -- ---- what a cut makes of a state

@@ -1,7 +1,7 @@
 -- The first number at which a test holds, and all of them, lowest first: by induction on the count, each is what its name says; tests that agree on the range give the same. Assumes nothing.
 use Prim.Native.Nat.{ℕ, zero, suc, _+_, _≤_, _<_}
 use mathlib.Core.Path.{_≡_, refl, sym, ap, ap₂, _∙_}
-use mathlib.Core.Bool.{Bool, true, false, not, _&&_, _||_, true≢false, false≢true}
+use mathlib.Core.Bool.{Bool, true, false, _&&_, _||_, true≢false, false≢true}
 use mathlib.Core.List.{List, [], _∷_}
 use native.Mathlib.Omega.{arith}
 use native.Mathlib.Decide.{ℕ-discrete}
@@ -10,7 +10,7 @@ use lib.ListN.{length, getD, take, length-take}
 use lib.Seq.{getD-take}
 use borrow.Author.Tests.{ltb-true, ltb-false, eqb-true, eq-eqb}
 use Rattle.rules.specs.Words.{pick, oneOf}
-use Rattle.rules.proofs.Bools.{and-split, and-both, or-split, or-left, or-right, never}
+use Rattle.rules.proofs.Bools.{and-split, and-both, or-split, or-left, or-right}
 use Rattle.stations.specs.Slots.{allBelow, someBelow, firstFrom, thoseFrom}
 
 -- ---- the first

@@ -1,19 +1,18 @@
 -- What a store leaves of the list, done or refused: the list at its end is that of its completed writes, whose lookups are known. Assumes nothing.
-use Prim.Native.Nat.{ℕ, zero, suc, _+_, _<_, _≤_}
-use mathlib.Core.Path.{_≡_, refl, sym, ap, _∙_}
-use mathlib.Core.Bool.{Bool, true, false}
-use mathlib.Core.List.{List, [], _∷_}
+use Prim.Native.Nat.{ℕ, _+_, _<_, _≤_}
+use mathlib.Core.Path.{_≡_, sym, ap, _∙_}
+use mathlib.Core.List.{List}
 use mathlib.Core.Logic.{_⊎_, inl, inr}
 use native.Mathlib.Omega.{arith}
 use lib.Dec.{ltb}
 use lib.ListN.{length}
-use Rattle.rules.specs.Words.{pick, Lent}
+use Rattle.rules.specs.Words.{pick}
 use Rattle.rules.specs.Numbers.{State}
 use Rattle.rules.specs.Tears.{OfBytes}
-use Rattle.stations.specs.Slots.{Shown, slotCount, dataSize, found, bytesOf, freeSlot}
-use Rattle.stations.specs.Calls.{played, moments, storeCall}
-use Rattle.stations.specs.Given.{Account, storeAccount}
-use Rattle.stations.specs.Keeping.{shownAt, afterWrites, Storable, nextLive, StoreLeaves, Keeps, StoreKeeps, RefusedLeaves, StoreRefused, Stays, StoreStays}
+use Rattle.stations.specs.Slots.{slotCount, dataSize, found, bytesOf, freeSlot}
+use Rattle.stations.specs.Calls.{played, storeCall}
+use Rattle.stations.specs.Given.{storeAccount}
+use Rattle.stations.specs.Keeping.{shownAt, afterWrites, Storable, nextLive, StoreLeaves, Keeps, StoreKeeps, RefusedLeaves, StoreRefused, StoreStays}
 use Rattle.stations.proofs.Midway.{livesOf}
 use Rattle.stations.proofs.Same.{alike-found}
 use Rattle.stations.proofs.Lookups.{after-others, after-before-mark, after-itself, after-all, after-either}

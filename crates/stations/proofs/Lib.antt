@@ -11,3 +11,4 @@ pub mod Torn
 pub mod Passing
 pub mod Keeping
 pub mod Cuts
+pub mod Done

@@ -1,15 +1,15 @@
 -- Lookups in the middle of a store and after its writes. The live slots of another number are those of before; those of the number itself are the new one, once its mark is there,
 -- and the old ones whose marks are not yet cleared, and the first of these is the lower one of the new slot and the next to be cleared. Assumes nothing.
-use Prim.Native.Nat.{ℕ, zero, suc, _+_, _-_, _*_, _≤_, _<_}
-use mathlib.Core.Path.{_≡_, refl, sym, ap, ap₂, _∙_, subst}
-use mathlib.Core.Bool.{Bool, true, false, not, _&&_, _||_, true≢false, false≢true}
+use Prim.Native.Nat.{ℕ, _+_, _-_, _*_, _≤_, _<_}
+use mathlib.Core.Path.{_≡_, refl, sym, ap, _∙_, subst}
+use mathlib.Core.Bool.{Bool, true, false, true≢false}
 use mathlib.Core.List.{List, [], _∷_}
 use mathlib.Core.Logic.{_⊎_, inl, inr}
 use native.Mathlib.Omega.{arith}
 use native.Mathlib.Decide.{ℕ-discrete}
-use lib.Dec.{eqb, ltb}
-use lib.ListN.{length, getD, take, List·getD-eq-default}
-use borrow.Author.Tests.{ltb-true, ltb-false, lt-ltb, le-ltb}
+use lib.Dec.{ltb}
+use lib.ListN.{length, getD, List·getD-eq-default}
+use borrow.Author.Tests.{ltb-true, ltb-false, lt-ltb}
 use Rattle.rules.specs.declared.Cell.{Cell}
 use Rattle.rules.specs.Words.{pick, oneOf}
 use Rattle.rules.specs.Reading.{known}
@@ -17,8 +17,8 @@ use Rattle.rules.proofs.Bools.{and-both, never}
 use Rattle.stations.specs.Slots.{Shown, slotCount, dataSize, byteOf, live, station, liveOf, slotOf, bytesOf, found, freeSlot}
 use Rattle.stations.specs.Keeping.{clearedBy, afterWrites, Storable, nextLive}
 use Rattle.stations.proofs.First.{those-rise, Place, Early, one-of-take, take-one-of}
-use Rattle.stations.proofs.Same.{and-no-left, SameFrom, same-tail, same-station, same-live, same-live-of, same-data, marks-live, no-mark, live-of-split, live-of-both, not-live-of, other-station, slot-is, slot-one, slot-some, found-at, found-none, found-same}
-use Rattle.stations.proofs.Midway.{livesOf, lives-in, lives-has, after-mark, after-other, after-same, none-cleared, Underway, after-underway, Midway, Turned, free-not-live-of, live-not-free, midway, turned, others-live, unmarked}
+use Rattle.stations.proofs.Same.{and-no-left, SameFrom, same-tail, same-station, same-live-of, same-data, marks-live, no-mark, live-of-split, live-of-both, not-live-of, other-station, slot-is, slot-one, slot-some, found-at, found-same}
+use Rattle.stations.proofs.Midway.{livesOf, lives-in, lives-has, after-mark, after-other, after-same, after-underway, Midway, Turned, free-not-live-of, live-not-free, midway, turned, others-live, unmarked}
 
 module _ (v : Shown) (n : ℕ) (bytes : List ℕ) (room : freeSlot v < slotCount) (x : Shown) (m : Midway v n bytes x) where
   -- a slot other than the new one that is live of the number now was so before

@@ -2,22 +2,21 @@
 -- number and data, and the new one is not live before its number and data are there: so lookups of other numbers stay, and the number itself gives old or new data. Assumes nothing.
 use Prim.Native.Nat.{ℕ, zero, suc, _+_, _-_, _*_, _/_, _%_, _≤_, _<_}
 use mathlib.Core.Path.{_≡_, refl, sym, ap, ap₂, _∙_, subst}
-use mathlib.Core.Bool.{Bool, true, false, not, _&&_, _||_, true≢false, false≢true}
+use mathlib.Core.Bool.{Bool, true, false, _&&_, true≢false, false≢true}
 use mathlib.Core.List.{List, [], _∷_}
 use mathlib.Core.Logic.{_⊎_, inl, inr}
 use native.Mathlib.Omega.{arith}
-use native.Mathlib.Decide.{ℕ-discrete}
 use lib.Dec.{eqb, ltb, leb}
 use lib.ListN.{length, getD, take}
-use borrow.Author.Tests.{ltb-true, ltb-false, eqb-true, eq-eqb, ne-eqb, lt-ltb, le-ltb, le-leb, lt-leb}
+use borrow.Author.Tests.{ltb-true, ltb-false, eq-eqb, ne-eqb, le-ltb, le-leb, lt-leb}
 use Rattle.rules.specs.declared.Cell.{Cell}
 use Rattle.rules.specs.Words.{pick, oneOf}
 use Rattle.rules.specs.Reading.{known}
-use Rattle.rules.proofs.Bools.{and-split, and-both, never}
-use Rattle.stations.specs.Slots.{Shown, slotSize, slotCount, dataSize, thoseFrom, byteOf, empty, live, station, liveOf, slotOf, bytesOf, found, freeSlot}
-use Rattle.stations.specs.Keeping.{clearedBy, afterWrites, Storable, nextLive}
-use Rattle.stations.proofs.First.{Hit, those-in, Place, those-has, Early, one-of-take}
-use Rattle.stations.proofs.Same.{and-no-left, and-no-right, SameFrom, same-tail, same-station, same-live, same-live-of, same-data, live-marks, marks-live, no-mark, empty-blank, empty-not-live, live-of-split, live-of-both, not-live-of, other-station, bytes-are, slot-is, slot-some, free-empty, found-at, found-none, found-same}
+use Rattle.rules.proofs.Bools.{and-both, never}
+use Rattle.stations.specs.Slots.{Shown, slotCount, dataSize, thoseFrom, byteOf, live, station, liveOf, bytesOf, freeSlot}
+use Rattle.stations.specs.Keeping.{clearedBy, afterWrites, Storable}
+use Rattle.stations.proofs.First.{those-in, Place, those-has, one-of-take}
+use Rattle.stations.proofs.Same.{and-no-left, and-no-right, SameFrom, same-live, marks-live, no-mark, empty-blank, empty-not-live, live-of-split, not-live-of, bytes-are, free-empty}
 
 pick-yes : {A : Type 0} (b : Bool) (x y : A) → b ≡ true → pick b x y ≡ x
 pick-yes true x y e = refl
@@ -188,8 +187,8 @@ module _ (v : Shown) (n : ℕ) (room : freeSlot v < slotCount) where
         let z : n / 256 % 256 * 256 + n % 256 ≡ n = omega arith in (
           ap₂ (λ (y z : ℕ). y * 256 + z) a b ∙ z,
           bytes-are x (freeSlot v) 4 28 bytes long (λ d l.
-          let y : 4 + d - 2 ≡ suc (suc d) = omega arith in
-          body-byte (4 + d) h (omega arith) (omega arith) (e (4 + d) (omega arith)) ∙ ap (λ (k : ℕ). getD (n / 256 % 256 ∷ n % 256 ∷ bytes) k 0) y),
+              let y : 4 + d - 2 ≡ suc (suc d) = omega arith in
+              body-byte (4 + d) h (omega arith) (omega arith) (e (4 + d) (omega arith)) ∙ ap (λ (k : ℕ). getD (n / 256 % 256 ∷ n % 256 ∷ bytes) k 0) y),
         )
 
   module _ (bytes : List ℕ) (right : Storable n bytes) (long : length bytes ≡ dataSize) where

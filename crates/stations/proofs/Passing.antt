@@ -1,10 +1,9 @@
 -- What the list's theorems ask of the machine, as records of states: where a store ends, and what each state on its way is. From the list's laws: the list shown there. Assumes nothing.
-use Prim.Native.Nat.{ℕ, zero, suc, _+_, _/_, _<_, _≤_}
-use mathlib.Core.Path.{_≡_, refl, sym, ap, ap₂, _∙_}
-use mathlib.Core.Bool.{Bool, true, false}
-use mathlib.Core.List.{List, [], _∷_}
+use Prim.Native.Nat.{ℕ, _+_, _/_, _<_}
+use mathlib.Core.Path.{_≡_, sym, ap, ap₂, _∙_}
+use mathlib.Core.Bool.{false}
+use mathlib.Core.List.{List, []}
 use mathlib.Core.Logic.{_⊎_, inl, inr}
-use native.Mathlib.Omega.{arith}
 use lib.ListN.{length, getD, take}
 use Rattle.rules.specs.declared.Range.{Range}
 use Rattle.rules.specs.declared.Work.{Work}
@@ -17,12 +16,12 @@ use Rattle.rules.specs.Numbers.{State}
 use Rattle.rules.specs.Tears.{OfBytes}
 use Rattle.stations.specs.Slots.{Shown, slotCount, dataSize, found, freeSlot}
 use Rattle.stations.specs.Plans.{storingAt}
-use Rattle.stations.specs.Calls.{Script, played, moments, storeCall}
+use Rattle.stations.specs.Calls.{played, moments, storeCall}
 use Rattle.stations.specs.Given.{storeAccount}
 use Rattle.stations.specs.Keeping.{shownAt, afterWrites, Storable, Among, mayChange}
 use Rattle.stations.proofs.Same.{alike-found}
 use Rattle.stations.proofs.Midway.{livesOf}
-use Rattle.stations.proofs.Programmed.{programmed, programmedAll}
+use Rattle.stations.proofs.Programmed.{programmedAll}
 use Rattle.stations.proofs.Shown.{listOf, shown-list, list-locks}
 use Rattle.stations.proofs.Stored.{none-written, stored-list}
 use Rattle.stations.proofs.Torn.{stored-stays}

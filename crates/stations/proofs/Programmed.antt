@@ -1,6 +1,6 @@
 -- A page program of part of one slot, done or stopped: the buffer has FF but for the bytes sent, and a byte AND FF, or AND itself OR m, is that byte. So no byte changes but those sent,
 -- and of a done program each of these is the old one AND what was sent. Assumes nothing.
-use Prim.Native.Nat.{ℕ, zero, suc, _+_, _-_, _*_, _/_, _%_, _≤_, _<_}
+use Prim.Native.Nat.{ℕ, _+_, _-_, _*_, _/_, _%_, _≤_, _<_}
 use mathlib.Core.Path.{_≡_, refl, sym, ap, _∙_, subst}
 use mathlib.Core.Bool.{Bool, true, false, _&&_}
 use mathlib.Core.List.{List, [], _∷_}

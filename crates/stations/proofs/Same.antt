@@ -1,18 +1,16 @@
 -- A slot is live, empty, of a station and has its data by its own 32 bytes, so lists that agree on them agree on it, and on lookups. Assumes nothing.
 use Prim.Native.Nat.{ℕ, zero, suc, _+_, _*_, _≤_, _<_}
 use mathlib.Core.Path.{_≡_, refl, sym, ap, ap₂, _∙_}
-use mathlib.Core.Bool.{Bool, true, false, not, _&&_, _||_, true≢false, false≢true}
+use mathlib.Core.Bool.{Bool, true, false, _&&_, true≢false}
 use mathlib.Core.List.{List, [], _∷_}
 use native.Mathlib.Omega.{arith}
-use native.Mathlib.Decide.{ℕ-discrete}
 use lib.Dec.{eqb, ltb}
 use lib.ListN.{length, getD}
-use borrow.Author.Tests.{ltb-true, ltb-false, eqb-true, eq-eqb, ne-eqb, lt-ltb, le-ltb}
+use borrow.Author.Tests.{ltb-true, ltb-false, eqb-true, eq-eqb, lt-ltb, le-ltb}
 use Rattle.rules.specs.declared.Cell.{Cell}
-use Rattle.rules.specs.Words.{pick}
 use Rattle.rules.proofs.Bools.{and-split, and-both, never}
-use Rattle.stations.specs.Slots.{Shown, slotSize, slotCount, dataSize, allBelow, firstFrom, thoseFrom, byteOf, empty, live, station, liveOf, slotOf, bytesOf, found, freeSlot}
-use Rattle.stations.proofs.First.{FirstIs, first-is, first-one, first-some, first-same, those-same, all-at, all-same}
+use Rattle.stations.specs.Slots.{Shown, slotCount, dataSize, byteOf, empty, live, station, liveOf, slotOf, bytesOf, found, freeSlot}
+use Rattle.stations.proofs.First.{FirstIs, first-is, first-one, first-some, first-same, all-at, all-same}
 
 -- ---- tests
 

@@ -1,18 +1,17 @@
 -- What a read of the list shows of a memory: no place of it has a read lock, so each is hidden by the suspended range or shows its byte. Assumes nothing.
 use Prim.Native.Nat.{ℕ, _+_, _*_, _<_}
 use mathlib.Core.Path.{_≡_, refl, sym, ap, _∙_}
-use mathlib.Core.Bool.{Bool, true, false, true≢false}
+use mathlib.Core.Bool.{Bool, false}
 use native.Mathlib.Omega.{arith}
 use lib.Dec.{ltb}
 use borrow.Author.Tests.{lt-ltb}
 use Rattle.rules.specs.declared.Cell.{Cell}
 use Rattle.rules.specs.declared.Range.{Range}
-use Rattle.rules.specs.Words.{pick, nowhere, holds, Lent}
+use Rattle.rules.specs.Words.{pick, holds, Lent}
 use Rattle.rules.specs.Works.{arrayRange}
 use Rattle.rules.specs.Reading.{known, unknown, placeCell}
 use Rattle.rules.specs.Numbers.{State}
 use Rattle.rules.proofs.Bools.{never}
-use Rattle.rules.proofs.Blocks.{holds-at}
 use Rattle.stations.specs.Slots.{Shown, slotCount, byteOf}
 use Rattle.stations.specs.Calls.{listSize}
 use Rattle.stations.specs.Keeping.{listStart, shownAt}

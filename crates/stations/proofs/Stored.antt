@@ -2,33 +2,31 @@
 -- that the store names. Slots in a suspended range show 00, are neither empty nor live, and get no write. Assumes nothing.
 use Prim.Native.Nat.{ℕ, zero, suc, _+_, _-_, _*_, _/_, _%_, _≤_, _<_}
 use mathlib.Core.Path.{_≡_, refl, sym, ap, ap₂, _∙_, subst}
-use mathlib.Core.Bool.{Bool, true, false, not, _&&_, _||_, true≢false, false≢true}
+use mathlib.Core.Bool.{Bool, true, false, _&&_, true≢false}
 use mathlib.Core.List.{List, [], _∷_}
 use mathlib.Core.Logic.{inl, inr}
 use native.Mathlib.Omega.{arith}
 use native.Mathlib.Decide.{ℕ-discrete}
 use lib.Dec.{eqb, ltb, leb}
 use lib.ListN.{length, getD, take}
-use lib.Bits.{bitAnd, and-zero-r, and-comm}
-use borrow.Author.Tests.{ltb-true, ltb-false, eqb-true, eqb-false, eq-eqb, ne-eqb, lt-ltb, le-ltb, le-leb, lt-leb}
-use Rattle.rules.specs.declared.Cell.{Cell}
+use lib.Bits.{bitAnd, and-comm}
+use borrow.Author.Tests.{ltb-true, ltb-false, eq-eqb, ne-eqb, le-ltb, le-leb, lt-leb}
 use Rattle.rules.specs.declared.Range.{Range}
 use Rattle.rules.specs.declared.Tear.{Tear}
-use Rattle.rules.specs.Words.{pick, oneOf, range, holds, Lent, Each, end, _next_}
+use Rattle.rules.specs.Words.{pick, oneOf, holds, Lent, Each, end, _next_}
 use Rattle.rules.specs.Works.{all}
-use Rattle.rules.specs.Reading.{known, unknown}
+use Rattle.rules.specs.Reading.{known}
 use Rattle.rules.specs.Tears.{OfBytes}
-use Rattle.rules.proofs.Bools.{and-split, and-both, or-split, or-left, or-right, never}
-use Rattle.rules.proofs.Blocks.{holds-intro}
-use Rattle.stations.specs.Slots.{Shown, slotSize, slotCount, dataSize, byteOf, live, liveOf, freeSlot}
-use Rattle.stations.specs.Plans.{programAt, recordFrame, markFrame, clearings, storingAt}
-use Rattle.stations.specs.Keeping.{clearedBy, afterWrites, Storable, named, mayChange}
-use Rattle.stations.proofs.First.{Place, Early, one-of-take, one-of-place}
+use Rattle.rules.proofs.Bools.{and-both, never}
+use Rattle.stations.specs.Slots.{Shown, slotCount, dataSize, live, liveOf, freeSlot}
+use Rattle.stations.specs.Plans.{recordFrame, markFrame, clearings, storingAt}
+use Rattle.stations.specs.Keeping.{clearedBy, afterWrites, Storable}
+use Rattle.stations.proofs.First.{one-of-take}
 use Rattle.stations.proofs.Same.{and-no-left, and-no-right, live-marks, empty-blank, live-of-split, free-empty}
-use Rattle.stations.proofs.Midway.{livesOf, lives-in, cleared-live, after-body, after-mark, after-other, after-same, none-cleared, after-unmarked, inFrame, Underway, free-not-live-of, live-not-free}
-use Rattle.stations.proofs.Programmed.{stoppedBy, programmed, programmedAll, and-ff, stopped-bytes, program-miss, slot-miss, slot-hit-at}
+use Rattle.stations.proofs.Midway.{livesOf, lives-in, after-body, after-mark, after-other, after-same, none-cleared, after-unmarked, live-not-free}
+use Rattle.stations.proofs.Programmed.{stoppedBy, programmed, programmedAll, and-ff, stopped-bytes, slot-miss, slot-hit-at}
 use Rattle.stations.proofs.Clears.{Below, clear-miss, clear-hit, take-clearings}
-use Rattle.stations.proofs.Shown.{listOf, list-cell, list-plain, list-open, list-same, list-locks}
+use Rattle.stations.proofs.Shown.{listOf, list-plain, list-open, list-same}
 
 -- ---- the list after the first w writes
 

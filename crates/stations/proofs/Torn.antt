@@ -2,7 +2,7 @@
 -- store; and no frame, done or stopped, reaches a byte outside the slots that the store names. Assumes nothing.
 use Prim.Native.Nat.{ℕ, zero, suc, _+_, _-_, _*_, _/_, _%_, _≤_, _<_}
 use mathlib.Core.Path.{_≡_, refl, sym, ap, _∙_, subst}
-use mathlib.Core.Bool.{Bool, true, false, _&&_, _||_, true≢false, false≢true}
+use mathlib.Core.Bool.{Bool, true, false, true≢false}
 use mathlib.Core.List.{List, [], _∷_}
 use mathlib.Core.Logic.{_⊎_, inl, inr}
 use native.Mathlib.Omega.{arith}
@@ -11,16 +11,16 @@ use lib.ListN.{length, getD, take}
 use borrow.Author.Tests.{ltb-true, ltb-false, eq-eqb}
 use Rattle.rules.specs.declared.Range.{Range}
 use Rattle.rules.specs.declared.Tear.{Tear}
-use Rattle.rules.specs.Words.{oneOf, range, holds, Lent, Each, end, _next_}
+use Rattle.rules.specs.Words.{oneOf, range, Lent, Each, end, _next_}
 use Rattle.rules.specs.Works.{all}
 use Rattle.rules.specs.Tears.{OfBytes}
 use Rattle.rules.proofs.Bools.{and-both, or-left, or-right}
 use Rattle.rules.proofs.Blocks.{holds-intro}
 use Rattle.stations.specs.Slots.{Shown, slotCount, dataSize, liveOf, found, freeSlot}
-use Rattle.stations.specs.Plans.{programAt, recordFrame, markFrame, clearings, storingAt}
+use Rattle.stations.specs.Plans.{programAt, clearings, storingAt}
 use Rattle.stations.specs.Keeping.{Storable, named, mayChange}
-use Rattle.stations.proofs.First.{Place, one-of-place}
-use Rattle.stations.proofs.Midway.{livesOf, lives-in, inFrame, Underway, Midway, midway, Turned, turned}
+use Rattle.stations.proofs.First.{one-of-place}
+use Rattle.stations.proofs.Midway.{livesOf, lives-in, inFrame, Underway, Midway, midway, turned}
 use Rattle.stations.proofs.Lookups.{midway-others, midway-either}
 use Rattle.stations.proofs.Programmed.{stoppedBy, programmed, programmedAll, stopped-bytes, program-miss}
 use Rattle.stations.proofs.Shown.{listOf, list-same, list-locks}
