@@ -111,7 +111,7 @@ those-has t i (suc n) d x h = go (t i) refl (ℕ-discrete x i) (λ k. those-has 
     go false e (yes q) f = absurd (true≢false (sym (h .hit) ∙ ap t q ∙ e))
     go false e (no q) f = f (up q)
 
--- they rise: so none is there twice
+-- they rise, and so none is there twice
 pub those-rise : (t : ℕ → Bool) (i n j k d : ℕ) → j < k → k < length (thoseFrom t i n) → getD (thoseFrom t i n) j d < getD (thoseFrom t i n) k d
 unfolding thoseFrom
 those-rise t i zero j k d a h = absurd (omega arith)
@@ -124,6 +124,15 @@ those-rise t i (suc n) j k d a h = go (t i) j k a h (λ j k. those-rise t (suc i
     go true zero (suc k) a h f = those-in t (suc i) n k d (omega arith) .from
     go true (suc j) (suc k) a h f = f j k (omega arith) (omega arith)
     go false j k a h f = f j k a h
+
+pub those-once : (t : ℕ → Bool) (i n j k d : ℕ) → j < length (thoseFrom t i n) → k < length (thoseFrom t i n)
+    → getD (thoseFrom t i n) j d ≡ getD (thoseFrom t i n) k d → j ≡ k
+those-once t i n j k d a b e = go (ltb j k) (ltb k j) refl refl
+  where
+    go : (x y : Bool) → ltb j k ≡ x → ltb k j ≡ y → j ≡ k
+    go true y p q = let h = those-rise t i n j k d (ltb-true j k p) b in absurd (omega arith)
+    go false true p q = let h = those-rise t i n k j d (ltb-true k j q) a in absurd (omega arith)
+    go false false p q = let h = ltb-false j k p in let l = ltb-false k j q in omega arith
 
 pub those-same : (t u : ℕ → Bool) (i n : ℕ) → ((y : ℕ) → i ≤ y → y < i + n → t y ≡ u y) → thoseFrom t i n ≡ thoseFrom u i n
 unfolding thoseFrom
@@ -205,6 +214,11 @@ some-at (suc n) t y h e = go (ℕ-discrete y n) (λ l. some-at n t y l e)
     go : Dec (y ≡ n) → (y < n → someBelow n t ≡ true) → (someBelow n t || t n) ≡ true
     go (yes p) f = or-right (someBelow n t) (t n) (sym (ap t p) ∙ e)
     go (no q) f = or-left (someBelow n t) (t n) (f (omega arith))
+
+pub some-same : (n : ℕ) (t u : ℕ → Bool) → ((j : ℕ) → j < n → t j ≡ u j) → someBelow n t ≡ someBelow n u
+unfolding someBelow
+some-same zero t u h = refl
+some-same (suc n) t u h = ap₂ (λ (a b : Bool). a || b) (some-same n t u (λ j l. h j (omega arith))) (h n (omega arith))
 
 pub some-one : (n : ℕ) (t : ℕ → Bool) → someBelow n t ≡ true → (y : ℕ) × (y < n) × (t y ≡ true)
 unfolding someBelow
