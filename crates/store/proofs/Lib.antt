@@ -1,2 +1,3 @@
 -- Laws of the steps of a call.
 pub mod Steps
+pub mod Clears

@@ -1,3 +1,11 @@
+use Prim.Native.Nat.{ℕ, _+_, _-_, _*_, _≤_}
+use mathlib.Core.Path.{_≡_, refl, sym, ap, _∙_}
+use mathlib.Core.List.{List}
+use lib.ListN.{length}
+use Rattle.rules.specs.Promises.{benchOf, stateOf}
+use Rattle.stations.specs.Slots.{shownIn, liveOf}
+use Rattle.stations.specs.Calls.{played, writes}
+use Rattle.store.proofs.Clears.{clearsFrom, clears-hit, clears-miss, clears-end, ends-there, goes-on-from}
 use borrow.Author.Needs.{needs}
 use native.Mathlib.Omega.{arith}
 use Rattle.store.proofs.writes.clear_others.Statement.{statement}
@@ -10,11 +18,19 @@ use Rattle.store.proofs.writes.write_mark.Reads as write-mark-reads
 
 abbrev Inv-loop : tie.InvT-loop
 Inv-loop array₀ security₀ reply marks station allowance list at₀ turn₀ i₀ array security at turn i =
-    ?
+    record {
+      low : i ≤ 2048;
+      going : at .number ≡ 0;
+      turns : turn ≤ 2 + i;
+      few : at .polls ≤ (2 + i) * 65535;
+      same-array : length array ≡ length array₀;
+      same-security : length security ≡ length security₀;
+      is : played (stateOf (benchOf (at .chip) array security)) (writes allowance list turn (clearsFrom (liveOf (shownIn reply marks) station) i) (at .polls))
+          ≡ played (stateOf (benchOf (at₀ .chip) array₀ security₀)) (writes allowance list 2 (clearsFrom (liveOf (shownIn reply marks) station) 0) (at₀ .polls))
+    }
 
 abbrev μ-loop : tie.MeasureT-loop
-μ-loop array₀ security₀ reply marks station allowance list at₀ turn₀ i₀ array security at turn i =
-    ?
+μ-loop array₀ security₀ reply marks station allowance list at₀ turn₀ i₀ array security at turn i = 2048 - i
 
 -- src/writes.rt:238:5
 loop-holds : tie.Need-loop-holds Inv-loop μ-loop
