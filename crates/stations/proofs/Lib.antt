@@ -1,0 +1,2 @@
+-- The laws of the station list.
+pub mod Events
