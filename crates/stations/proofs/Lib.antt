@@ -1,2 +1,4 @@
 -- The laws of the station list.
 pub mod Events
+pub mod Frames
+pub mod Reading
