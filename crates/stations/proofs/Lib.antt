@@ -2,3 +2,4 @@
 pub mod Events
 pub mod Frames
 pub mod Reading
+pub mod Polls
