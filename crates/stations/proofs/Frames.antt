@@ -184,8 +184,8 @@ module _ (s : State) (h : Ready s) (wel : s .chip .rest .flags .wel ≡ true) (p
       long (suc n) = or-right (eqb (suc (suc (suc (suc (suc (suc n)))))) 5) (ltb 5 (suc (suc (suc (suc (suc (suc n))))))) (lt-ltb 5 (suc (suc (suc (suc (suc (suc n)))))) (omega arith))
 
   -- with WSP 1, wherever it goes
-  program-8 : wsp (s .chip .rest) ≡ true → frame s (framed sent) .number ≡ 8
-  unfolding frameTests commandTests formOf find frames
+  pub program-8 : wsp (s .chip .rest) ≡ true → step s (short sent) .number ≡ 8
+  unfolding step frameTests commandTests formOf find frames
   program-8 w =
       frame-given s (framed sent) .is-8 .1
       ((formed, (some, (rw (h .spi), (sized, (rw (h .idle), (refl, (refl, (refl, tt)))))))), rw w (or-right (besideErase (s .chip .rest) 0x02 sent) true refl))
@@ -194,16 +194,16 @@ module _ (s : State) (h : Ready s) (wel : s .chip .rest .flags .wel ≡ true) (p
     open-place : suspension (s .chip .rest) 0x02 sent ≡ false
     open-place = rw (page, place-of p low, apart) (or-none _ ∙ and-false (wse (s .chip .rest)))
 
-    program-11 : writeLocked (s .chip .rest .locks .protection) 0x10000 ≡ true → frame s (framed sent) .number ≡ 11
-    unfolding frameTests commandTests formOf find frames
+    pub program-11 : writeLocked (s .chip .rest .locks .protection) 0x10000 ≡ true → step s (short sent) .number ≡ 11
+    unfolding step frameTests commandTests formOf find frames
     program-11 w =
         frame-given s (framed sent) .is-11 .1 (
           (formed, (some, (rw (h .spi), (sized, (rw (h .idle), (refl, (refl, (refl, (open-place, (rw wel, (refl, tt))))))))))),
           rw (place-of p low, one-lock (s .chip .rest .locks .protection) p low, w),
         )
 
-    program-0 : writeLocked (s .chip .rest .locks .protection) 0x10000 ≡ false → frame s (framed sent) .number ≡ 0
-    unfolding frameTests commandTests formOf find frames
+    pub program-0 : writeLocked (s .chip .rest .locks .protection) 0x10000 ≡ false → step s (short sent) .number ≡ 0
+    unfolding step frameTests commandTests formOf find frames
     program-0 w =
         frame-given s (framed sent) .is-0 .1
         (formed, (some, (rw (h .spi), (sized, (rw (h .idle), (refl, (refl, (refl, (open-place, (rw wel, (refl, (rw (place-of p low, one-lock (s .chip .rest .locks .protection) p low, w), tt))))))))))))

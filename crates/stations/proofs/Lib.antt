@@ -3,3 +3,4 @@ pub mod Events
 pub mod Frames
 pub mod Reading
 pub mod Polls
+pub mod Writes
