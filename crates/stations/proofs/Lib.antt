@@ -4,3 +4,4 @@ pub mod Frames
 pub mod Reading
 pub mod Polls
 pub mod Writes
+pub mod Outcomes

@@ -35,12 +35,15 @@ abbrev pub setAside : State → Range
 setAside s = arrayRange (s .chip .rest .works .suspended)
 
 -- what no write changes
-pub record Kept (s t : State) : Type 0 where
-  pub right : stateRight t ≡ true
-  pub spi : t .chip .rest .flags .sqi ≡ false
+pub record Same (s t : State) : Type 0 where
   pub security : t .security ≡ s .security
   pub locks : t .chip .rest .locks ≡ s .chip .rest .locks
   pub suspended : t .chip .rest .works .suspended ≡ s .chip .rest .works .suspended
+
+pub record Kept (s t : State) : Type 0 where
+  pub right : stateRight t ≡ true
+  pub spi : t .chip .rest .flags .sqi ≡ false
+  pub same : Same s t
 
 -- a chip that takes every write: no page program is suspended, and the list's block is not write-locked
 pub record Open (s : State) : Type 0 where
@@ -50,11 +53,11 @@ pub record Open (s : State) : Type 0 where
 
 -- ---- a frame of a write, in a reading of scripts: done, or refused with k
 
-sent-on : {A : Type 0} (reading : State → Script → A) (o : Outcome) (t : State) (n : ℕ) (more : Script) → o .number ≡ 0 → left o ≡ t
+pub sent-on : {A : Type 0} (reading : State → Script → A) (o : Outcome) (t : State) (n : ℕ) (more : Script) → o .number ≡ 0 → left o ≡ t
     → reading (left o) (onDone n o more) ≡ reading t more
 sent-on reading o t n more number state = λ i. reading (state i) (pick (eqb (number i) 0) more (ends (number i) n))
 
-sent-off : {A : Type 0} (reading : State → Script → A) (o : Outcome) (t : State) (n k : ℕ) (more : Script) → o .number ≡ k → left o ≡ t → eqb k 0 ≡ false
+pub sent-off : {A : Type 0} (reading : State → Script → A) (o : Outcome) (t : State) (n k : ℕ) (more : Script) → o .number ≡ k → left o ≡ t → eqb k 0 ≡ false
     → reading (left o) (onDone n o more) ≡ reading t (ends k n)
 sent-off reading o t n k more number state e =
     (λ i. reading (state i) (pick (eqb (number i) 0) more (ends (number i) n))) ∙ ap (λ (b : Bool). reading t (pick b more (ends k n))) e
@@ -66,7 +69,7 @@ pub each-rest : {A : Type 0} {P : A → Type 0} {x : A} {xs : List A} → Each P
 each-rest (p next ps) = ps
 
 -- moments along equal lists of them
-along : {P : State → Type 0} {l m : List State} → l ≡ m → ((t : State) → Among t m → P t) → (t : State) → Among t l → P t
+pub along : {P : State → Type 0} {l m : List State} → l ≡ m → ((t : State) → Among t m → P t) → (t : State) → Among t l → P t
 along {P} e g = subst (λ (l : List State). (t : State) → Among t l → P t) (sym e) g
 
 -- ---- one write on an open chip
@@ -127,15 +130,15 @@ pub record Came (s : State) (fs : List (List ℕ)) (x : Account) (e : Ended) : T
   pub array : e .state .array ≡ programmedAll (take (x .writes) fs) (s .array)
   pub kept : Kept s (e .state)
 
-kept-self : (s : State) → Ready s → Kept s s
-kept-self s h = record { right = h .right; spi = h .spi; security = refl; locks = refl; suspended = refl }
+pub kept-self : (s : State) → Ready s → Kept s s
+kept-self s h = record { right = h .right; spi = h .spi; same = record { security = refl; locks = refl; suspended = refl } }
 
 -- after one more write
 kept-later : (s t : State) (f : List ℕ) → Kept (ended f s) t → Kept s t
-kept-later s t f k = record { right = k .right; spi = k .spi; security = k .security; locks = k .locks; suspended = k .suspended }
+kept-later s t f k = record { right = k .right; spi = k .spi; same = record { security = k .same .security; locks = k .same .locks; suspended = k .same .suspended } }
 
 begun-kept : (s : State) (h : Open s) (f : List ℕ) → Programs (setAside s) f → Kept s (begun f (latched s))
-begun-kept s h f p = record { right = begun-right s h f p; spi = h .ready .spi; security = refl; locks = refl; suspended = refl }
+begun-kept s h f p = record { right = begun-right s h f p; spi = h .ready .spi; same = record { security = refl; locks = refl; suspended = refl } }
 
 module _ (a : ℕ) (list : List ℕ) where
   -- of c writes from entry j on, n polls before them
@@ -180,7 +183,7 @@ pub record Written (s : State) (fs : List (List ℕ)) (t : State) : Type 0 where
   pub kept : Kept s t
   pub doing : (t .chip .rest .works .running ≡ Nothing) ⊎ ((writes < length fs) × Runs (getD fs writes []) t)
 
-none-written : (s t : State) (fs : List (List ℕ)) → t .array ≡ s .array → t .chip .rest .works .running ≡ Nothing → Kept s t → Written s fs t
+pub none-written : (s t : State) (fs : List (List ℕ)) → t .array ≡ s .array → t .chip .rest .works .running ≡ Nothing → Kept s t → Written s fs t
 unfolding programmedAll
 none-written s t fs a i k = record { writes = 0; within = omega arith; array = a; kept = k; doing = inl i }
 
@@ -197,11 +200,11 @@ unwritten s t k = (k .array ∙ none (k .writes), go (k .doing))
     go (inl i) = i
     go (inr r) = let l = r .0 in absurd (omega arith)
 
-some-written : (s t : State) (fs : List (List ℕ)) → Written s [] t → Written s fs t
+pub some-written : (s t : State) (fs : List (List ℕ)) → Written s [] t → Written s fs t
 some-written s t fs k = let u = unwritten s t k in none-written s t fs (u .0) (u .1) (k .kept)
 
-latched-kept : (s : State) → Ready s → Kept s (latched s)
-latched-kept s h = record { right = latched-ready s h .right; spi = h .spi; security = refl; locks = refl; suspended = refl }
+pub latched-kept : (s : State) → Ready s → Kept s (latched s)
+latched-kept s h = record { right = latched-ready s h .right; spi = h .spi; same = record { security = refl; locks = refl; suspended = refl } }
 
 written-later : (s t : State) (f : List ℕ) (fs : List (List ℕ)) → Written (ended f s) fs t → Written s (f ∷ fs) t
 unfolding programmedAll
@@ -225,85 +228,3 @@ always-writes a list (f ∷ gs) j n s h ps =
     (record { writes = 0; within = omega arith; array = refl; kept = begun-kept s h f p; doing = inr (omega arith, record { running = refl; buffer = refl }) })
     (written-later s (ended f s) f gs (none-written (ended f s) (ended f s) gs refl refl (kept-self (ended f s) (ended-open s h f p .ready))))
     (λ q t m. written-later s t f gs (always-writes a list gs (suc j) q (ended f s) (ended-open s h f p) (each-rest ps) t m))
-
--- ---- refused at the first 02
-
-module _ (s : State) (h : Ready s) (f : List ℕ) (fs : List (List ℕ)) (a : ℕ) (list : List ℕ) (j n : ℕ) where
-  module _ (k : ℕ) (more : 3 ≤ k) (e : step (latched s) (short f) .number ≡ k) where
-    refused-state : left (step (latched s) (short f)) ≡ polled (latched s)
-    refused-state = refuses (latched s) (framed f) k more e
-
-    refused-kept : Kept s (polled (latched s))
-    refused-kept = record { right = subst (λ (t : State). stateRight t ≡ true) refused-state (step-right (latched s) (short f) (latched-ready s h .right)); spi = h .spi; security = refl; locks = refl; suspended = refl }
-
-    refused-comes-to : played s (writes a list j (f ∷ fs) n) ≡ endedOf k n (polled (latched s))
-    unfolding writes write played
-    refused-comes-to =
-        let l = latch s h in
-        sent-on played (step s (short (0x06 ∷ []))) (latched s) n _ (l .0) (l .1)
-        ∙ sent-off played (step (latched s) (short f)) (polled (latched s)) n k _ e refused-state (ne-eqb k 0 (λ z. omega arith))
-
-    refused-always : Always (Written s []) s (writes a list j (f ∷ fs) n)
-    unfolding writes write
-    refused-always =
-        let l = latch s h in
-        always-does (Written s []) s (short (0x06 ∷ [])) _ (none-written s s [] refl (h .idle) (kept-self s h))
-        (along (sent-on moments (step s (short (0x06 ∷ []))) (latched s) n _ (l .0) (l .1))
-        (always-does (Written s []) (latched s) (short f) _ (none-written s (latched s) [] refl (h .idle) (latched-kept s h))
-        (along (sent-off moments (step (latched s) (short f)) (polled (latched s)) n k _ e refused-state (ne-eqb k 0 (λ z. omega arith)))
-        (always-ends (Written s []) (polled (latched s)) k n (none-written s (polled (latched s)) [] refl (h .idle) refused-kept)))))
-
--- ---- on any chip that took the read
-
-module _ (s : State) (h : Ready s) where
-  eighth : (f : List ℕ) → Programs (setAside s) f → wsp (s .chip .rest) ≡ true → step (latched s) (short f) .number ≡ 8
-  eighth f (programs p b bytes low few apart) w = program-8 (latched s) (latched-ready s h) refl p b bytes low few w
-
-  eleventh : (f : List ℕ) → Programs (setAside s) f → wsp (s .chip .rest) ≡ false → writeLocked (s .chip .rest .locks .protection) 0x10000 ≡ true → step (latched s) (short f) .number ≡ 11
-  eleventh f (programs p b bytes low few apart) w l = program-11 (latched s) (latched-ready s h) refl p b bytes low few w apart l
-
-  module _ (f : List ℕ) (fs : List (List ℕ)) (a : ℕ) (list : List ℕ) (ps : Each (Programs (setAside s)) (f ∷ fs)) where
-    -- the array with no write
-    refused-came : (k : ℕ) → 3 ≤ k → step (latched s) (short f) .number ≡ k → Came s (f ∷ fs) (at k) (played s (writes a list 0 (f ∷ fs) 0))
-    unfolding programmedAll
-    refused-came k more e =
-        subst (Came s (f ∷ fs) (at k)) (sym (refused-comes-to s h f fs a list 0 0 k more e))
-        (record { number = refl; polls = refl; array = refl; kept = refused-kept s h f fs a list 0 0 k more e })
-
-    pub writes-given : Came s (f ∷ fs) (writesAccount (s .chip .rest) (length (f ∷ fs)) a list) (played s (writes a list 0 (f ∷ fs) 0))
-    writes-given = go (wsp (s .chip .rest)) (writeLocked (s .chip .rest .locks .protection) 0x10000) refl refl
-      where
-        c : ℕ
-        c = suc (length fs)
-
-        w : ℕ
-        w = completed a list 0 c
-
-        go : (x y : Bool) → wsp (s .chip .rest) ≡ x → writeLocked (s .chip .rest .locks .protection) 0x10000 ≡ y
-            → Came s (f ∷ fs) (pick x (at 8) (pick y (at 11) (accountOf (pick (eqb w c) 0 18) (pollsFrom a list 0 c) w))) (played s (writes a list 0 (f ∷ fs) 0))
-        go true y d e = refused-came 8 (omega arith) (eighth f (each-first ps) d)
-        go false true d e = refused-came 11 (omega arith) (eleventh f (each-first ps) d e)
-        go false false d e =
-            let k = writes-come-to a list (f ∷ fs) 0 0 s (record { ready = h; page = d; bare = e }) ps in
-            let z : 0 + pollsFrom a list 0 c ≡ pollsFrom a list 0 c = omega arith in
-            record { number = k .number; polls = k .polls ∙ z; array = k .array; kept = k .kept }
-
-    -- with 8 or 11 nothing is written
-    pub refused-moments : (wsp (s .chip .rest) || writeLocked (s .chip .rest .locks .protection) 0x10000) ≡ true → (j n : ℕ) → Always (Written s []) s (writes a list j (f ∷ fs) n)
-    refused-moments t j n = go (wsp (s .chip .rest)) (writeLocked (s .chip .rest .locks .protection) 0x10000) refl refl t
-      where
-        go : (x y : Bool) → wsp (s .chip .rest) ≡ x → writeLocked (s .chip .rest .locks .protection) 0x10000 ≡ y → (x || y) ≡ true → Always (Written s []) s (writes a list j (f ∷ fs) n)
-        go true y d e t = refused-always s h f fs a list j n 8 (omega arith) (eighth f (each-first ps) d)
-        go false true d e t = refused-always s h f fs a list j n 11 (omega arith) (eleventh f (each-first ps) d e)
-        go false false d e t = absurd (false≢true t)
-
-    pub writes-moments : (j n : ℕ) → Always (Written s (f ∷ fs)) s (writes a list j (f ∷ fs) n)
-    writes-moments j n = go (wsp (s .chip .rest)) (writeLocked (s .chip .rest .locks .protection) 0x10000) refl refl
-      where
-        none : Always (Written s []) s (writes a list j (f ∷ fs) n) → Always (Written s (f ∷ fs)) s (writes a list j (f ∷ fs) n)
-        none k t m = some-written s t (f ∷ fs) (k t m)
-
-        go : (x y : Bool) → wsp (s .chip .rest) ≡ x → writeLocked (s .chip .rest .locks .protection) 0x10000 ≡ y → Always (Written s (f ∷ fs)) s (writes a list j (f ∷ fs) n)
-        go true y d e = none (refused-moments (rw d) j n)
-        go false true d e = none (refused-moments (rw (d, e)) j n)
-        go false false d e = always-writes a list (f ∷ fs) j n s (record { ready = h; page = d; bare = e }) ps
