@@ -5,3 +5,4 @@ pub mod Reading
 pub mod Polls
 pub mod Writes
 pub mod Outcomes
+pub mod Targets
