@@ -6,3 +6,4 @@ pub mod Polls
 pub mod Writes
 pub mod Outcomes
 pub mod Targets
+pub mod Given

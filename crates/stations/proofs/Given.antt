@@ -1,0 +1,128 @@
+-- Which number a call gets, and what it leaves: the tests of the definitions taken in their order, the read by its law, and the writes by theirs. Assumes nothing.
+use Prim.Native.Nat.{ℕ, zero, suc, _+_, _≤_, _<_}
+use mathlib.Core.Path.{_≡_, refl, sym, ap, _∙_, subst, subst₂}
+use mathlib.Core.Bool.{Bool, true, false, not, _&&_}
+use mathlib.Core.List.{List, [], _∷_}
+use mathlib.Core.Logic.{_⊎_, inl, inr}
+use native.Mathlib.Omega.{arith}
+use lib.Dec.{eqb, ltb, leb}
+use lib.ListN.{length, getD, take}
+use borrow.Author.Tests.{eqb-true, ltb-true}
+use Rattle.rules.specs.Words.{pick, Lent, Each}
+use Rattle.rules.specs.Numbers.{State}
+use Rattle.rules.specs.Machine.{Outcome, step, left}
+use Rattle.rules.proofs.Bools.{and-split}
+use Rattle.stations.specs.Slots.{Shown, slotCount, thoseFrom, liveOf, slotOf, freeSlot}
+use Rattle.stations.specs.Plans.{Plan, refused, writing, programAt, markFrame, recordFrame, clearings, storingAt, storing, lookingUp}
+use Rattle.stations.specs.Calls.{Script, ends, Ended, endedOf, played, moments, onDone, writes, reading, shownBy, listSize, carriedOut, calling, buffersRight, storeRight, lookupRight, storeCall, lookupCall}
+use Rattle.stations.specs.Given.{Account, at, writeCount, writesAccount, storeAccount, lookupNumber, LookupGiven, StoreGiven}
+use Rattle.stations.specs.Keeping.{shownAt, Among}
+use Rattle.stations.proofs.Frames.{step-right, Ready, polled, Programs}
+use Rattle.stations.proofs.Reading.{read-given, read-leaves, read-keeps, read-shows}
+use Rattle.stations.proofs.Polls.{Always, always-ends, always-does}
+use Rattle.stations.proofs.Writes.{programmedAll, setAside, Same, Kept, Came, Written}
+use Rattle.stations.proofs.Outcomes.{writes-given, writes-moments}
+use Rattle.stations.proofs.Targets.{plan-reaches}
+
+-- ---- lookup
+
+pub lookup-given : LookupGiven
+unfolding lookupCall calling lookingUp lookupNumber played writes
+lookup-given s reply marks n buffer = go (lookupRight reply marks buffer)
+  where
+    o : Outcome
+    o = step s (reading reply marks)
+
+    shows : (x y : Bool) → played (left o) (pick x (carriedOut 0 [] (pick y (writing []) (refused 17))) (ends (o .number) 0)) ≡ endedOf (pick (not x) (o .number) (pick (not y) 17 0)) 0 (left o)
+    shows true true = refl
+    shows true false = refl
+    shows false y = refl
+
+    go : (b : Bool) → played s (calling b reply marks 0 [] (λ v. lookingUp v n))
+        ≡ endedOf (pick (not b) 1 (pick (not (eqb (o .number) 0)) (o .number) (pick (not (ltb (slotOf (shownBy o) n) slotCount)) 17 0))) 0 (pick b (left o) s)
+    go true = shows (eqb (o .number) 0) (ltb (slotOf (shownBy o) n) slotCount)
+    go false = refl
+
+-- ---- store
+
+-- the frames of its writes
+abbrev pub storeFrames : State → ℕ → List ℕ → List (List ℕ)
+storeFrames s n bytes = storingAt (shownAt s) n bytes (freeSlot (shownAt s))
+
+length-clearings : (is : List ℕ) → length (clearings is) ≡ length is
+unfolding clearings
+length-clearings [] = refl
+length-clearings (i ∷ is) = ap suc (length-clearings is)
+
+length-frames : (v : Shown) (n : ℕ) (bytes : List ℕ) (i : ℕ) → length (storingAt v n bytes i) ≡ writeCount v n
+length-frames v n bytes i = let h = length-clearings (thoseFrom (liveOf v n) 0 slotCount) in omega arith
+
+-- the read leaves a chip that is ready as it was
+polled-ready : (s : State) (reply marks : Lent) → step s (reading reply marks) .number ≡ 0 → Ready s → Ready (polled s)
+polled-ready s reply marks e h = record { right = subst (λ (t : State). Rattle.rules.specs.Numbers.stateRight t ≡ true) (read-leaves s reply marks e) (step-right s (reading reply marks) (h .right)); spi = h .spi; idle = h .idle }
+
+-- what a store comes to, by an account: its number and its polls, the array with its completed writes, and the rest as it was
+pub record Stored (s : State) (fs : List (List ℕ)) (x : Account) (e : Ended) : Type 0 where
+  pub number : e .number ≡ x .number
+  pub polls : e .polls ≡ x .polls
+  pub array : e .state .array ≡ programmedAll (take (x .writes) fs) (s .array)
+  pub same : Same s (e .state)
+
+module _ (s : State) (reply marks : Lent) (n : ℕ) (bytes : List ℕ) (allowance : ℕ) (list : List ℕ) where
+  abbrev fs : List (List ℕ)
+  fs = storeFrames s n bytes
+
+  abbrev o : Outcome
+  o = step s (reading reply marks)
+
+  -- it ends before its writes
+  stopped : (k : ℕ) (t : State) → (t ≡ s) ⊎ (t ≡ polled s) → Stored s fs (at k) (endedOf k 0 t)
+  unfolding programmedAll
+  stopped k t (inl e) =
+      record { number = refl; polls = refl; array = ap (λ (t : State). t .array) e; same = record { security = ap (λ (t : State). t .security) e; locks = ap (λ (t : State). t .chip .rest .locks) e; suspended = ap (λ (t : State). t .chip .rest .works .suspended) e } }
+  stopped k t (inr e) =
+      record { number = refl; polls = refl; array = ap (λ (t : State). t .array) e; same = record { security = ap (λ (t : State). t .security) e; locks = ap (λ (t : State). t .chip .rest .locks) e; suspended = ap (λ (t : State). t .chip .rest .works .suspended) e } }
+
+  -- the plan, on the chip that the read leaves
+  abbrev planned : Shown → Account
+  planned v = pick (not (ltb (freeSlot v) slotCount)) (at 16) (writesAccount (s .chip .rest) (writeCount v n) allowance list)
+
+  carried : length bytes ≡ 28 → Ready (polled s) → Stored s fs (planned (shownAt s)) (played (polled s) (carriedOut allowance list (storing (shownAt s) n bytes)))
+  unfolding storing played
+  carried size h = go (ltb (freeSlot (shownAt s)) slotCount) refl
+    where
+      v : Shown
+      v = shownAt s
+
+      go : (b : Bool) → ltb (freeSlot v) slotCount ≡ b
+          → Stored s fs (pick (not b) (at 16) (writesAccount (s .chip .rest) (writeCount v n) allowance list)) (played (polled s) (carriedOut allowance list (pick b (writing (storingAt v n bytes (freeSlot v))) (refused 16))))
+      go false e = stopped 16 (polled s) (inr refl)
+      go true e =
+          let k = writes-given (polled s) h (recordFrame (freeSlot v) n bytes) (markFrame (freeSlot v) 0x53 0x54 ∷ clearings (thoseFrom (liveOf v n) 0 slotCount)) allowance list (plan-reaches s n bytes size (ltb-true (freeSlot v) slotCount e)) in
+          subst (λ (c : ℕ). Stored s fs (writesAccount (s .chip .rest) c allowance list) (played (polled s) (writes allowance list 0 fs 0))) (length-frames v n bytes (freeSlot v))
+          (record { number = k .number; polls = k .polls; array = k .array; same = record { security = k .kept .same .security; locks = k .kept .same .locks; suspended = k .kept .same .suspended } })
+
+  pub store-came : Stored s fs (storeAccount s reply marks n bytes allowance list) (played s (storeCall reply marks n bytes allowance list))
+  unfolding storeCall calling storeAccount played
+  store-came = go (storeRight reply marks bytes allowance) refl
+    where
+      taken : storeRight reply marks bytes allowance ≡ true → (b : Bool) → eqb (o .number) 0 ≡ b
+          → Stored s fs (pick (not b) (at (o .number)) (planned (shownBy o))) (played (left o) (pick b (carriedOut allowance list (storing (shownBy o) n bytes)) (ends (o .number) 0)))
+      taken r false e = stopped (o .number) (left o) (read-keeps s reply marks)
+      taken r true e =
+          let h₂ = and-split (buffersRight reply marks && eqb (length bytes) 28) (leb allowance 65535) r in
+          let h₁ = and-split (buffersRight reply marks) (eqb (length bytes) 28) (h₂ .0) in
+          let h₀ = and-split (eqb (reply .size) listSize) (eqb (marks .size) listSize) (h₁ .0) in
+          let done = eqb-true (o .number) 0 e in
+          let p = eqb-true (reply .size) listSize (h₀ .0) in
+          let q = eqb-true (marks .size) listSize (h₀ .1) in
+          subst₂ (λ (v : Shown) (t : State). Stored s fs (planned v) (played t (carriedOut allowance list (storing v n bytes)))) (sym (read-shows s reply marks p q done)) (sym (read-leaves s reply marks done))
+          (carried (eqb-true (length bytes) 28 (h₁ .1)) (polled-ready s reply marks done (read-given s reply marks p q .0 done)))
+
+      go : (b : Bool) → storeRight reply marks bytes allowance ≡ b
+          → Stored s fs (pick (not b) (at 1) (pick (not (eqb (o .number) 0)) (at (o .number)) (planned (shownBy o)))) (played s (calling b reply marks allowance list (λ v. storing v n bytes)))
+      go false r = stopped 1 s (inl refl)
+      go true r = taken r (eqb (o .number) 0) refl
+
+pub store-given : StoreGiven
+store-given s reply marks n bytes allowance list = let k = store-came s reply marks n bytes allowance list in (k .number, k .polls)
