@@ -7,9 +7,9 @@ use mathlib.Core.Logic.{_⊎_, inl, inr}
 use native.Mathlib.Omega.{arith}
 use lib.Dec.{eqb, ltb, leb}
 use lib.ListN.{length, getD, take}
-use borrow.Author.Tests.{eqb-true, ltb-true}
+use borrow.Author.Tests.{eqb-true, ltb-true, leb-true}
 use Rattle.rules.specs.Words.{pick, Lent, Each}
-use Rattle.rules.specs.Numbers.{State}
+use Rattle.rules.specs.Numbers.{State, stateRight}
 use Rattle.rules.specs.Machine.{Outcome, step, left}
 use Rattle.rules.proofs.Bools.{and-split}
 use Rattle.stations.specs.Slots.{Shown, slotCount, thoseFrom, liveOf, slotOf, freeSlot}
@@ -18,7 +18,7 @@ use Rattle.stations.specs.Calls.{Script, ends, Ended, endedOf, played, m
 use Rattle.stations.specs.Given.{Account, at, writeCount, writesAccount, storeAccount, lookupNumber, LookupGiven, StoreGiven}
 use Rattle.stations.specs.Keeping.{shownAt, Among}
 use Rattle.stations.proofs.Frames.{step-right, Ready, polled, Programs}
-use Rattle.stations.proofs.Reading.{read-given, read-leaves, read-keeps, read-shows}
+use Rattle.stations.proofs.Reading.{read-ready, read-leaves, read-keeps, read-shows}
 use Rattle.stations.proofs.Polls.{Always, always-ends, always-does}
 use Rattle.stations.proofs.Writes.{programmedAll, setAside, Same, Kept, Came, Written}
 use Rattle.stations.proofs.Outcomes.{writes-given, writes-moments}
@@ -58,8 +58,24 @@ length-frames : (v : Shown) (n : ℕ) (bytes : List ℕ) (i : ℕ) → length (s
 length-frames v n bytes i = let h = length-clearings (thoseFrom (liveOf v n) 0 slotCount) in omega arith
 
 -- the read leaves a chip that is ready as it was
-polled-ready : (s : State) (reply marks : Lent) → step s (reading reply marks) .number ≡ 0 → Ready s → Ready (polled s)
-polled-ready s reply marks e h = record { right = subst (λ (t : State). Rattle.rules.specs.Numbers.stateRight t ≡ true) (read-leaves s reply marks e) (step-right s (reading reply marks) (h .right)); spi = h .spi; idle = h .idle }
+polled-ready : (s : State) (reply marks : Lent) → step s (reading reply marks) .number ≡ 0 → Ready (polled s)
+polled-ready s reply marks e =
+    let h = read-ready s reply marks e in
+    record { right = subst (λ (t : State). stateRight t ≡ true) (read-leaves s reply marks e) (step-right s (reading reply marks) (h .right)); spi = h .spi; idle = h .idle }
+
+-- what is asked of a store before anything is sent
+pub record Asked (reply marks : Lent) (bytes : List ℕ) (allowance : ℕ) : Type 0 where
+  pub reply-size : reply .size ≡ listSize
+  pub marks-size : marks .size ≡ listSize
+  pub count : length bytes ≡ 28
+  pub allowed : allowance ≤ 65535
+
+pub store-asked : (reply marks : Lent) (bytes : List ℕ) (allowance : ℕ) → storeRight reply marks bytes allowance ≡ true → Asked reply marks bytes allowance
+store-asked reply marks bytes allowance r =
+    let h₂ = and-split (buffersRight reply marks && eqb (length bytes) 28) (leb allowance 65535) r in
+    let h₁ = and-split (buffersRight reply marks) (eqb (length bytes) 28) (h₂ .0) in
+    let h₀ = and-split (eqb (reply .size) listSize) (eqb (marks .size) listSize) (h₁ .0) in
+    record { reply-size = eqb-true (reply .size) listSize (h₀ .0); marks-size = eqb-true (marks .size) listSize (h₀ .1); count = eqb-true (length bytes) 28 (h₁ .1); allowed = leb-true allowance 65535 (h₂ .1) }
 
 -- what a store comes to, by an account: its number and its polls, the array with its completed writes, and the rest as it was
 pub record Stored (s : State) (fs : List (List ℕ)) (x : Account) (e : Ended) : Type 0 where
@@ -110,14 +126,10 @@ module _ (s : State) (reply marks : Lent) (n : ℕ) (bytes : List ℕ) (allowanc
           → Stored s fs (pick (not b) (at (o .number)) (planned (shownBy o))) (played (left o) (pick b (carriedOut allowance list (storing (shownBy o) n bytes)) (ends (o .number) 0)))
       taken r false e = stopped (o .number) (left o) (read-keeps s reply marks)
       taken r true e =
-          let h₂ = and-split (buffersRight reply marks && eqb (length bytes) 28) (leb allowance 65535) r in
-          let h₁ = and-split (buffersRight reply marks) (eqb (length bytes) 28) (h₂ .0) in
-          let h₀ = and-split (eqb (reply .size) listSize) (eqb (marks .size) listSize) (h₁ .0) in
+          let a = store-asked reply marks bytes allowance r in
           let done = eqb-true (o .number) 0 e in
-          let p = eqb-true (reply .size) listSize (h₀ .0) in
-          let q = eqb-true (marks .size) listSize (h₀ .1) in
-          subst₂ (λ (v : Shown) (t : State). Stored s fs (planned v) (played t (carriedOut allowance list (storing v n bytes)))) (sym (read-shows s reply marks p q done)) (sym (read-leaves s reply marks done))
-          (carried (eqb-true (length bytes) 28 (h₁ .1)) (polled-ready s reply marks done (read-given s reply marks p q .0 done)))
+          subst₂ (λ (v : Shown) (t : State). Stored s fs (planned v) (played t (carriedOut allowance list (storing v n bytes)))) (sym (read-shows s reply marks (a .reply-size) (a .marks-size) done)) (sym (read-leaves s reply marks done))
+          (carried (a .count) (polled-ready s reply marks done))
 
       go : (b : Bool) → storeRight reply marks bytes allowance ≡ b
           → Stored s fs (pick (not b) (at 1) (pick (not (eqb (o .number) 0)) (at (o .number)) (planned (shownBy o)))) (played s (calling b reply marks allowance list (λ v. storing v n bytes)))
@@ -126,3 +138,56 @@ module _ (s : State) (reply marks : Lent) (n : ℕ) (bytes : List ℕ) (allowanc
 
 pub store-given : StoreGiven
 store-given s reply marks n bytes allowance list = let k = store-came s reply marks n bytes allowance list in (k .number, k .polls)
+
+-- ---- each moment of a store: before its first write the state at its start or the one that the read leaves, and then a moment of its writes
+
+pub data Moment (s : State) (n : ℕ) (bytes : List ℕ) (t : State) : Type 0 where
+  early : (t ≡ s) ⊎ (t ≡ polled s) → Moment s n bytes t
+  late : Ready s → length bytes ≡ 28 → freeSlot (shownAt s) < slotCount → Written s (storeFrames s n bytes) t → Moment s n bytes t
+
+-- the writes begin on the chip that the read leaves, which has the same memory and registers
+from-start : (s t : State) (fs : List (List ℕ)) → Written (polled s) fs t → Written s fs t
+from-start s t fs k =
+    record {
+      writes = k .writes;
+      within = k .within;
+      array = k .array;
+      kept = record { right = k .kept .right; spi = k .kept .spi; same = record { security = k .kept .same .security; locks = k .kept .same .locks; suspended = k .kept .same .suspended } };
+      doing = k .doing;
+    }
+
+module _ (s : State) (reply marks : Lent) (n : ℕ) (bytes : List ℕ) (allowance : ℕ) (list : List ℕ) where
+  always-carried : Ready s → length bytes ≡ 28 → Ready (polled s) → Always (Moment s n bytes) (polled s) (carriedOut allowance list (storing (shownAt s) n bytes))
+  unfolding storing
+  always-carried ready size h = go (ltb (freeSlot (shownAt s)) slotCount) refl
+    where
+      v : Shown
+      v = shownAt s
+
+      go : (b : Bool) → ltb (freeSlot v) slotCount ≡ b → Always (Moment s n bytes) (polled s) (carriedOut allowance list (pick b (writing (storingAt v n bytes (freeSlot v))) (refused 16)))
+      go false e = always-ends (Moment s n bytes) (polled s) 16 0 (early (inr refl))
+      go true e = λ t m.
+          let low = ltb-true (freeSlot v) slotCount e in
+          late ready size low
+          (from-start s t (storeFrames s n bytes)
+          (writes-moments (polled s) h (recordFrame (freeSlot v) n bytes) (markFrame (freeSlot v) 0x53 0x54 ∷ clearings (thoseFrom (liveOf v n) 0 slotCount)) allowance list (plan-reaches s n bytes size low) 0 0 t m))
+
+  pub store-moments : Always (Moment s n bytes) s (storeCall reply marks n bytes allowance list)
+  unfolding storeCall calling
+  store-moments = go (storeRight reply marks bytes allowance) refl
+    where
+      x : Outcome
+      x = step s (reading reply marks)
+
+      taken : storeRight reply marks bytes allowance ≡ true → (b : Bool) → eqb (x .number) 0 ≡ b
+          → Always (Moment s n bytes) (left x) (pick b (carriedOut allowance list (storing (shownBy x) n bytes)) (ends (x .number) 0))
+      taken r false e = always-ends (Moment s n bytes) (left x) (x .number) 0 (early (read-keeps s reply marks))
+      taken r true e =
+          let a = store-asked reply marks bytes allowance r in
+          let done = eqb-true (x .number) 0 e in
+          subst₂ (λ (v : Shown) (t : State). Always (Moment s n bytes) t (carriedOut allowance list (storing v n bytes))) (sym (read-shows s reply marks (a .reply-size) (a .marks-size) done)) (sym (read-leaves s reply marks done))
+          (always-carried (read-ready s reply marks done) (a .count) (polled-ready s reply marks done))
+
+      go : (b : Bool) → storeRight reply marks bytes allowance ≡ b → Always (Moment s n bytes) s (calling b reply marks allowance list (λ v. storing v n bytes))
+      go false r = always-ends (Moment s n bytes) s 1 0 (early (inl refl))
+      go true r = always-does (Moment s n bytes) s (reading reply marks) _ (early (inl refl)) (taken r (eqb (x .number) 0) refl)

@@ -36,7 +36,7 @@ module _ (s : State) (reply marks : Lent) where
 
   -- ---- its number
 
-  read-ready : came .number ≡ 0 → Ready s
+  pub read-ready : came .number ≡ 0 → Ready s
   unfolding step formOf find frames
   read-ready e =
       let a = accepted s reads e in
