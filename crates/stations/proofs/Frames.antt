@@ -10,6 +10,7 @@ use borrow.Author.Tests.{eq-eqb, ne-eqb, eqb-true, le-leb, ltb-true, lt-ltb}
 use Rattle.rules.specs.declared.Chip.{Chip}
 use Rattle.rules.specs.declared.Range.{Range}
 use Rattle.rules.specs.declared.Rest.{Rest}
+use Rattle.rules.specs.declared.Tear.{Tear}
 use Rattle.rules.specs.declared.Work.{Work}
 use Rattle.rules.specs.declared.Work.the-variants.{Nothing, EraseSector, EraseBlock, EraseArray, ProgramPage, ProgramSecurity, LockSecurity, WriteConfiguration, AddPermanent}
 use Rattle.rules.specs.declared.Long.{Long}
@@ -155,12 +156,15 @@ no-read-lock x q h = ap (λ (n : ℕ). blockAt n .paired && bit (blockAt n .writ
 pub data Programs (r : Range) : List ℕ → Type 0 where
   programs : (p b : ℕ) (bytes : List ℕ) → p < 65536 → length bytes < 65532 → holds r (0x10000 + p) ≡ false → Programs r (programAt p (b ∷ bytes))
 
--- the work that it begins, and the array once that is completed
+-- the work that it begins, and the array once that is finished as far as t says, or completed
 abbrev pub pageOf : List ℕ → Work
 pageOf f = ProgramPage (address f / 256)
 
-unfoldable pub programmed : List ℕ → Lent → Lent
-programmed f mem = finish (pageOf f) (arrayRange (pageOf f)) (pageBuffer f) all mem
+unfoldable pub programmedTo : Tear → List ℕ → Lent → Lent
+programmedTo t f mem = finish (pageOf f) (arrayRange (pageOf f)) (pageBuffer f) t mem
+
+abbrev pub programmed : List ℕ → Lent → Lent
+programmed f mem = programmedTo all f mem
 
 abbrev pub begun : List ℕ → State → State
 begun f s = stateOf (chipOf (pageBuffer f) (withRunning (pageOf f) (withEnable false (s .chip .rest)))) (s .array) (s .security)
@@ -229,7 +233,7 @@ ended f s = stateOf (chipOf blank (withRunning Nothing (withWel false (withEnabl
 
 pub completes-page : (s : State) (f : List ℕ) → stateRight (begun f s) ≡ true → wsp (s .chip .rest) ≡ false
     → (completion (begun f s) .number ≡ 0) × (left (completion (begun f s)) ≡ ended f s)
-unfolding programmed
+unfolding programmedTo
 completes-page s f r w = (number, ap left (completion-done-whole (begun f s) number) ∙ (λ i. stateOf (chipOf (pick (w i) (pageBuffer f) blank) (rested (begun f s .chip .rest))) (programmed f (s .array)) (security i)))
   where
     number : completion (begun f s) .number ≡ 0

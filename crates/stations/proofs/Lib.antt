@@ -7,3 +7,4 @@ pub mod Writes
 pub mod Outcomes
 pub mod Targets
 pub mod Given
+pub mod Pages
