@@ -63,6 +63,11 @@ polled-ready s reply marks e =
     let h = read-ready s reply marks e in
     record { right = subst (λ (t : State). stateRight t ≡ true) (read-leaves s reply marks e) (step-right s (reading reply marks) (h .right)); spi = h .spi; idle = h .idle }
 
+-- what the read holds on to, done or refused
+pub held : {A : Type 0} (g : State → A) (s t : State) → g (polled s) ≡ g s → (t ≡ s) ⊎ (t ≡ polled s) → g t ≡ g s
+held g s t h (inl e) = ap g e
+held g s t h (inr e) = ap g e ∙ h
+
 -- what is asked of a store before anything is sent
 pub record Asked (reply marks : Lent) (bytes : List ℕ) (allowance : ℕ) : Type 0 where
   pub reply-size : reply .size ≡ listSize
@@ -94,10 +99,13 @@ module _ (s : State) (reply marks : Lent) (n : ℕ) (bytes : List ℕ) (allowanc
   -- it ends before its writes
   stopped : (k : ℕ) (t : State) → (t ≡ s) ⊎ (t ≡ polled s) → Stored s fs (at k) (endedOf k 0 t)
   unfolding programmedAll
-  stopped k t (inl e) =
-      record { number = refl; polls = refl; array = ap (λ (t : State). t .array) e; same = record { security = ap (λ (t : State). t .security) e; locks = ap (λ (t : State). t .chip .rest .locks) e; suspended = ap (λ (t : State). t .chip .rest .works .suspended) e } }
-  stopped k t (inr e) =
-      record { number = refl; polls = refl; array = ap (λ (t : State). t .array) e; same = record { security = ap (λ (t : State). t .security) e; locks = ap (λ (t : State). t .chip .rest .locks) e; suspended = ap (λ (t : State). t .chip .rest .works .suspended) e } }
+  stopped k t e =
+      record {
+        number = refl;
+        polls = refl;
+        array = held (λ (u : State). u .array) s t refl e;
+        same = record { security = held (λ (u : State). u .security) s t refl e; locks = held (λ (u : State). u .chip .rest .locks) s t refl e; suspended = held (λ (u : State). u .chip .rest .works .suspended) s t refl e };
+      }
 
   -- the plan, on the chip that the read leaves
   abbrev planned : Shown → Account

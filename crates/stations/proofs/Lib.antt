@@ -8,3 +8,4 @@ pub mod Outcomes
 pub mod Targets
 pub mod Given
 pub mod Pages
+pub mod Cut

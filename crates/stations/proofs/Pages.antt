@@ -5,12 +5,12 @@ use mathlib.Core.Bool.{Bool, true, false, true≢false}
 use mathlib.Core.List.{List, [], _∷_}
 use native.Mathlib.Omega.{arith}
 use lib.Dec.{eqb, ltb}
-use lib.ListN.{length, getD, drop, replicate, length-replicate, getD-replicate}
+use lib.ListN.{length, getD, take, drop, replicate, length-replicate, getD-replicate}
 use lib.Bits.{bitAnd, bitOr, and-le-l}
 use borrow.Author.Tests.{ltb-true, lt-ltb}
 use Rattle.rules.specs.declared.Range.{Range}
 use Rattle.rules.specs.declared.Tear.{Tear}
-use Rattle.rules.specs.Words.{pick, range, holds, Lent}
+use Rattle.rules.specs.Words.{pick, range, holds, Lent, Each, end, _next_}
 use Rattle.rules.specs.Blocks.{arraySize}
 use Rattle.rules.specs.Works.{arrayRange, finished, torn, stopped, all, finish}
 use Rattle.rules.specs.Frames.{address}
@@ -23,6 +23,7 @@ use Rattle.rules.proofs.Effects.{fill-other, fill-last, finish-first}
 use Rattle.rules.proofs.TornBytes.{finish-each}
 use Rattle.stations.specs.Plans.{programAt}
 use Rattle.stations.proofs.Frames.{place-of, pageOf, programmedTo, programmed}
+use Rattle.stations.proofs.Writes.{programmedAll, each-first, each-rest}
 
 -- ---- the memory keeps its size, and its bytes
 
@@ -109,3 +110,34 @@ module _ (p b : ℕ) (bytes : List ℕ) (low : p < 65536) (fits : p % 256 + leng
       let q : 0x10000 + p + i - arrayRange (pageOf f) .start ≡ p % 256 + i = omega arith in
       finish-first (pageOf f) (arrayRange (pageOf f)) (pageBuffer f) all mem (0x10000 + p + i) (holds-intro (arrayRange (pageOf f)) (0x10000 + p + i) (omega arith) (omega arith)) (omega arith)
       ∙ ap (λ (x : ℕ). bitAnd (mem .byte (0x10000 + p + i)) x) (ap (λ (x : ℕ). getD (pageBuffer f) x 0) q ∙ buffer-sent i h)
+
+-- ---- one program after the other
+
+pub all-bytes : (fs : List (List ℕ)) (mem : Lent) → OfBytes mem → OfBytes (programmedAll fs mem)
+unfolding programmedAll
+all-bytes [] mem small = small
+all-bytes (f ∷ fs) mem small = all-bytes fs (programmed f mem) (programmed-bytes all f mem small)
+
+-- a 02 within a page of the list that sends nothing to the place a
+pub data Misses (a : ℕ) : List ℕ → Type 0 where
+  misses : (p b : ℕ) (bytes : List ℕ) → p < 65536 → p % 256 + length (b ∷ bytes) ≤ 256 → holds (range (0x10000 + p) (length (b ∷ bytes))) a ≡ false → Misses a (programAt p (b ∷ bytes))
+
+pub missed : (a : ℕ) (f : List ℕ) → Misses a f → (t : Tear) (mem : Lent) → OfBytes mem → programmedTo t f mem .byte a ≡ mem .byte a
+missed a f (misses p b bytes low fits out) t mem small = programmed-outside p b bytes low fits t mem small a out
+
+pub all-missed : (a : ℕ) (fs : List (List ℕ)) → Each (Misses a) fs → (mem : Lent) → OfBytes mem → programmedAll fs mem .byte a ≡ mem .byte a
+unfolding programmedAll
+all-missed a fs end mem small = refl
+all-missed a fs (_next_ {x = f} {xs = gs} p ps) mem small = all-missed a gs ps (programmed f mem) (programmed-bytes all f mem small) ∙ missed a f p all mem small
+
+-- ---- the first of some entries, and one of them
+
+pub each-take : {A : Type 0} {P : A → Type 0} (q : ℕ) (xs : List A) → Each P xs → Each P (take q xs)
+each-take zero xs ps = end
+each-take (suc q) [] ps = end
+each-take (suc q) (x ∷ xs) ps = each-first ps next each-take q xs (each-rest ps)
+
+pub each-at : {A : Type 0} {P : A → Type 0} (q : ℕ) (xs : List A) (d : A) → q < length xs → Each P xs → P (getD xs q d)
+each-at q [] d h ps = absurd (omega arith)
+each-at zero (x ∷ xs) d h ps = each-first ps
+each-at (suc q) (x ∷ xs) d h ps = each-at q xs d (omega arith) (each-rest ps)
