@@ -9,3 +9,4 @@ pub mod Targets
 pub mod Given
 pub mod Pages
 pub mod Cut
+pub mod Stays
