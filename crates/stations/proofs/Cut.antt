@@ -1,15 +1,14 @@
 -- A power cut at a moment of a store that began at rest: with nothing running the array stays, and a running write is stopped as its page program; afterwards nothing is suspended. Assumes nothing.
-use Prim.Native.Nat.{ℕ, zero, suc, _+_, _≤_, _<_}
-use mathlib.Core.Path.{_≡_, refl, sym, ap, ap₂, _∙_, subst}
+use Prim.Native.Nat.{ℕ, _+_, _≤_, _<_}
+use mathlib.Core.Path.{_≡_, refl, sym, ap, ap₂, _∙_}
 use mathlib.Core.Bool.{Bool, true, false, true≢false}
-use mathlib.Core.List.{List, [], _∷_}
+use mathlib.Core.List.{List, []}
 use mathlib.Core.Logic.{_⊎_, inl, inr}
-use lib.Dec.{eqb, ltb}
+use lib.Dec.{eqb}
 use lib.ListN.{length, getD, take}
 use borrow.Author.Tests.{lt-ltb}
 use Rattle.rules.specs.declared.Chip.{Chip}
 use Rattle.rules.specs.declared.Tear.{Tear}
-use Rattle.rules.specs.declared.Range.{Range}
 use Rattle.rules.specs.declared.Work.{Work}
 use Rattle.rules.specs.declared.Work.the-variants.{Nothing}
 use Rattle.rules.specs.Words.{pick, nowhere, Lent}
@@ -25,8 +24,8 @@ use Rattle.rules.proofs.Refusals.{cut-done-whole}
 use Rattle.rules.proofs.TornBytes.{finish-same}
 use Rattle.stations.specs.Slots.{slotCount, freeSlot}
 use Rattle.stations.specs.Keeping.{shownAt, AtRest}
-use Rattle.stations.proofs.Frames.{polled, nowhere-holds, no-read-lock, pageOf, programmedTo}
-use Rattle.stations.proofs.Writes.{programmedAll, Runs, Written}
+use Rattle.stations.proofs.Frames.{nowhere-holds, no-read-lock, pageOf, programmedTo}
+use Rattle.stations.proofs.Writes.{programmedAll, Runs}
 use Rattle.stations.proofs.Given.{storeFrames, held, Moment, early, late}
 
 -- work of no place leaves a memory as it was
@@ -50,8 +49,7 @@ cut-idle t x i = go (eqb (first (cutTests t)) 0) (t .chip .rest .works .running)
 pub cut-page : (t : State) (x : Tear) (f : List ℕ) → stateRight t ≡ true → Runs f t → (powerCut t x .array ≡ programmedTo x f (t .array)) × (powerCut t x .security ≡ t .security)
 unfolding programmedTo
 cut-page t x f r k =
-    let e = cut-done-whole t x (cut-given t x .is-0 .1 r) in
-    (
+    let e = cut-done-whole t x (cut-given t x .is-0 .1 r) in (
       ap (λ (o : Outcome). o .array) e ∙ ap₂ (λ (w : Work) (b : List ℕ). finish w (arrayRange w) b x (t .array)) (k .running) (k .buffer),
       ap (λ (o : Outcome). o .security) e ∙ ap₂ (λ (w : Work) (b : List ℕ). finish w (securityRange w) b x (t .security)) (k .running) (k .buffer) ∙ finish-nowhere (pageOf f) (pageBuffer f) x (t .security),
     )

@@ -1,35 +1,33 @@
 -- The store's frames on a right record in SPI: each is done or refused by its tests, and then leaves what the rules say of its number. Assumes nothing.
-use Prim.Native.Nat.{ℕ, zero, suc, _+_, _-_, _*_, _/_, _%_, _^_, _≤_, _<_}
+use Prim.Native.Nat.{ℕ, zero, suc, _+_, _*_, _/_, _%_, _^_, _≤_, _<_}
 use mathlib.Core.Path.{_≡_, refl, sym, ap, _∙_, subst}
-use mathlib.Core.Bool.{Bool, true, false, not, _&&_, _||_, true≢false, false≢true}
+use mathlib.Core.Bool.{Bool, true, false, not, _&&_, _||_, true≢false}
 use mathlib.Core.List.{List, [], _∷_}
 use native.Mathlib.Omega.{arith}
-use lib.Dec.{eqb, ltb, leb}
-use lib.ListN.{length, getD}
-use borrow.Author.Tests.{eq-eqb, ne-eqb, eqb-true, le-leb, ltb-true, lt-ltb}
+use lib.Dec.{eqb, ltb}
+use lib.ListN.{length}
+use borrow.Author.Tests.{eq-eqb, ne-eqb, le-leb, lt-ltb}
 use Rattle.rules.specs.declared.Chip.{Chip}
 use Rattle.rules.specs.declared.Range.{Range}
 use Rattle.rules.specs.declared.Rest.{Rest}
 use Rattle.rules.specs.declared.Tear.{Tear}
 use Rattle.rules.specs.declared.Work.{Work}
-use Rattle.rules.specs.declared.Work.the-variants.{Nothing, EraseSector, EraseBlock, EraseArray, ProgramPage, ProgramSecurity, LockSecurity, WriteConfiguration, AddPermanent}
-use Rattle.rules.specs.declared.Long.{Long}
+use Rattle.rules.specs.declared.Work.the-variants.{Nothing, ProgramPage}
 use Rattle.rules.specs.Words.{bit, num, pick, holds, range, nowhere, Lent}
-use Rattle.rules.specs.Works.{isNothing, isProgram, arrayRange, all, finish}
-use Rattle.rules.specs.Blocks.{arraySize, single, wide, blocks, blockAt, blockOf, span, writeLocked, readLocked}
+use Rattle.rules.specs.Works.{arrayRange, all, finish}
+use Rattle.rules.specs.Blocks.{arraySize, wide, blocks, blockAt, blockOf, span, writeLocked, readLocked}
 use Rattle.rules.specs.Registers.{busy, wse, wsp, status}
 use Rattle.rules.specs.Frames.{frames, find, formOf, address}
 use Rattle.rules.specs.Programs.{blank, pageBuffer}
 use Rattle.rules.specs.Reading.{shown}
 use Rattle.rules.specs.Fields.{chipOf, withEnable, withWel, withRunning}
-use Rattle.rules.specs.Commands.{workOf, settled, settledFirst, rested, bufferRested}
+use Rattle.rules.specs.Commands.{rested}
 use Rattle.rules.specs.Numbers.{State, Frame, stateRight, malformed, emptyFrame, wrongLength, besideErase, suspension, frameTests, commandTests}
-use Rattle.rules.specs.Machine.{Outcome, Event, sends, completes, workedArray, workedSecurity, frame, completion, step, left}
+use Rattle.rules.specs.Machine.{Outcome, Event, sends, workedArray, workedSecurity, frame, completion, step, left}
 use Rattle.rules.specs.Cases.{stateAfter}
 use Rattle.rules.specs.Promises.{zeroed, carriedOf, frameOf}
-use Rattle.rules.proofs.Bools.{and-split, and-both, never, or-none, or-right}
+use Rattle.rules.proofs.Bools.{never, or-none, or-right}
 use Rattle.rules.proofs.Blocks.{holds-at, holds-intro, block-only}
-use Rattle.rules.proofs.Registers.{status-bits}
 use Rattle.rules.proofs.Refusals.{frame-done-whole, frame-refused-more, completion-done-whole}
 use Rattle.rules.proofs.Numbers.{frame-given, completion-given}
 use Rattle.rules.proofs.TornBytes.{finish-same}

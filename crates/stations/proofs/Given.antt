@@ -1,26 +1,26 @@
 -- Which number a call gets, and what it leaves: the tests of the definitions taken in their order, the read by its law, and the writes by theirs. Assumes nothing.
-use Prim.Native.Nat.{ℕ, zero, suc, _+_, _≤_, _<_}
+use Prim.Native.Nat.{ℕ, suc, _≤_, _<_}
 use mathlib.Core.Path.{_≡_, refl, sym, ap, _∙_, subst, subst₂}
 use mathlib.Core.Bool.{Bool, true, false, not, _&&_}
 use mathlib.Core.List.{List, [], _∷_}
 use mathlib.Core.Logic.{_⊎_, inl, inr}
 use native.Mathlib.Omega.{arith}
 use lib.Dec.{eqb, ltb, leb}
-use lib.ListN.{length, getD, take}
+use lib.ListN.{length, take}
 use borrow.Author.Tests.{eqb-true, ltb-true, leb-true}
-use Rattle.rules.specs.Words.{pick, Lent, Each}
+use Rattle.rules.specs.Words.{pick, Lent}
 use Rattle.rules.specs.Numbers.{State, stateRight}
 use Rattle.rules.specs.Machine.{Outcome, step, left}
 use Rattle.rules.proofs.Bools.{and-split}
 use Rattle.stations.specs.Slots.{Shown, slotCount, thoseFrom, liveOf, slotOf, freeSlot}
-use Rattle.stations.specs.Plans.{Plan, refused, writing, programAt, markFrame, recordFrame, clearings, storingAt, storing, lookingUp}
-use Rattle.stations.specs.Calls.{Script, ends, Ended, endedOf, played, moments, onDone, writes, reading, shownBy, listSize, carriedOut, calling, buffersRight, storeRight, lookupRight, storeCall, lookupCall}
+use Rattle.stations.specs.Plans.{refused, writing, markFrame, recordFrame, clearings, storingAt, storing, lookingUp}
+use Rattle.stations.specs.Calls.{ends, Ended, endedOf, played, writes, reading, shownBy, listSize, carriedOut, calling, buffersRight, storeRight, lookupRight, storeCall, lookupCall}
 use Rattle.stations.specs.Given.{Account, at, writeCount, writesAccount, storeAccount, lookupNumber, LookupGiven, StoreGiven}
-use Rattle.stations.specs.Keeping.{shownAt, Among}
-use Rattle.stations.proofs.Frames.{step-right, Ready, polled, Programs}
+use Rattle.stations.specs.Keeping.{shownAt}
+use Rattle.stations.proofs.Frames.{step-right, Ready, polled}
 use Rattle.stations.proofs.Reading.{read-ready, read-leaves, read-keeps, read-shows}
 use Rattle.stations.proofs.Polls.{Always, always-ends, always-does}
-use Rattle.stations.proofs.Writes.{programmedAll, setAside, Same, Kept, Came, Written}
+use Rattle.stations.proofs.Writes.{programmedAll, Same, Written}
 use Rattle.stations.proofs.Outcomes.{writes-given, writes-moments}
 use Rattle.stations.proofs.Targets.{plan-reaches}
 

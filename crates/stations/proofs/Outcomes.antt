@@ -1,31 +1,22 @@
 -- The writes on any chip that took the read: 8 beside a suspended page program and 11 in a write-locked block, both at the first 02 with nothing written; else as on an open chip. Assumes nothing.
-use Prim.Native.Nat.{ℕ, zero, suc, _+_, _/_, _≤_, _<_}
-use mathlib.Core.Path.{_≡_, refl, sym, ap, _∙_, subst}
+use Prim.Native.Nat.{ℕ, suc, _+_, _≤_}
+use mathlib.Core.Path.{_≡_, refl, sym, _∙_, subst}
 use mathlib.Core.Bool.{Bool, true, false, _||_, false≢true}
 use mathlib.Core.List.{List, [], _∷_}
-use mathlib.Core.Logic.{_⊎_, inl, inr}
 use native.Mathlib.Omega.{arith}
-use lib.Dec.{eqb, eqb·zero-suc, eqb·suc-suc}
-use lib.ListN.{length, getD, take}
+use lib.Dec.{eqb}
+use lib.ListN.{length}
 use borrow.Author.Tests.{ne-eqb}
-use Rattle.rules.specs.declared.Locks.{Locks}
-use Rattle.rules.specs.declared.Range.{Range}
-use Rattle.rules.specs.declared.Work.{Work}
-use Rattle.rules.specs.declared.Work.the-variants.{Nothing}
-use Rattle.rules.specs.Words.{pick, holds, Lent, Each, end, _next_}
+use Rattle.rules.specs.Words.{pick, Each}
 use Rattle.rules.specs.Blocks.{writeLocked}
-use Rattle.rules.specs.Works.{arrayRange}
-use Rattle.rules.specs.Registers.{busy, wsp}
-use Rattle.rules.specs.Programs.{pageBuffer}
-use Rattle.rules.specs.Numbers.{State, Frame, stateRight}
-use Rattle.rules.specs.Machine.{Outcome, Event, sends, completes, completion, step, left}
-use Rattle.stations.specs.Plans.{programAt}
-use Rattle.stations.specs.Calls.{Script, ends, does, Ended, endedOf, played, moments, short, onDone, polling, write, writes}
-use Rattle.stations.specs.Given.{inTime, completed, pollsFrom, Account, accountOf, at, writesAccount}
-use Rattle.stations.specs.Keeping.{Among}
-use Rattle.stations.proofs.Frames.{step-right, Ready, polled, latched, latch, latched-ready, framed, Programs, programs, pageOf, programmed, begun, program-8, program-11, program-0, begins, refuses, ended, completes-page}
-use Rattle.stations.proofs.Polls.{Calm, polling-comes-to, Always, always-ends, always-does, always-polling}
-use Rattle.stations.proofs.Writes.{programmedAll, setAside, Kept, Open, sent-on, sent-off, along, each-first, Came, kept-self, writes-come-to, Written, none-written, some-written, latched-kept, always-writes}
+use Rattle.rules.specs.Registers.{wsp}
+use Rattle.rules.specs.Numbers.{State, stateRight}
+use Rattle.rules.specs.Machine.{step, left}
+use Rattle.stations.specs.Calls.{endedOf, played, moments, short, write, writes}
+use Rattle.stations.specs.Given.{completed, pollsFrom, accountOf, at, writesAccount}
+use Rattle.stations.proofs.Frames.{step-right, Ready, polled, latched, latch, latched-ready, framed, Programs, programs, program-8, program-11, refuses}
+use Rattle.stations.proofs.Polls.{Always, always-ends, always-does}
+use Rattle.stations.proofs.Writes.{programmedAll, setAside, Kept, sent-on, sent-off, along, each-first, Came, kept-self, writes-come-to, Written, none-written, some-written, latched-kept, always-writes}
 
 -- ---- refused at the first 02
 

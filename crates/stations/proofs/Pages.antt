@@ -1,22 +1,19 @@
 -- What a page program of the list leaves, byte by byte: the buffer is FF but for the bytes sent, and old AND FF and old AND (old OR m) are old; so outside the bytes sent nothing changes, torn or not. Assumes nothing.
 use Prim.Native.Nat.{ℕ, zero, suc, _+_, _-_, _*_, _/_, _%_, _≤_, _<_}
-use mathlib.Core.Path.{_≡_, refl, sym, ap, _∙_, subst}
+use mathlib.Core.Path.{_≡_, refl, sym, ap, _∙_}
 use mathlib.Core.Bool.{Bool, true, false, true≢false}
 use mathlib.Core.List.{List, [], _∷_}
 use native.Mathlib.Omega.{arith}
 use lib.Dec.{eqb, ltb}
-use lib.ListN.{length, getD, take, drop, replicate, length-replicate, getD-replicate}
+use lib.ListN.{length, getD, take, length-replicate, getD-replicate}
 use lib.Bits.{bitAnd, bitOr, and-le-l}
-use borrow.Author.Tests.{ltb-true, lt-ltb}
 use Rattle.rules.specs.declared.Range.{Range}
 use Rattle.rules.specs.declared.Tear.{Tear}
 use Rattle.rules.specs.Words.{pick, range, holds, Lent, Each, end, _next_}
-use Rattle.rules.specs.Blocks.{arraySize}
-use Rattle.rules.specs.Works.{arrayRange, finished, torn, stopped, all, finish}
+use Rattle.rules.specs.Works.{arrayRange, stopped, all, finish}
 use Rattle.rules.specs.Frames.{address}
-use Rattle.rules.specs.Programs.{pageSize, blank, fill, pageBuffer}
+use Rattle.rules.specs.Programs.{blank, fill, pageBuffer}
 use Rattle.rules.specs.Tears.{OfBytes}
-use Rattle.rules.proofs.Bools.{never}
 use Rattle.rules.proofs.Bits.{byte-among, or-absorbs}
 use Rattle.rules.proofs.Blocks.{holds-at, holds-intro}
 use Rattle.rules.proofs.Effects.{fill-other, fill-last, finish-first}

@@ -1,9 +1,9 @@
 -- Polls: while the write runs a poll reads BUSY 1 and changes nothing at all, and the first one after the completion reads BUSY 0; so they come to one of two ends, by induction over those that are left. Assumes nothing.
-use Prim.Native.Nat.{ℕ, zero, suc, _+_, _≤_, _<_}
+use Prim.Native.Nat.{ℕ, zero, suc, _+_}
 use mathlib.Core.Path.{_≡_, refl, sym, ap, ap₂, _∙_, subst}
-use mathlib.Core.Bool.{Bool, true, false, not, _&&_, true≢false, false≢true}
+use mathlib.Core.Bool.{Bool, true, false, _&&_}
 use mathlib.Core.List.{List, [], _∷_}
-use mathlib.Core.Logic.{_⊎_, inl, inr}
+use mathlib.Core.Logic.{inl, inr}
 use native.Mathlib.Omega.{arith}
 use lib.Dec.{eqb, ltb, leb}
 use borrow.Author.Tests.{eqb-true, eqb-false, ltb-true, leb-true, lt-ltb, le-leb, not-true}
@@ -19,7 +19,7 @@ use Rattle.rules.specs.Machine.{Outcome, Event, completes, completion, step, le
 use Rattle.rules.proofs.Bools.{and-split, and-both, never, same-test}
 use Rattle.rules.proofs.Numbers.{completion-given}
 use Rattle.rules.proofs.Refusals.{completion-done-whole}
-use Rattle.stations.specs.Calls.{Script, ends, does, Ended, endedOf, played, moments, short, onDone, arriving, polling}
+use Rattle.stations.specs.Calls.{Script, ends, does, endedOf, played, moments, short, onDone, arriving, polling}
 use Rattle.stations.specs.Given.{PollingComesTo}
 use Rattle.stations.specs.Keeping.{Among}
 use Rattle.stations.proofs.Frames.{step-right, Wired, poll, poll-leaves}
@@ -51,8 +51,7 @@ unfolding step
 completed-calm s c b =
     let e : completion s .number ≡ 0 = completion-given s .is-0 .1 (c .right, not-true (isNothing (s .chip .rest .works .running)) b) in
     let k = settled-keeps (s .chip .rest .works .running) (s .chip .rest) in
-    let rest : completion s .chip .rest ≡ rested (settled (s .chip .rest .works .running) (s .chip .rest)) = ap (λ (o : Outcome). o .chip .rest) (completion-done-whole s e) in
-    (
+    let rest : completion s .chip .rest ≡ rested (settled (s .chip .rest .works .running) (s .chip .rest)) = ap (λ (o : Outcome). o .chip .rest) (completion-done-whole s e) in (
       record { right = step-right s completes (c .right); spi = ap (λ (r : Rest). r .flags .sqi) rest ∙ k .0 ∙ c .spi; unset = ap (λ (r : Rest). r .flags .enable) rest ∙ k .1 ∙ c .unset },
       ap busy rest,
     )

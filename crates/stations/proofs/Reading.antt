@@ -1,28 +1,25 @@
 -- The call's one read: done exactly on a right record in SPI that is idle, it then shows the list and uses up the enable; it never changes anything else. Assumes nothing.
-use Prim.Native.Nat.{ℕ, zero, suc, _+_, _%_, _≤_, _<_}
+use Prim.Native.Nat.{ℕ, zero, suc, _+_, _%_}
 use mathlib.Core.Path.{_≡_, refl, sym, ap, _∙_, fun-ext}
-use mathlib.Core.Bool.{Bool, true, false, not, _&&_, true≢false}
-use mathlib.Core.List.{List, [], _∷_}
+use mathlib.Core.Bool.{Bool, true, false, not, _&&_}
+use mathlib.Core.List.{[], _∷_}
 use mathlib.Core.Logic.{_↔_, _⊎_, inl, inr}
 use native.Mathlib.Omega.{arith}
-use lib.Dec.{eqb, ltb, leb}
-use borrow.Author.Tests.{eq-eqb, le-leb, ltb-true, not-false}
+use lib.Dec.{ltb}
+use borrow.Author.Tests.{ltb-true}
 use Rattle.rules.specs.declared.Cell.{Cell}
-use Rattle.rules.specs.declared.Work.the-variants.{Nothing}
 use Rattle.rules.specs.Words.{pick, Lent}
 use Rattle.rules.specs.Blocks.{arraySize}
 use Rattle.rules.specs.Works.{isNothing, arrayRange}
-use Rattle.rules.specs.Registers.{busy, wse, wsp}
+use Rattle.rules.specs.Registers.{wse, wsp}
 use Rattle.rules.specs.Frames.{frames, find, formOf, listed}
 use Rattle.rules.specs.Reading.{unknown, placeCell, shown}
-use Rattle.rules.specs.Numbers.{State, Frame, stateRight, frameRight, malformed, frameTests, commandTests}
+use Rattle.rules.specs.Numbers.{State, Frame, malformed, frameTests, commandTests}
 use Rattle.rules.specs.Machine.{Outcome, workedArray, workedSecurity, frame, step, left}
 use Rattle.rules.specs.Promises.{zeroed}
-use Rattle.rules.proofs.Bools.{and-split, and-both}
 use Rattle.rules.proofs.WellFormed.{nothing}
 use Rattle.rules.proofs.Refusals.{frame-done-whole, frame-refused-1, frame-refused-2, frame-refused-more}
 use Rattle.rules.proofs.Numbers.{frame-given, accepted, accepted-right}
-use Rattle.stations.specs.Slots.{Shown}
 use Rattle.stations.specs.Calls.{reading, shownBy, listSize}
 use Rattle.stations.specs.Keeping.{shownAt}
 use Rattle.stations.proofs.Frames.{Ready, polled, beside-none}

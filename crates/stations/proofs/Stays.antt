@@ -1,9 +1,8 @@
 -- "The store never writes outside 010000 to 01FFFF, and never more than the slots it names": every frame of a store keeps within a slot that it names, and nothing changes outside the bytes sent, at each moment and after a cut there. Assumes nothing.
-use Prim.Native.Nat.{ℕ, zero, suc, _+_, _-_, _*_, _/_, _%_, _≤_, _<_}
+use Prim.Native.Nat.{ℕ, _+_, _-_, _*_, _/_, _%_, _≤_, _<_}
 use mathlib.Core.Path.{_≡_, refl, sym, ap, _∙_, subst}
-use mathlib.Core.Bool.{Bool, true, false, _&&_, _||_, true≢false}
+use mathlib.Core.Bool.{true, false, true≢false}
 use mathlib.Core.List.{List, [], _∷_}
-use mathlib.Core.Logic.{_⊎_, inl, inr}
 use native.Mathlib.Omega.{arith}
 use lib.Dec.{eqb}
 use lib.ListN.{length, getD, take}
@@ -18,9 +17,8 @@ use Rattle.rules.proofs.Bools.{and-both, or-left, or-right, never}
 use Rattle.rules.proofs.Blocks.{holds-at, holds-intro}
 use Rattle.stations.specs.Slots.{Shown, slotSize, slotCount, thoseFrom, liveOf, freeSlot}
 use Rattle.stations.specs.Plans.{programAt, clearings}
-use Rattle.stations.specs.Calls.{storeCall, listSize}
-use Rattle.stations.specs.Keeping.{shownAt, listStart, AtRest, named, mayChange, Stays, StoreStays, CutStays}
-use Rattle.stations.proofs.Frames.{programmedTo}
+use Rattle.stations.specs.Calls.{listSize}
+use Rattle.stations.specs.Keeping.{shownAt, listStart, named, mayChange, Stays, StoreStays, CutStays}
 use Rattle.stations.proofs.Writes.{programmedAll}
 use Rattle.stations.proofs.Targets.{those-each}
 use Rattle.stations.proofs.Given.{storeFrames, held, Moment, early, late, store-moments}

@@ -1,21 +1,19 @@
 -- The frames of a store go to places of the list that are not set aside: a suspended place reads 00 with mark 0, so that its slot is neither empty nor live. Assumes nothing.
-use Prim.Native.Nat.{ℕ, zero, suc, _+_, _*_, _/_, _%_, _≤_, _<_}
-use mathlib.Core.Path.{_≡_, refl, sym, ap, _∙_, subst}
-use mathlib.Core.Bool.{Bool, true, false, _&&_, true≢false}
+use Prim.Native.Nat.{ℕ, zero, suc, _+_, _*_, _/_, _%_, _<_}
+use mathlib.Core.Path.{_≡_, refl, ap, _∙_, subst}
+use mathlib.Core.Bool.{Bool, true, false}
 use mathlib.Core.List.{List, [], _∷_}
 use native.Mathlib.Omega.{arith}
 use native.Mathlib.Decide.{ℕ-discrete}
-use lib.Dec.{eqb, ltb}
+use lib.Dec.{eqb}
 use lib.ListN.{length}
 use borrow.Author.Tests.{eqb-true, lt-ltb}
-use Rattle.rules.specs.declared.Range.{Range}
 use Rattle.rules.specs.Words.{pick, holds, Each, end, _next_}
 use Rattle.rules.specs.Blocks.{readLocked}
-use Rattle.rules.specs.Works.{arrayRange}
 use Rattle.rules.specs.Reading.{known, unknown, placeCell}
 use Rattle.rules.specs.Numbers.{State}
 use Rattle.rules.proofs.Bools.{and-split}
-use Rattle.stations.specs.Slots.{Shown, slotSize, slotCount, allBelow, firstFrom, thoseFrom, byteOf, empty, live, liveOf, freeSlot}
+use Rattle.stations.specs.Slots.{slotSize, slotCount, allBelow, firstFrom, thoseFrom, byteOf, empty, live, liveOf, freeSlot}
 use Rattle.stations.specs.Plans.{programAt, clearings, storingAt}
 use Rattle.stations.specs.Keeping.{shownAt}
 use Rattle.stations.proofs.Frames.{Programs, programs}

@@ -1,29 +1,26 @@
 -- The writes of a call: each frame of a write is done or refused as single frames are, a completed write leaves a state that takes the next, and so by induction over the frames. Assumes nothing.
-use Prim.Native.Nat.{ℕ, zero, suc, _+_, _/_, _≤_, _<_}
+use Prim.Native.Nat.{ℕ, zero, suc, _+_, _≤_, _<_}
 use mathlib.Core.Path.{_≡_, refl, sym, ap, _∙_, subst}
-use mathlib.Core.Bool.{Bool, true, false, _||_, false≢true}
+use mathlib.Core.Bool.{Bool, true, false}
 use mathlib.Core.List.{List, [], _∷_}
 use mathlib.Core.Logic.{_⊎_, inl, inr}
 use native.Mathlib.Omega.{arith}
 use lib.Dec.{eqb, eqb·zero-suc, eqb·suc-suc}
 use lib.ListN.{length, getD, take}
-use borrow.Author.Tests.{ne-eqb}
-use Rattle.rules.specs.declared.Locks.{Locks}
 use Rattle.rules.specs.declared.Range.{Range}
-use Rattle.rules.specs.declared.Work.{Work}
 use Rattle.rules.specs.declared.Work.the-variants.{Nothing}
-use Rattle.rules.specs.Words.{pick, holds, Lent, Each, end, _next_}
+use Rattle.rules.specs.Words.{pick, Lent, Each, _next_}
 use Rattle.rules.specs.Blocks.{writeLocked}
 use Rattle.rules.specs.Works.{arrayRange}
-use Rattle.rules.specs.Registers.{busy, wsp}
+use Rattle.rules.specs.Registers.{wsp}
 use Rattle.rules.specs.Programs.{pageBuffer}
-use Rattle.rules.specs.Numbers.{State, Frame, stateRight}
-use Rattle.rules.specs.Machine.{Outcome, Event, sends, completes, completion, step, left}
+use Rattle.rules.specs.Numbers.{State, stateRight}
+use Rattle.rules.specs.Machine.{Outcome, completes, completion, step, left}
 use Rattle.stations.specs.Plans.{programAt}
-use Rattle.stations.specs.Calls.{Script, ends, does, Ended, endedOf, played, moments, short, onDone, polling, write, writes}
-use Rattle.stations.specs.Given.{inTime, completed, pollsFrom, Account, accountOf, at, writesAccount}
+use Rattle.stations.specs.Calls.{Script, ends, Ended, endedOf, played, moments, short, onDone, polling, write, writes}
+use Rattle.stations.specs.Given.{inTime, completed, pollsFrom, Account, accountOf}
 use Rattle.stations.specs.Keeping.{Among}
-use Rattle.stations.proofs.Frames.{step-right, Ready, polled, latched, latch, latched-ready, framed, Programs, programs, pageOf, programmed, begun, program-8, program-11, program-0, begins, refuses, ended, completes-page}
+use Rattle.stations.proofs.Frames.{step-right, Ready, latched, latch, latched-ready, Programs, programs, pageOf, programmed, begun, program-0, begins, ended, completes-page}
 use Rattle.stations.proofs.Polls.{Calm, polling-comes-to, Always, always-ends, always-does, always-polling}
 
 -- the array once the writes with these frames are completed, one after the other
