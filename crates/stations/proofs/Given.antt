@@ -7,15 +7,18 @@ use mathlib.Core.Logic.{_⊎_, inl, inr}
 use native.Mathlib.Omega.{arith}
 use lib.Dec.{eqb, ltb, leb}
 use lib.ListN.{length, take}
-use borrow.Author.Tests.{eqb-true, ltb-true, leb-true}
+use borrow.Author.Tests.{eqb-true, eqb-false, ltb-true, leb-true}
+use Rattle.rules.specs.declared.Rest.{Rest}
 use Rattle.rules.specs.Words.{pick, Lent}
+use Rattle.rules.specs.Blocks.{writeLocked}
+use Rattle.rules.specs.Registers.{wsp}
 use Rattle.rules.specs.Numbers.{State, stateRight}
 use Rattle.rules.specs.Machine.{Outcome, step, left}
 use Rattle.rules.proofs.Bools.{and-split}
 use Rattle.stations.specs.Slots.{Shown, slotCount, thoseFrom, liveOf, slotOf, freeSlot}
 use Rattle.stations.specs.Plans.{refused, writing, markFrame, recordFrame, clearings, storingAt, storing, lookingUp}
 use Rattle.stations.specs.Calls.{ends, Ended, endedOf, played, writes, reading, shownBy, listSize, carriedOut, calling, buffersRight, storeRight, lookupRight, storeCall, lookupCall}
-use Rattle.stations.specs.Given.{Account, at, writeCount, writesAccount, storeAccount, lookupNumber, LookupGiven, StoreGiven}
+use Rattle.stations.specs.Given.{completed, pollsFrom, Account, accountOf, at, writeCount, writesAccount, storeAccount, lookupNumber, LookupGiven, StoreGiven}
 use Rattle.stations.specs.Keeping.{shownAt}
 use Rattle.stations.proofs.Frames.{step-right, Ready, polled}
 use Rattle.stations.proofs.Reading.{read-ready, read-leaves, read-keeps, read-shows}
@@ -83,26 +86,43 @@ store-asked reply marks bytes allowance r =
     record { reply-size = eqb-true (reply .size) listSize (h₀ .0); marks-size = eqb-true (marks .size) listSize (h₀ .1); count = eqb-true (length bytes) 28 (h₁ .1); allowed = leb-true allowance 65535 (h₂ .1) }
 
 -- what a store comes to, by an account: its number and its polls, the array with its completed writes, and the rest as it was
-pub record Stored (s : State) (fs : List (List ℕ)) (x : Account) (e : Ended) : Type 0 where
+pub record Stored (s : State) (n : ℕ) (bytes : List ℕ) (x : Account) (e : Ended) : Type 0 where
   pub number : e .number ≡ x .number
   pub polls : e .polls ≡ x .polls
-  pub array : e .state .array ≡ programmedAll (take (x .writes) fs) (s .array)
+  pub array : e .state .array ≡ programmedAll (take (x .writes) (storeFrames s n bytes)) (s .array)
   pub same : Same s (e .state)
+  -- a write is made only where there is room
+  pub room : (x .writes ≡ 0) ⊎ ((freeSlot (shownAt s) < slotCount) × (length bytes ≡ 28))
+  -- a done store made all its writes
+  pub done : x .number ≡ 0 → x .writes ≡ writeCount (shownAt s) n
+
+all-made : (r : Rest) (c allowance : ℕ) (list : List ℕ) → writesAccount r c allowance list .number ≡ 0 → writesAccount r c allowance list .writes ≡ c
+all-made r c allowance list = go (wsp r) (writeLocked (r .locks .protection) 0x10000) (eqb w c) refl
+  where
+    w : ℕ
+    w = completed allowance list 0 c
+
+    go : (x y z : Bool) → eqb w c ≡ z
+        → let a = pick x (at 8) (pick y (at 11) (accountOf (pick z 0 18) (pollsFrom allowance list 0 c) w)) in
+        a .number ≡ 0 → a .writes ≡ c
+    go true y z e h = absurd (omega arith)
+    go false true z e h = absurd (omega arith)
+    go false false true e h = eqb-true w c e
+    go false false false e h = absurd (omega arith)
 
 module _ (s : State) (reply marks : Lent) (n : ℕ) (bytes : List ℕ) (allowance : ℕ) (list : List ℕ) where
-  abbrev fs : List (List ℕ)
-  fs = storeFrames s n bytes
-
   abbrev o : Outcome
   o = step s (reading reply marks)
 
   -- it ends before its writes
-  stopped : (k : ℕ) (t : State) → (t ≡ s) ⊎ (t ≡ polled s) → Stored s fs (at k) (endedOf k 0 t)
+  stopped : (k : ℕ) (t : State) → (k ≡ 0 → ⊥) → (t ≡ s) ⊎ (t ≡ polled s) → Stored s n bytes (at k) (endedOf k 0 t)
   unfolding programmedAll
-  stopped k t e =
+  stopped k t some e =
       record {
         number = refl;
         polls = refl;
+        room = inl refl;
+        done = λ z. absurd (some z);
         array = held (λ (u : State). u .array) s t refl e;
         same = record { security = held (λ (u : State). u .security) s t refl e; locks = held (λ (u : State). u .chip .rest .locks) s t refl e; suspended = held (λ (u : State). u .chip .rest .works .suspended) s t refl e };
       }
@@ -111,7 +131,7 @@ module _ (s : State) (reply marks : Lent) (n : ℕ) (bytes : List ℕ) (allowanc
   abbrev planned : Shown → Account
   planned v = pick (not (ltb (freeSlot v) slotCount)) (at 16) (writesAccount (s .chip .rest) (writeCount v n) allowance list)
 
-  carried : length bytes ≡ 28 → Ready (polled s) → Stored s fs (planned (shownAt s)) (played (polled s) (carriedOut allowance list (storing (shownAt s) n bytes)))
+  carried : length bytes ≡ 28 → Ready (polled s) → Stored s n bytes (planned (shownAt s)) (played (polled s) (carriedOut allowance list (storing (shownAt s) n bytes)))
   unfolding storing played
   carried size h = go (ltb (freeSlot (shownAt s)) slotCount) refl
     where
@@ -119,29 +139,37 @@ module _ (s : State) (reply marks : Lent) (n : ℕ) (bytes : List ℕ) (allowanc
       v = shownAt s
 
       go : (b : Bool) → ltb (freeSlot v) slotCount ≡ b
-          → Stored s fs (pick (not b) (at 16) (writesAccount (s .chip .rest) (writeCount v n) allowance list)) (played (polled s) (carriedOut allowance list (pick b (writing (storingAt v n bytes (freeSlot v))) (refused 16))))
-      go false e = stopped 16 (polled s) (inr refl)
+          → Stored s n bytes (pick (not b) (at 16) (writesAccount (s .chip .rest) (writeCount v n) allowance list)) (played (polled s) (carriedOut allowance list (pick b (writing (storingAt v n bytes (freeSlot v))) (refused 16))))
+      go false e = stopped 16 (polled s) (λ z. omega arith) (inr refl)
       go true e =
-          let k = writes-given (polled s) h (recordFrame (freeSlot v) n bytes) (markFrame (freeSlot v) 0x53 0x54 ∷ clearings (thoseFrom (liveOf v n) 0 slotCount)) allowance list (plan-reaches s n bytes size (ltb-true (freeSlot v) slotCount e)) in
-          subst (λ (c : ℕ). Stored s fs (writesAccount (s .chip .rest) c allowance list) (played (polled s) (writes allowance list 0 fs 0))) (length-frames v n bytes (freeSlot v))
-          (record { number = k .number; polls = k .polls; array = k .array; same = record { security = k .kept .same .security; locks = k .kept .same .locks; suspended = k .kept .same .suspended } })
+          let low = ltb-true (freeSlot v) slotCount e in
+          let k = writes-given (polled s) h (recordFrame (freeSlot v) n bytes) (markFrame (freeSlot v) 0x53 0x54 ∷ clearings (thoseFrom (liveOf v n) 0 slotCount)) allowance list (plan-reaches s n bytes size low) in
+          subst (λ (c : ℕ). Stored s n bytes (writesAccount (s .chip .rest) c allowance list) (played (polled s) (writes allowance list 0 (storeFrames s n bytes) 0))) (length-frames v n bytes (freeSlot v))
+          (record {
+            number = k .number;
+            polls = k .polls;
+            array = k .array;
+            same = record { security = k .kept .same .security; locks = k .kept .same .locks; suspended = k .kept .same .suspended };
+            room = inr (low, size);
+            done = λ z. all-made (s .chip .rest) (length (storeFrames s n bytes)) allowance list z ∙ length-frames v n bytes (freeSlot v);
+          })
 
-  pub store-came : Stored s fs (storeAccount s reply marks n bytes allowance list) (played s (storeCall reply marks n bytes allowance list))
+  pub store-came : Stored s n bytes (storeAccount s reply marks n bytes allowance list) (played s (storeCall reply marks n bytes allowance list))
   unfolding storeCall calling storeAccount played
   store-came = go (storeRight reply marks bytes allowance) refl
     where
       taken : storeRight reply marks bytes allowance ≡ true → (b : Bool) → eqb (o .number) 0 ≡ b
-          → Stored s fs (pick (not b) (at (o .number)) (planned (shownBy o))) (played (left o) (pick b (carriedOut allowance list (storing (shownBy o) n bytes)) (ends (o .number) 0)))
-      taken r false e = stopped (o .number) (left o) (read-keeps s reply marks)
+          → Stored s n bytes (pick (not b) (at (o .number)) (planned (shownBy o))) (played (left o) (pick b (carriedOut allowance list (storing (shownBy o) n bytes)) (ends (o .number) 0)))
+      taken r false e = stopped (o .number) (left o) (eqb-false (o .number) 0 e) (read-keeps s reply marks)
       taken r true e =
           let a = store-asked reply marks bytes allowance r in
           let done = eqb-true (o .number) 0 e in
-          subst₂ (λ (v : Shown) (t : State). Stored s fs (planned v) (played t (carriedOut allowance list (storing v n bytes)))) (sym (read-shows s reply marks (a .reply-size) (a .marks-size) done)) (sym (read-leaves s reply marks done))
+          subst₂ (λ (v : Shown) (t : State). Stored s n bytes (planned v) (played t (carriedOut allowance list (storing v n bytes)))) (sym (read-shows s reply marks (a .reply-size) (a .marks-size) done)) (sym (read-leaves s reply marks done))
           (carried (a .count) (polled-ready s reply marks done))
 
       go : (b : Bool) → storeRight reply marks bytes allowance ≡ b
-          → Stored s fs (pick (not b) (at 1) (pick (not (eqb (o .number) 0)) (at (o .number)) (planned (shownBy o)))) (played s (calling b reply marks allowance list (λ v. storing v n bytes)))
-      go false r = stopped 1 s (inl refl)
+          → Stored s n bytes (pick (not b) (at 1) (pick (not (eqb (o .number) 0)) (at (o .number)) (planned (shownBy o)))) (played s (calling b reply marks allowance list (λ v. storing v n bytes)))
+      go false r = stopped 1 s (λ z. omega arith) (inl refl)
       go true r = taken r (eqb (o .number) 0) refl
 
 pub store-given : StoreGiven
