@@ -24,7 +24,7 @@ use Rattle.rules.proofs.Refusals.{cut-done-whole}
 use Rattle.rules.proofs.TornBytes.{finish-same}
 use Rattle.stations.specs.Slots.{slotCount, freeSlot}
 use Rattle.stations.specs.Keeping.{shownAt, AtRest}
-use Rattle.stations.proofs.Frames.{nowhere-holds, no-read-lock, pageOf, programmedTo}
+use Rattle.stations.proofs.Frames.{nowhere-holds, no-read-lock, pageOf, stoppedBy}
 use Rattle.stations.proofs.Writes.{programmedAll, Runs}
 use Rattle.stations.proofs.Given.{storeFrames, held, Moment, early, late}
 
@@ -46,8 +46,7 @@ cut-idle t x i = go (eqb (first (cutTests t)) 0) (t .chip .rest .works .running)
     go false w e = (refl, refl)
 
 -- a page program that runs is stopped
-pub cut-page : (t : State) (x : Tear) (f : List ℕ) → stateRight t ≡ true → Runs f t → (powerCut t x .array ≡ programmedTo x f (t .array)) × (powerCut t x .security ≡ t .security)
-unfolding programmedTo
+pub cut-page : (t : State) (x : Tear) (f : List ℕ) → stateRight t ≡ true → Runs f t → (powerCut t x .array ≡ stoppedBy x f (t .array)) × (powerCut t x .security ≡ t .security)
 cut-page t x f r k =
     let e = cut-done-whole t x (cut-given t x .is-0 .1 r) in (
       ap (λ (o : Outcome). o .array) e ∙ ap₂ (λ (w : Work) (b : List ℕ). finish w (arrayRange w) b x (t .array)) (k .running) (k .buffer),
@@ -77,7 +76,7 @@ pub data CutArray (s : State) (n : ℕ) (bytes : List ℕ) (x : Tear) (array : L
   between : length bytes ≡ 28 → freeSlot (shownAt s) < slotCount → (q : ℕ) → q ≤ length (storeFrames s n bytes) → array ≡ programmedAll (take q (storeFrames s n bytes)) (s .array) → CutArray s n bytes x array
   -- q writes are completed, and the next is stopped
   within : length bytes ≡ 28 → freeSlot (shownAt s) < slotCount → (q : ℕ) → q < length (storeFrames s n bytes)
-      → array ≡ programmedTo x (getD (storeFrames s n bytes) q []) (programmedAll (take q (storeFrames s n bytes)) (s .array)) → CutArray s n bytes x array
+      → array ≡ stoppedBy x (getD (storeFrames s n bytes) q []) (programmedAll (take q (storeFrames s n bytes)) (s .array)) → CutArray s n bytes x array
 
 pub record AfterCut (s : State) (n : ℕ) (bytes : List ℕ) (x : Tear) (u : State) : Type 0 where
   pub array : CutArray s n bytes x (u .array)
@@ -104,7 +103,7 @@ store-cut s t n bytes x rest (late ready size low k) = go (k .doing)
     go (inr r) =
         let c = cut-page t x (getD fs (k .writes) []) (k .kept .right) (r .1) in
         record {
-          array = within size low (k .writes) (r .0) (c .0 ∙ ap (programmedTo x (getD fs (k .writes) [])) (k .array));
+          array = within size low (k .writes) (r .0) (c .0 ∙ ap (stoppedBy x (getD fs (k .writes) [])) (k .array));
           security = c .1 ∙ k .kept .same .security;
           suspended = cut-resumes-none t x (k .kept .same .suspended ∙ rest .none-suspended);
         }

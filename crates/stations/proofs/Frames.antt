@@ -158,11 +158,11 @@ pub data Programs (r : Range) : List ℕ → Type 0 where
 abbrev pub pageOf : List ℕ → Work
 pageOf f = ProgramPage (address f / 256)
 
-unfoldable pub programmedTo : Tear → List ℕ → Lent → Lent
-programmedTo t f mem = finish (pageOf f) (arrayRange (pageOf f)) (pageBuffer f) t mem
+abbrev pub stoppedBy : Tear → List ℕ → Lent → Lent
+stoppedBy t f mem = finish (ProgramPage (address f / 256)) (range (address f / 256 * 256) 256) (pageBuffer f) t mem
 
 abbrev pub programmed : List ℕ → Lent → Lent
-programmed f mem = programmedTo all f mem
+programmed f mem = finish (ProgramPage (address f / 256)) (range (address f / 256 * 256) 256) (pageBuffer f) all mem
 
 abbrev pub begun : List ℕ → State → State
 begun f s = stateOf (chipOf (pageBuffer f) (withRunning (pageOf f) (withEnable false (s .chip .rest)))) (s .array) (s .security)
@@ -231,7 +231,6 @@ ended f s = stateOf (chipOf blank (withRunning Nothing (withWel false (withEnabl
 
 pub completes-page : (s : State) (f : List ℕ) → stateRight (begun f s) ≡ true → wsp (s .chip .rest) ≡ false
     → (completion (begun f s) .number ≡ 0) × (left (completion (begun f s)) ≡ ended f s)
-unfolding programmedTo
 completes-page s f r w = (number, ap left (completion-done-whole (begun f s) number) ∙ (λ i. stateOf (chipOf (pick (w i) (pageBuffer f) blank) (rested (begun f s .chip .rest))) (programmed f (s .array)) (security i)))
   where
     number : completion (begun f s) .number ≡ 0

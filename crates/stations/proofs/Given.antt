@@ -116,7 +116,6 @@ module _ (s : State) (reply marks : Lent) (n : ℕ) (bytes : List ℕ) (allowanc
 
   -- it ends before its writes
   stopped : (k : ℕ) (t : State) → (k ≡ 0 → ⊥) → (t ≡ s) ⊎ (t ≡ polled s) → Stored s n bytes (at k) (endedOf k 0 t)
-  unfolding programmedAll
   stopped k t some e =
       record {
         number = refl;

@@ -16,7 +16,7 @@ use Rattle.stations.specs.Calls.{endedOf, played, moments, short, write,
 use Rattle.stations.specs.Given.{completed, pollsFrom, accountOf, at, writesAccount}
 use Rattle.stations.proofs.Frames.{step-right, Ready, polled, latched, latch, latched-ready, framed, Programs, programs, program-8, program-11, refuses}
 use Rattle.stations.proofs.Polls.{Always, always-ends, always-does}
-use Rattle.stations.proofs.Writes.{programmedAll, setAside, Kept, sent-on, sent-off, along, each-first, Came, kept-self, writes-come-to, Written, none-written, some-written, latched-kept, always-writes}
+use Rattle.stations.proofs.Writes.{setAside, Kept, sent-on, sent-off, along, each-first, Came, kept-self, writes-come-to, Written, none-written, some-written, latched-kept, always-writes}
 
 -- ---- refused at the first 02
 
@@ -57,7 +57,6 @@ module _ (s : State) (h : Ready s) where
   module _ (f : List ℕ) (fs : List (List ℕ)) (a : ℕ) (list : List ℕ) (ps : Each (Programs (setAside s)) (f ∷ fs)) where
     -- the array with no write
     refused-came : (k : ℕ) → 3 ≤ k → step (latched s) (short f) .number ≡ k → Came s (f ∷ fs) (at k) (played s (writes a list 0 (f ∷ fs) 0))
-    unfolding programmedAll
     refused-came k more e =
         subst (Came s (f ∷ fs) (at k)) (sym (refused-comes-to s h f fs a list 0 0 k more e))
         (record { number = refl; polls = refl; array = refl; kept = refused-kept s h f fs a list 0 0 k more e })

@@ -19,17 +19,16 @@ use Rattle.rules.proofs.Blocks.{holds-at, holds-intro}
 use Rattle.rules.proofs.Effects.{fill-other, fill-last, finish-first}
 use Rattle.rules.proofs.TornBytes.{finish-each}
 use Rattle.stations.specs.Plans.{programAt}
-use Rattle.stations.proofs.Frames.{place-of, pageOf, programmedTo, programmed}
+use Rattle.stations.proofs.Frames.{place-of, pageOf, stoppedBy, programmed}
 use Rattle.stations.proofs.Writes.{programmedAll, each-first, each-rest}
 
 -- ---- the memory keeps its size, and its bytes
 
-pub programmed-size : (t : Tear) (f : List ℕ) (mem : Lent) → programmedTo t f mem .size ≡ mem .size
-unfolding programmedTo finish
+pub programmed-size : (t : Tear) (f : List ℕ) (mem : Lent) → stoppedBy t f mem .size ≡ mem .size
+unfolding finish
 programmed-size t f mem = refl
 
-pub programmed-bytes : (t : Tear) (f : List ℕ) (mem : Lent) → OfBytes mem → OfBytes (programmedTo t f mem)
-unfolding programmedTo
+pub programmed-bytes : (t : Tear) (f : List ℕ) (mem : Lent) → OfBytes mem → OfBytes (stoppedBy t f mem)
 programmed-bytes t f mem small a =
     finish-each (pageOf f) (arrayRange (pageOf f)) (pageBuffer f) t mem (λ x y. y < 256 → x < 256) a (λ h l. go (a - arrayRange (pageOf f) .start) (mem .byte a) l) (λ l. l) (small a)
   where
@@ -89,8 +88,7 @@ module _ (p b : ℕ) (bytes : List ℕ) (low : p < 65536) (fits : p % 256 + leng
       go false true = ap (λ (y : ℕ). bitAnd x (bitOr y (t .m))) whole ∙ or-absorbs x (t .m)
       go false false = refl
 
-  pub programmed-outside : (t : Tear) (mem : Lent) → OfBytes mem → (a : ℕ) → holds sentTo a ≡ false → programmedTo t f mem .byte a ≡ mem .byte a
-  unfolding programmedTo
+  pub programmed-outside : (t : Tear) (mem : Lent) → OfBytes mem → (a : ℕ) → holds sentTo a ≡ false → stoppedBy t f mem .byte a ≡ mem .byte a
   programmed-outside t mem small a out =
       finish-each (pageOf f) (arrayRange (pageOf f)) (pageBuffer f) t mem (λ x y. x ≡ y) a
       (λ h.
@@ -101,7 +99,6 @@ module _ (p b : ℕ) (bytes : List ℕ) (low : p < 65536) (fits : p % 256 + leng
       refl
 
   pub programmed-inside : (mem : Lent) (i : ℕ) → i < length (b ∷ bytes) → programmed f mem .byte (0x10000 + p + i) ≡ bitAnd (mem .byte (0x10000 + p + i)) (getD (b ∷ bytes) i 0)
-  unfolding programmedTo
   programmed-inside mem i h =
       let z = page-start in
       let q : 0x10000 + p + i - arrayRange (pageOf f) .start ≡ p % 256 + i = omega arith in
@@ -111,7 +108,6 @@ module _ (p b : ℕ) (bytes : List ℕ) (low : p < 65536) (fits : p % 256 + leng
 -- ---- one program after the other
 
 pub all-bytes : (fs : List (List ℕ)) (mem : Lent) → OfBytes mem → OfBytes (programmedAll fs mem)
-unfolding programmedAll
 all-bytes [] mem small = small
 all-bytes (f ∷ fs) mem small = all-bytes fs (programmed f mem) (programmed-bytes all f mem small)
 
@@ -119,11 +115,10 @@ all-bytes (f ∷ fs) mem small = all-bytes fs (programmed f mem) (programmed-byt
 pub data Misses (a : ℕ) : List ℕ → Type 0 where
   misses : (p b : ℕ) (bytes : List ℕ) → p < 65536 → p % 256 + length (b ∷ bytes) ≤ 256 → holds (range (0x10000 + p) (length (b ∷ bytes))) a ≡ false → Misses a (programAt p (b ∷ bytes))
 
-pub missed : (a : ℕ) (f : List ℕ) → Misses a f → (t : Tear) (mem : Lent) → OfBytes mem → programmedTo t f mem .byte a ≡ mem .byte a
+pub missed : (a : ℕ) (f : List ℕ) → Misses a f → (t : Tear) (mem : Lent) → OfBytes mem → stoppedBy t f mem .byte a ≡ mem .byte a
 missed a f (misses p b bytes low fits out) t mem small = programmed-outside p b bytes low fits t mem small a out
 
 pub all-missed : (a : ℕ) (fs : List (List ℕ)) → Each (Misses a) fs → (mem : Lent) → OfBytes mem → programmedAll fs mem .byte a ≡ mem .byte a
-unfolding programmedAll
 all-missed a fs end mem small = refl
 all-missed a fs (_next_ {x = f} {xs = gs} p ps) mem small = all-missed a gs ps (programmed f mem) (programmed-bytes all f mem small) ∙ missed a f p all mem small
 

@@ -24,7 +24,7 @@ use Rattle.stations.proofs.Frames.{step-right, Ready, latched, latch, l
 use Rattle.stations.proofs.Polls.{Calm, polling-comes-to, Always, always-ends, always-does, always-polling}
 
 -- the array once the writes with these frames are completed, one after the other
-unfoldable pub programmedAll : List (List ℕ) → Lent → Lent
+abbrev pub programmedAll : List (List ℕ) → Lent → Lent
 programmedAll [] mem = mem
 programmedAll (f ∷ fs) mem = programmedAll fs (programmed f mem)
 
@@ -143,7 +143,7 @@ module _ (a : ℕ) (list : List ℕ) where
   openAccount j n c = let w = completed a list j c in accountOf (pick (eqb w c) 0 18) (n + pollsFrom a list j c) w
 
   pub writes-come-to : (fs : List (List ℕ)) (j n : ℕ) (s : State) → Open s → Each (Programs (setAside s)) fs → Came s fs (openAccount j n (length fs)) (played s (writes a list j fs n))
-  unfolding writes played completed pollsFrom programmedAll
+  unfolding writes played completed pollsFrom
   writes-come-to [] j n s h ps = let z : n ≡ n + 0 = omega arith in record { number = refl; polls = z; array = refl; kept = kept-self s (h .ready) }
   writes-come-to (f ∷ gs) j n s h ps =
       subst (Came s (f ∷ gs) (openAccount j n (suc (length gs)))) (sym (played-write s h f (each-first ps) a (getD list j 0) n (writes a list (suc j) gs)))
@@ -181,12 +181,10 @@ pub record Written (s : State) (fs : List (List ℕ)) (t : State) : Type 0 where
   pub doing : (t .chip .rest .works .running ≡ Nothing) ⊎ ((writes < length fs) × Runs (getD fs writes []) t)
 
 pub none-written : (s t : State) (fs : List (List ℕ)) → t .array ≡ s .array → t .chip .rest .works .running ≡ Nothing → Kept s t → Written s fs t
-unfolding programmedAll
 none-written s t fs a i k = record { writes = 0; within = omega arith; array = a; kept = k; doing = inl i }
 
 -- of no frames: the array is as it was, and nothing runs
 pub unwritten : (s t : State) → Written s [] t → (t .array ≡ s .array) × (t .chip .rest .works .running ≡ Nothing)
-unfolding programmedAll
 unwritten s t k = (k .array ∙ none (k .writes), go (k .doing))
   where
     none : (q : ℕ) → programmedAll (take q []) (s .array) ≡ s .array
@@ -204,7 +202,6 @@ pub latched-kept : (s : State) → Ready s → Kept s (latched s)
 latched-kept s h = record { right = latched-ready s h .right; spi = h .spi; same = record { security = refl; locks = refl; suspended = refl } }
 
 written-later : (s t : State) (f : List ℕ) (fs : List (List ℕ)) → Written (ended f s) fs t → Written s (f ∷ fs) t
-unfolding programmedAll
 written-later s t f fs k =
     let w = k .within in
     record { writes = suc (k .writes); within = omega arith; array = k .array; kept = kept-later s t f (k .kept); doing = go (k .doing) }
@@ -215,7 +212,7 @@ written-later s t f fs k =
     go (inr r) = inr (let l = r .0 in omega arith, r .1)
 
 pub always-writes : (a : ℕ) (list : List ℕ) (fs : List (List ℕ)) (j n : ℕ) (s : State) → Open s → Each (Programs (setAside s)) fs → Always (Written s fs) s (writes a list j fs n)
-unfolding writes programmedAll
+unfolding writes
 always-writes a list [] j n s h ps = always-ends (Written s []) s 0 n (none-written s s [] refl (h .ready .idle) (kept-self s (h .ready)))
 always-writes a list (f ∷ gs) j n s h ps =
     let p = each-first ps in
