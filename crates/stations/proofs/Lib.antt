@@ -1,4 +1,17 @@
 -- The laws of the station list.
+pub mod First
+pub mod Same
+pub mod Midway
+pub mod Lookups
+pub mod Programmed
+pub mod Shown
+pub mod Clears
+pub mod Stored
+pub mod Torn
+pub mod Passing
+pub mod Keeping
+pub mod Cuts
+pub mod Done
 pub mod Events
 pub mod Frames
 pub mod Reading
