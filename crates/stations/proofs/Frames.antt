@@ -10,12 +10,11 @@ use borrow.Author.Tests.{eq-eqb, ne-eqb, le-leb, lt-ltb}
 use Rattle.rules.specs.declared.Chip.{Chip}
 use Rattle.rules.specs.declared.Range.{Range}
 use Rattle.rules.specs.declared.Rest.{Rest}
-use Rattle.rules.specs.declared.Tear.{Tear}
 use Rattle.rules.specs.declared.Work.{Work}
 use Rattle.rules.specs.declared.Work.the-variants.{Nothing, ProgramPage}
-use Rattle.rules.specs.Words.{bit, num, pick, holds, range, nowhere, Lent}
+use Rattle.rules.specs.Words.{bit, num, pick, holds, nowhere, Lent}
 use Rattle.rules.specs.Works.{arrayRange, all, finish}
-use Rattle.rules.specs.Blocks.{arraySize, wide, blocks, blockAt, blockOf, span, writeLocked, readLocked}
+use Rattle.rules.specs.Blocks.{blockAt, writeLocked}
 use Rattle.rules.specs.Registers.{busy, wse, wsp, status}
 use Rattle.rules.specs.Frames.{frames, find, formOf, address}
 use Rattle.rules.specs.Programs.{blank, pageBuffer}
@@ -27,13 +26,14 @@ use Rattle.rules.specs.Machine.{Outcome, Event, sends, workedArray, workedSecur
 use Rattle.rules.specs.Cases.{stateAfter}
 use Rattle.rules.specs.Promises.{zeroed, carriedOf, frameOf}
 use Rattle.rules.proofs.Bools.{never, or-none, or-right}
-use Rattle.rules.proofs.Blocks.{holds-at, holds-intro, block-only}
+use Rattle.rules.proofs.Blocks.{holds-at}
 use Rattle.rules.proofs.Refusals.{frame-done-whole, frame-refused-more, completion-done-whole}
 use Rattle.rules.proofs.Numbers.{frame-given, completion-given}
 use Rattle.rules.proofs.TornBytes.{finish-same}
 use Rattle.rules.proofs.Quick.{after-right}
 use Rattle.stations.specs.Plans.{programAt}
 use Rattle.stations.specs.Calls.{short}
+use Rattle.stations.proofs.Programmed.{programmed, list-block, frame-to}
 
 -- ---- every event keeps a right state
 
@@ -124,29 +124,11 @@ latch s h = (latch-number s h, ap left (frame-done-whole s (framed (0x06 ∷ [])
 pub latched-ready : (s : State) → Ready s → Ready (latched s)
 latched-ready s h = record { right = subst (λ (t : State). stateRight t ≡ true) (latch s h .1) (step-right s (short (0x06 ∷ [])) (h .right)); spi = h .spi; idle = h .idle }
 
--- ---- places of the list: its 64 KB are one block, with no read lock
+-- ---- the list's 64 KB are one block
 
-pub place-of : (p : ℕ) → p < 65536 → (1 * 0x10000 + p / 256 % 256 * 0x100 + p % 256) % arraySize ≡ 0x10000 + p
-place-of p h = omega arith
-
-in-39 : (q : ℕ) → q < 65536 → holds (span (blockAt 39)) (0x10000 + q) ≡ true
-unfolding blockAt blocks wide
-in-39 q h = holds-intro (range 0x10000 0x10000) (0x10000 + q) (omega arith) (omega arith)
-
-pub block-39 : (q : ℕ) → q < 65536 → blockOf (0x10000 + q) ≡ 39
-block-39 q h = sym (block-only 39 (0x10000 + q) (omega arith) (omega arith) (in-39 q h))
-
-pub one-lock : (x q : ℕ) → q < 65536 → writeLocked x (0x10000 + q) ≡ writeLocked x 0x10000
+one-lock : (x q : ℕ) → q < 65536 → writeLocked x (0x10000 + q) ≡ writeLocked x 0x10000
 unfolding writeLocked
-one-lock x q h = ap (λ (n : ℕ). bit (blockAt n .write) x) (block-39 q h ∙ sym (block-39 0 (omega arith)))
-
-unpaired : (x : ℕ) → (blockAt 39 .paired && bit (blockAt 39 .write + 1) x) ≡ false
-unfolding blockAt blocks wide
-unpaired x = refl
-
-pub no-read-lock : (x q : ℕ) → q < 65536 → readLocked x (0x10000 + q) ≡ false
-unfolding readLocked
-no-read-lock x q h = ap (λ (n : ℕ). blockAt n .paired && bit (blockAt n .write + 1) x) (block-39 q h) ∙ unpaired x
+one-lock x q h = ap (λ (n : ℕ). bit (blockAt n .write) x) (list-block q h ∙ sym (list-block 0 (omega arith)))
 
 -- ---- 02, with WEL 1, in SPI, idle: 8, 11 or done
 
@@ -154,15 +136,9 @@ no-read-lock x q h = ap (λ (n : ℕ). blockAt n .paired && bit (blockAt n .writ
 pub data Programs (r : Range) : List ℕ → Type 0 where
   programs : (p b : ℕ) (bytes : List ℕ) → p < 65536 → length bytes < 65532 → holds r (0x10000 + p) ≡ false → Programs r (programAt p (b ∷ bytes))
 
--- the work that it begins, and the array once that is finished as far as t says, or completed
+-- the work that it begins
 abbrev pub pageOf : List ℕ → Work
 pageOf f = ProgramPage (address f / 256)
-
-abbrev pub stoppedBy : Tear → List ℕ → Lent → Lent
-stoppedBy t f mem = finish (ProgramPage (address f / 256)) (range (address f / 256 * 256) 256) (pageBuffer f) t mem
-
-abbrev pub programmed : List ℕ → Lent → Lent
-programmed f mem = finish (ProgramPage (address f / 256)) (range (address f / 256 * 256) 256) (pageBuffer f) all mem
 
 abbrev pub begun : List ℕ → State → State
 begun f s = stateOf (chipOf (pageBuffer f) (withRunning (pageOf f) (withEnable false (s .chip .rest)))) (s .array) (s .security)
@@ -194,21 +170,21 @@ module _ (s : State) (h : Ready s) (wel : s .chip .rest .flags .wel ≡ true) (p
 
   module _ (page : wsp (s .chip .rest) ≡ false) (apart : holds (arrayRange (s .chip .rest .works .suspended)) (0x10000 + p) ≡ false) where
     open-place : suspension (s .chip .rest) 0x02 sent ≡ false
-    open-place = rw (page, place-of p low, apart) (or-none _ ∙ and-false (wse (s .chip .rest)))
+    open-place = rw (page, frame-to p (b ∷ bytes) low, apart) (or-none _ ∙ and-false (wse (s .chip .rest)))
 
     pub program-11 : writeLocked (s .chip .rest .locks .protection) 0x10000 ≡ true → step s (short sent) .number ≡ 11
     unfolding step frameTests commandTests formOf find frames
     program-11 w =
         frame-given s (framed sent) .is-11 .1 (
           (formed, (some, (rw (h .spi), (sized, (rw (h .idle), (refl, (refl, (refl, (open-place, (rw wel, (refl, tt))))))))))),
-          rw (place-of p low, one-lock (s .chip .rest .locks .protection) p low, w),
+          rw (frame-to p (b ∷ bytes) low, one-lock (s .chip .rest .locks .protection) p low, w),
         )
 
     pub program-0 : writeLocked (s .chip .rest .locks .protection) 0x10000 ≡ false → step s (short sent) .number ≡ 0
     unfolding step frameTests commandTests formOf find frames
     program-0 w =
         frame-given s (framed sent) .is-0 .1
-        (formed, (some, (rw (h .spi), (sized, (rw (h .idle), (refl, (refl, (refl, (open-place, (rw wel, (refl, (rw (place-of p low, one-lock (s .chip .rest .locks .protection) p low, w), tt))))))))))))
+        (formed, (some, (rw (h .spi), (sized, (rw (h .idle), (refl, (refl, (refl, (open-place, (rw wel, (refl, (rw (frame-to p (b ∷ bytes) low, one-lock (s .chip .rest .locks .protection) p low, w), tt))))))))))))
 
 -- done: it runs
 pub begins : (s : State) (p b : ℕ) (bytes : List ℕ) → step s (short (programAt p (b ∷ bytes))) .number ≡ 0

@@ -1,5 +1,5 @@
 -- Which number a call gets, and what it leaves: the tests of the definitions taken in their order, the read by its law, and the writes by theirs. Assumes nothing.
-use Prim.Native.Nat.{ℕ, suc, _≤_, _<_}
+use Prim.Native.Nat.{ℕ, _≤_, _<_}
 use mathlib.Core.Path.{_≡_, refl, sym, ap, _∙_, subst, subst₂}
 use mathlib.Core.Bool.{Bool, true, false, not, _&&_}
 use mathlib.Core.List.{List, [], _∷_}
@@ -20,10 +20,12 @@ use Rattle.stations.specs.Plans.{refused, writing, markFrame, recordFram
 use Rattle.stations.specs.Calls.{ends, Ended, endedOf, played, writes, reading, shownBy, listSize, carriedOut, calling, buffersRight, storeRight, lookupRight, storeCall, lookupCall}
 use Rattle.stations.specs.Given.{completed, pollsFrom, Account, accountOf, at, writeCount, writesAccount, storeAccount, lookupNumber, LookupGiven, StoreGiven}
 use Rattle.stations.specs.Keeping.{shownAt}
+use Rattle.stations.proofs.Programmed.{programmedAll}
+use Rattle.stations.proofs.Torn.{frame-count}
 use Rattle.stations.proofs.Frames.{step-right, Ready, polled}
 use Rattle.stations.proofs.Reading.{read-ready, read-leaves, read-keeps, read-shows}
 use Rattle.stations.proofs.Polls.{Always, always-ends, always-does}
-use Rattle.stations.proofs.Writes.{programmedAll, Same, Written}
+use Rattle.stations.proofs.Writes.{Same, Written}
 use Rattle.stations.proofs.Outcomes.{writes-given, writes-moments}
 use Rattle.stations.proofs.Targets.{plan-reaches}
 
@@ -51,14 +53,6 @@ lookup-given s reply marks n buffer = go (lookupRight reply marks buffer)
 -- the frames of its writes
 abbrev pub storeFrames : State → ℕ → List ℕ → List (List ℕ)
 storeFrames s n bytes = storingAt (shownAt s) n bytes (freeSlot (shownAt s))
-
-length-clearings : (is : List ℕ) → length (clearings is) ≡ length is
-unfolding clearings
-length-clearings [] = refl
-length-clearings (i ∷ is) = ap suc (length-clearings is)
-
-length-frames : (v : Shown) (n : ℕ) (bytes : List ℕ) (i : ℕ) → length (storingAt v n bytes i) ≡ writeCount v n
-length-frames v n bytes i = let h = length-clearings (thoseFrom (liveOf v n) 0 slotCount) in omega arith
 
 -- the read leaves a chip that is ready as it was
 polled-ready : (s : State) (reply marks : Lent) → step s (reading reply marks) .number ≡ 0 → Ready (polled s)
@@ -143,14 +137,14 @@ module _ (s : State) (reply marks : Lent) (n : ℕ) (bytes : List ℕ) (allowanc
       go true e =
           let low = ltb-true (freeSlot v) slotCount e in
           let k = writes-given (polled s) h (recordFrame (freeSlot v) n bytes) (markFrame (freeSlot v) 0x53 0x54 ∷ clearings (thoseFrom (liveOf v n) 0 slotCount)) allowance list (plan-reaches s n bytes size low) in
-          subst (λ (c : ℕ). Stored s n bytes (writesAccount (s .chip .rest) c allowance list) (played (polled s) (writes allowance list 0 (storeFrames s n bytes) 0))) (length-frames v n bytes (freeSlot v))
+          subst (λ (c : ℕ). Stored s n bytes (writesAccount (s .chip .rest) c allowance list) (played (polled s) (writes allowance list 0 (storeFrames s n bytes) 0))) (frame-count v n bytes (freeSlot v))
           (record {
             number = k .number;
             polls = k .polls;
             array = k .array;
             same = record { security = k .kept .same .security; locks = k .kept .same .locks; suspended = k .kept .same .suspended };
             room = inr (low, size);
-            done = λ z. all-made (s .chip .rest) (length (storeFrames s n bytes)) allowance list z ∙ length-frames v n bytes (freeSlot v);
+            done = λ z. all-made (s .chip .rest) (length (storeFrames s n bytes)) allowance list z ∙ frame-count v n bytes (freeSlot v);
           })
 
   pub store-came : Stored s n bytes (storeAccount s reply marks n bytes allowance list) (played s (storeCall reply marks n bytes allowance list))

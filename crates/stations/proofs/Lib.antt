@@ -20,6 +20,4 @@ pub mod Writes
 pub mod Outcomes
 pub mod Targets
 pub mod Given
-pub mod Pages
-pub mod Cut
-pub mod Stays
+pub mod Joined

@@ -9,7 +9,7 @@ use lib.Dec.{eqb, eqb·zero-suc, eqb·suc-suc}
 use lib.ListN.{length, getD, take}
 use Rattle.rules.specs.declared.Range.{Range}
 use Rattle.rules.specs.declared.Work.the-variants.{Nothing}
-use Rattle.rules.specs.Words.{pick, Lent, Each, _next_}
+use Rattle.rules.specs.Words.{pick, Each, _next_}
 use Rattle.rules.specs.Blocks.{writeLocked}
 use Rattle.rules.specs.Works.{arrayRange}
 use Rattle.rules.specs.Registers.{wsp}
@@ -20,13 +20,9 @@ use Rattle.stations.specs.Plans.{programAt}
 use Rattle.stations.specs.Calls.{Script, ends, Ended, endedOf, played, moments, short, onDone, polling, write, writes}
 use Rattle.stations.specs.Given.{inTime, completed, pollsFrom, Account, accountOf}
 use Rattle.stations.specs.Keeping.{Among}
-use Rattle.stations.proofs.Frames.{step-right, Ready, latched, latch, latched-ready, Programs, programs, pageOf, programmed, begun, program-0, begins, ended, completes-page}
+use Rattle.stations.proofs.Programmed.{programmedAll}
+use Rattle.stations.proofs.Frames.{step-right, Ready, latched, latch, latched-ready, Programs, programs, pageOf, begun, program-0, begins, ended, completes-page}
 use Rattle.stations.proofs.Polls.{Calm, polling-comes-to, Always, always-ends, always-does, always-polling}
-
--- the array once the writes with these frames are completed, one after the other
-abbrev pub programmedAll : List (List ℕ) → Lent → Lent
-programmedAll [] mem = mem
-programmedAll (f ∷ fs) mem = programmedAll fs (programmed f mem)
 
 abbrev pub setAside : State → Range
 setAside s = arrayRange (s .chip .rest .works .suspended)
