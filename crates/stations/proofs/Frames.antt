@@ -13,10 +13,10 @@ use Rattle.rules.specs.declared.Rest.{Rest}
 use Rattle.rules.specs.declared.Work.{Work}
 use Rattle.rules.specs.declared.Work.the-variants.{Nothing, ProgramPage}
 use Rattle.rules.specs.Words.{bit, num, pick, holds, nowhere, Lent}
-use Rattle.rules.specs.Works.{arrayRange, all, finish}
+use Rattle.rules.specs.Works.{isNothing, arrayRange, all, finish}
 use Rattle.rules.specs.Blocks.{blockAt, writeLocked}
 use Rattle.rules.specs.Registers.{busy, wse, wsp, status}
-use Rattle.rules.specs.Frames.{frames, find, formOf, address}
+use Rattle.rules.specs.Frames.{frames, find, formOf, listed, address}
 use Rattle.rules.specs.Programs.{blank, pageBuffer}
 use Rattle.rules.specs.Reading.{shown}
 use Rattle.rules.specs.Fields.{chipOf, withEnable, withWel, withRunning}
@@ -161,30 +161,29 @@ module _ (s : State) (h : Ready s) (wel : s .chip .rest .flags .wel ≡ true) (p
       long zero = refl
       long (suc n) = or-right (eqb (suc (suc (suc (suc (suc (suc n)))))) 5) (ltb 5 (suc (suc (suc (suc (suc (suc n))))))) (lt-ltb 5 (suc (suc (suc (suc (suc (suc n)))))) (omega arith))
 
+  -- 8 exactly by the suspension, 11 exactly by the list's write lock
+  pub program-number : step s (short sent) .number ≡ pick (suspension (s .chip .rest) 0x02 sent) 8 (pick (writeLocked (s .chip .rest .locks .protection) 0x10000) 11 0)
+  unfolding step frame frameTests commandTests formOf find frames
+  program-number =
+      λ i.
+      pick (formed i) 1 (pick (some i) 2 (pick (not (listed (h .spi i) (formOf 0x02))) 3 (pick (sized i) 4 (pick (not (isNothing (h .idle i)) && true) 5
+      (pick (suspension (s .chip .rest) 0x02 sent) 8 (pick (not (wel i)) 9 (pick (locked i) 11 0)))))))
+    where
+      locked : (writeLocked (s .chip .rest .locks .protection) (address sent) || false) ≡ writeLocked (s .chip .rest .locks .protection) 0x10000
+      locked = or-none _ ∙ ap (writeLocked (s .chip .rest .locks .protection)) (frame-to p (b ∷ bytes) low) ∙ one-lock (s .chip .rest .locks .protection) p low
+
   -- with WSP 1, wherever it goes
   pub program-8 : wsp (s .chip .rest) ≡ true → step s (short sent) .number ≡ 8
-  unfolding step frameTests commandTests formOf find frames
   program-8 w =
-      frame-given s (framed sent) .is-8 .1
-      ((formed, (some, (rw (h .spi), (sized, (rw (h .idle), (refl, (refl, (refl, tt)))))))), rw w (or-right (besideErase (s .chip .rest) 0x02 sent) true refl))
+      let beside : suspension (s .chip .rest) 0x02 sent ≡ true = rw w (or-right (besideErase (s .chip .rest) 0x02 sent) true refl) in
+      program-number ∙ ap (λ (x : Bool). pick x 8 (pick (writeLocked (s .chip .rest .locks .protection) 0x10000) 11 0)) beside
 
-  module _ (page : wsp (s .chip .rest) ≡ false) (apart : holds (arrayRange (s .chip .rest .works .suspended)) (0x10000 + p) ≡ false) where
-    open-place : suspension (s .chip .rest) 0x02 sent ≡ false
-    open-place = rw (page, frame-to p (b ∷ bytes) low, apart) (or-none _ ∙ and-false (wse (s .chip .rest)))
-
-    pub program-11 : writeLocked (s .chip .rest .locks .protection) 0x10000 ≡ true → step s (short sent) .number ≡ 11
-    unfolding step frameTests commandTests formOf find frames
-    program-11 w =
-        frame-given s (framed sent) .is-11 .1 (
-          (formed, (some, (rw (h .spi), (sized, (rw (h .idle), (refl, (refl, (refl, (open-place, (rw wel, (refl, tt))))))))))),
-          rw (frame-to p (b ∷ bytes) low, one-lock (s .chip .rest .locks .protection) p low, w),
-        )
-
-    pub program-0 : writeLocked (s .chip .rest .locks .protection) 0x10000 ≡ false → step s (short sent) .number ≡ 0
-    unfolding step frameTests commandTests formOf find frames
-    program-0 w =
-        frame-given s (framed sent) .is-0 .1
-        (formed, (some, (rw (h .spi), (sized, (rw (h .idle), (refl, (refl, (refl, (open-place, (rw wel, (refl, (rw (frame-to p (b ∷ bytes) low, one-lock (s .chip .rest .locks .protection) p low, w), tt))))))))))))
+  -- with WSP 0, outside a suspended range
+  pub program-past-8 : wsp (s .chip .rest) ≡ false → holds (arrayRange (s .chip .rest .works .suspended)) (0x10000 + p) ≡ false
+      → step s (short sent) .number ≡ pick (writeLocked (s .chip .rest .locks .protection) 0x10000) 11 0
+  program-past-8 page apart =
+      let beside : suspension (s .chip .rest) 0x02 sent ≡ false = rw (page, frame-to p (b ∷ bytes) low, apart) (or-none _ ∙ and-false (wse (s .chip .rest))) in
+      program-number ∙ ap (λ (x : Bool). pick x 8 (pick (writeLocked (s .chip .rest .locks .protection) 0x10000) 11 0)) beside
 
 -- done: it runs
 pub begins : (s : State) (p b : ℕ) (bytes : List ℕ) → step s (short (programAt p (b ∷ bytes))) .number ≡ 0

@@ -1,6 +1,6 @@
 -- The writes on any chip that took the read: 8 beside a suspended page program and 11 in a write-locked block, both at the first 02 with nothing written; else as on an open chip. Assumes nothing.
 use Prim.Native.Nat.{ℕ, suc, _+_, _≤_}
-use mathlib.Core.Path.{_≡_, refl, sym, _∙_, subst}
+use mathlib.Core.Path.{_≡_, refl, sym, ap, _∙_, subst}
 use mathlib.Core.Bool.{Bool, true, false, _||_, false≢true}
 use mathlib.Core.List.{List, [], _∷_}
 use native.Mathlib.Omega.{arith}
@@ -14,7 +14,7 @@ use Rattle.rules.specs.Numbers.{State, stateRight}
 use Rattle.rules.specs.Machine.{step, left}
 use Rattle.stations.specs.Calls.{endedOf, played, moments, short, write, writes}
 use Rattle.stations.specs.Given.{completed, pollsFrom, accountOf, at, writesAccount}
-use Rattle.stations.proofs.Frames.{step-right, Ready, polled, latched, latch, latched-ready, framed, Programs, programs, program-8, program-11, refuses}
+use Rattle.stations.proofs.Frames.{step-right, Ready, polled, latched, latch, latched-ready, framed, Programs, programs, program-8, program-past-8, refuses}
 use Rattle.stations.proofs.Polls.{Always, always-ends, always-does}
 use Rattle.stations.proofs.Writes.{setAside, Kept, sent-on, sent-off, along, each-first, Came, kept-self, writes-come-to, Written, none-written, some-written, latched-kept, always-writes}
 
@@ -52,7 +52,7 @@ module _ (s : State) (h : Ready s) where
   eighth f (programs p b bytes low few apart) w = program-8 (latched s) (latched-ready s h) refl p b bytes low few w
 
   eleventh : (f : List ℕ) → Programs (setAside s) f → wsp (s .chip .rest) ≡ false → writeLocked (s .chip .rest .locks .protection) 0x10000 ≡ true → step (latched s) (short f) .number ≡ 11
-  eleventh f (programs p b bytes low few apart) w l = program-11 (latched s) (latched-ready s h) refl p b bytes low few w apart l
+  eleventh f (programs p b bytes low few apart) w l = program-past-8 (latched s) (latched-ready s h) refl p b bytes low few w apart ∙ ap (λ (x : Bool). pick x 11 0) l
 
   module _ (f : List ℕ) (fs : List (List ℕ)) (a : ℕ) (list : List ℕ) (ps : Each (Programs (setAside s)) (f ∷ fs)) where
     -- the array with no write

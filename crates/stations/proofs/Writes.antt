@@ -21,7 +21,7 @@ use Rattle.stations.specs.Calls.{Script, ends, Ended, endedOf, played, m
 use Rattle.stations.specs.Given.{inTime, completed, pollsFrom, Account, accountOf}
 use Rattle.stations.specs.Keeping.{Among}
 use Rattle.stations.proofs.Programmed.{programmedAll}
-use Rattle.stations.proofs.Frames.{step-right, Ready, latched, latch, latched-ready, Programs, programs, pageOf, begun, program-0, begins, ended, completes-page}
+use Rattle.stations.proofs.Frames.{step-right, Ready, latched, latch, latched-ready, Programs, programs, pageOf, begun, program-past-8, begins, ended, completes-page}
 use Rattle.stations.proofs.Polls.{Calm, polling-comes-to, Always, always-ends, always-does, always-polling}
 
 abbrev pub setAside : State → Range
@@ -69,7 +69,7 @@ along {P} e g = subst (λ (l : List State). (t : State) → Among t l → P t) (
 
 module _ (s : State) (h : Open s) where
   begun-number : (f : List ℕ) → Programs (setAside s) f → step (latched s) (short f) .number ≡ 0
-  begun-number f (programs p b bytes low few apart) = program-0 (latched s) (latched-ready s (h .ready)) refl p b bytes low few (h .page) apart (h .bare)
+  begun-number f (programs p b bytes low few apart) = program-past-8 (latched s) (latched-ready s (h .ready)) refl p b bytes low few (h .page) apart ∙ ap (λ (x : Bool). pick x 11 0) (h .bare)
 
   begun-state : (f : List ℕ) → Programs (setAside s) f → left (step (latched s) (short f)) ≡ begun f (latched s)
   begun-state f (programs p b bytes low few apart) = begins (latched s) p b bytes (begun-number (programAt p (b ∷ bytes)) (programs p b bytes low few apart))
