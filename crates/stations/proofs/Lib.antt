@@ -14,3 +14,12 @@ pub mod Passing
 pub mod Keeping
 pub mod Cuts
 pub mod Done
+pub mod Events
+pub mod Frames
+pub mod Reading
+pub mod Polls
+pub mod Writes
+pub mod Outcomes
+pub mod Targets
+pub mod Given
+pub mod Joined
