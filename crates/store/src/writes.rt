@@ -231,16 +231,14 @@ pub fn clear_others(
 {
     let mut at = s;
     let mut turn: usize = 2;
-    let mut i: usize = 0;
+    let mut i = slots::live_from(reply, marks, station, 0);
     while i < 2048 {
-        if slots::is_live_of(reply, marks, station, i) {
-            at = write_mark(at, array, security, i, 0x00, 0x00, allowance, entry_of(list, turn));
-            if at.number != 0 {
-                return at;
-            }
-            turn += 1;
+        at = write_mark(at, array, security, i, 0x00, 0x00, allowance, entry_of(list, turn));
+        if at.number != 0 {
+            return at;
         }
-        i += 1;
+        turn += 1;
+        i = slots::live_from(reply, marks, station, i + 1);
     }
     at
 }
