@@ -57,6 +57,7 @@ pub fn is_live_of(reply: &[u8], marks: &[u8], number: u16, i: usize) -> bool
 pub fn first_empty(reply: &[u8], marks: &[u8]) -> usize
     requires { ⌜ length (now reply) ≡ listSize ⌝ }
     ensures { λ r. ⌜ r ≡ freeSlot (shownIn (now (reply .entry)) (now (marks .entry))) ⌝ }
+    ensures within { λ r. ⌜ r ≤ 2048 ⌝ }
 {
     let mut i: usize = 0;
     while i < 2048 {

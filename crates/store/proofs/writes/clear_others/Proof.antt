@@ -27,7 +27,7 @@ Inv-loop array₀ security₀ reply marks station allowance list at₀ turn₀ i
       same-array : length array ≡ length array₀;
       same-security : length security ≡ length security₀;
       is : played (stateOf (benchOf (at .chip) array security)) (writes allowance list turn (clearsAt (liveOf (shownIn reply marks) station) i) (at .polls))
-          ≡ played (stateOf (benchOf (at₀ .chip) array₀ security₀)) (writes allowance list 2 (clearsAt (liveOf (shownIn reply marks) station) i₀) (at₀ .polls))
+          ≡ played (stateOf (benchOf (at₀ .chip) array₀ security₀)) (writes allowance list 2 (clearsAt (liveOf (shownIn reply marks) station) i₀) (at₀ .polls));
     }
 
 abbrev μ-loop : tie.MeasureT-loop
@@ -87,12 +87,18 @@ loop-again : tie.Need-loop-again Inv-loop μ-loop
 loop-again c = let l = c .before .before .before .before .before .before .before .before .before .before .before .before .loop in let a = c .before .before .before .before .before .before .before .before .before .before .before .before .before .before .before .before .before .before .before .args in let w = c .before .before .before .before .before .before .before .write-mark in let e = c .before .before .before .before .before .before .before .before .entry-of in
     let t = liveOf (shownIn (a .reply .now) (a .marks .now)) (a .station) in let s = stateOf (benchOf (l .at .chip) (l .array) (l .security)) in
     let q = c .live-from2 .ensures in let few = w .ensures .1 in
-    record { low = q .1 .1; going = c .before .if1 .left; turns = omega (arith, q .1 .0); few = omega (arith, few, q .1 .0, l .inv .few, c .before .before .before .before .before .before .before .before .before .before .before .before .before .before .before .before .before .before .before .pre .2);
-      same-array = w .kept .1 .0 ∙ l .inv .same-array; same-security = w .kept .1 .1 .0 ∙ l .inv .same-security;
+    record {
+      low = q .1 .1;
+      going = c .before .if1 .left;
+      turns = omega (arith, q .1 .0);
+      few = omega (arith, few, q .1 .0, l .inv .few, c .before .before .before .before .before .before .before .before .before .before .before .before .before .before .before .before .before .before .before .pre .2);
+      same-array = w .kept .1 .0 ∙ l .inv .same-array;
+      same-security = w .kept .1 .1 .0 ∙ l .inv .same-security;
       is = ap (λ (fs : List (List ℕ)). played (stateOf (benchOf (w .result .chip) (w .last .1 .0) (w .last .1 .1 .0))) (writes (a .allowance) (a .list .now) (l .turn + 1) fs (w .result .polls))) (sym (clears-first t (l .i + 1) _ (omega (arith, c .before .before .before .before .before .before .before .before .before .before .before .loop-test .taken)) (q .0)))
           ∙ goes-on-from s (a .allowance) (e .result) (l .at .polls) (a .list .now) (l .turn) _ (clearings (thoseFrom t (l .i + 1) (2048 - (l .i + 1)))) (w .result) (w .last .1 .0) (w .last .1 .1 .0) (e .ensures) (w .ensures .0) (c .before .if1 .left)
           ∙ ap (λ (fs : List (List ℕ)). played s (writes (a .allowance) (a .list .now) (l .turn) fs (l .at .polls))) (sym (clears-here t (l .i) (omega (arith, c .before .before .before .before .before .before .before .before .before .before .before .loop-test .taken))))
-          ∙ l .inv .is }
+          ∙ l .inv .is;
+    }
 
 -- src/writes.rt:219:1
 same-length-3 : tie.Need-same-length-3 Inv-loop μ-loop
