@@ -3,12 +3,17 @@ use Prim.Native.Nat.{ℕ, zero, suc, _+_, _*_}
 use mathlib.Core.Bool.{Bool, true, false, not, _&&_, _||_}
 use mathlib.Core.List.{List, [], _∷_}
 use lib.Dec.{eqb, ltb}
+use lib.ListN.{getD}
 use Rattle.rules.specs.declared.Cell.{Cell}
 use Rattle.rules.specs.Words.{pick}
 
 -- the byte and the mark at each place of the list, counted from its first
 abbrev pub Shown : Type 0
 Shown = ℕ → Cell
+
+-- as the two buffers of a read hold it
+abbrev pub shownIn : List ℕ → List ℕ → Shown
+shownIn reply marks p = record { byte = getD reply p 0; mark = getD marks p 0 }
 
 abbrev pub slotSize : ℕ
 slotSize = 32

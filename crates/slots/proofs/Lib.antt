@@ -1,0 +1,2 @@
+-- Slots as code finds them.
+pub mod Slots

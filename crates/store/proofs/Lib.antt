@@ -1,0 +1,4 @@
+-- Laws of the steps of a call.
+pub mod Steps
+pub mod Clears
+pub mod Calls
