@@ -25,11 +25,11 @@ pub fn keep(
     reply: &mut [u8],
     marks: &mut [u8],
     station: u16,
-    bytes: &[u8],
+    data: &[u8],
     allowance: u64,
     list: &[u64],
 )
-    ensures { λ _. ⌜ StorePromise (now (s .entry)) (deskOf (now (array .entry)) (now (security .entry)) (now (reply .entry)) (now (marks .entry))) station (now (bytes .entry)) allowance (now (list .entry)) (now (s .exit)) (deskOf (now (array .exit)) (now (security .exit)) (now (reply .exit)) (now (marks .exit))) ⌝ }
+    ensures { λ _. ⌜ StorePromise (now (s .entry)) (deskOf (now (array .entry)) (now (security .entry)) (now (reply .entry)) (now (marks .entry))) station (now («data» .entry)) allowance (now (list .entry)) (now (s .exit)) (deskOf (now (array .exit)) (now (security .exit)) (now (reply .exit)) (now (marks .exit))) ⌝ }
 {
     *s = store::store(
         *s,
@@ -38,7 +38,7 @@ pub fn keep(
         reply,
         marks,
         station,
-        bytes,
+        data,
         allowance,
         list,
     );
