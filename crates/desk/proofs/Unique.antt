@@ -12,10 +12,11 @@ use ghost.Atoms.{Atoms}
 use contract.Monad.{Fun, fact}
 use contract.Lifetimes.{Lfts}
 use denote.Ref.{RefT}
-use Rattle.rules.proofs.Promises.{one, lent-one}
+use Rattle.rules.proofs.Promises.{one}
 use Rattle.rules.proofs.Outcomes.{OneOutcome}
 use Rattle.stations.specs.declared.StoreRecord.{StoreRecord}
-use Rattle.stations.specs.Promises.{Desk, deskOf, Came, cameOf, Looked, StorePromise, LookupPromise}
+use Rattle.stations.specs.Promises.{Desk, deskOf, Looked, StorePromise, LookupPromise}
+use Rattle.stations.proofs.Unique.{Left, came-one}
 use Rattle.desk.proofs.find as find
 use Rattle.desk.proofs.keep as keep
 
@@ -49,19 +50,8 @@ module _ {M : Type 1} (𝓤 : URA M) (H : Heap 𝓤) (A : Atoms 𝓤) (mem : Mem
 
 -- ---- one outcome
 
--- the record and the four slices
-abbrev Left : Type 0
-Left = StoreRecord × Desk
-
 abbrev leftIn : {X : Type 0} → Lent X → Left
 leftIn x = (x .0 .now, deskIn x)
-
-came-one : (r r′ : StoreRecord) (d d′ : Desk) → cameOf r d ≡ cameOf r′ d′ → _≡_ {A = Left} (r, d) (r′, d′)
-came-one r r′ d d′ e i = (
-  record { chip = e i .ended .state .chip; number = e i .ended .number; polls = e i .ended .polls },
-  deskOf (lent-one (d .array) (d′ .array) (ap (λ (c : Came). c .ended .state .array) e) i) (lent-one (d .security) (d′ .security) (ap (λ (c : Came). c .ended .state .security) e) i)
-      (lent-one (d .reply) (d′ .reply) (ap (λ (c : Came). c .reply) e) i) (lent-one (d .marks) (d′ .marks) (ap (λ (c : Came). c .marks) e) i),
-)
 
 pub find-one : OneOutcome {S = Left × List ℕ} FindPost (λ r x. (leftIn x, x .1 .1 .1 .1 .1 .1 .0 .now))
 find-one κs a x y r r′ p q =

@@ -2,3 +2,4 @@
 pub mod Steps
 pub mod Clears
 pub mod Calls
+pub mod Unique
