@@ -15,7 +15,6 @@ use Rattle.store.proofs.store.Tie as tie
 use Rattle.store.proofs.store.Reads as reads
 use Rattle.store.proofs.store.Lts as lts
 use Rattle.chip.proofs.answer_number.Reads as answer-number-reads
-use Rattle.slots.proofs.first_empty.Reads as first-empty-reads
 use Rattle.store.proofs.lengths_right.Reads as lengths-right-reads
 use Rattle.store.proofs.read_list.Reads as read-list-reads
 use Rattle.store.proofs.writes.write_all.Reads as write-all-reads
@@ -66,8 +65,8 @@ returns-2 c = let a = c .before .before .before .before .before .before .before 
     store-read (a .s) (deskOf (a .array .now) (a .security .now) (a .reply .now) (a .marks .now)) (a .station) (a .«data» .now) (a .allowance) (a .list .now) ok gave (read-is (g .ensures)) _ (c .answer-number .ensures) (refused-some _ _ (c .before .enum-told2 .given .1))
 
 -- src/lib.rt:127:9
-first-empty-requires : tie.Need-first-empty-requires
-first-empty-requires c κs = let a = c .before .before .before .before .before .before .before .before .before .before .before .before .before .before .before .before .before .before .before .before .before .before .before .before .before .before .before .args in let q = and-split (c .before .before .before .before .before .before .before .before .before .before .before .before .before .before .before .before .before .before .before .lengths-right .result) (leb (a .allowance) 65535) (not-false _ (c .before .before .before .before .before .before .before .before .before .before .before .before .before .before .before .before .before .before .if1 .left)) in let r = right-lengths (length (a .reply .now)) (length (a .marks .now)) (length (a .«data» .now)) (c .before .before .before .before .before .before .before .before .before .before .before .before .before .before .before .before .before .before .before .lengths-right .ensures) (q .0) in c .before .before .before .before .before .before .before .before .before .before .before .before .before .read-list .kept .1 .1 .1 .0 ∙ r .0
+slot-for-requires : tie.Need-slot-for-requires
+slot-for-requires c κs = let a = c .before .before .before .before .before .before .before .before .before .before .before .before .before .before .before .before .before .before .before .before .before .before .before .before .before .before .before .args in let q = and-split (c .before .before .before .before .before .before .before .before .before .before .before .before .before .before .before .before .before .before .before .lengths-right .result) (leb (a .allowance) 65535) (not-false _ (c .before .before .before .before .before .before .before .before .before .before .before .before .before .before .before .before .before .before .if1 .left)) in let r = right-lengths (length (a .reply .now)) (length (a .marks .now)) (length (a .«data» .now)) (c .before .before .before .before .before .before .before .before .before .before .before .before .before .before .before .before .before .before .before .lengths-right .ensures) (q .0) in c .before .before .before .before .before .before .before .before .before .before .before .before .before .read-list .kept .1 .1 .1 .0 ∙ r .0
 
 -- src/lib.rt:129:9
 same-length-5 : tie.Need-same-length-5
@@ -89,11 +88,11 @@ same-length-8 c = search needs
 returns-3 : tie.Need-returns-3
 returns-3 c = let a = c .before .before .before .before .before .before .before .before .before .before .before .before .before .before .before .before .before .before .before .before .before .before .before .before .before .before .before .before .before .args in let g = c .before .before .before .before .before .before .before .before .before .before .before .before .before .before .before .read-list in let ok = ap (λ (b : Bool). b && leb (a .allowance) 65535) (sym (c .before .before .before .before .before .before .before .before .before .before .before .before .before .before .before .before .before .before .before .before .before .lengths-right .ensures)) ∙ not-false _ (c .before .before .before .before .before .before .before .before .before .before .before .before .before .before .before .before .before .before .before .before .if1 .left) in
     let gave = returnedOf (g .result) (g .last .1 .0) (g .last .1 .1 .0) (g .last .1 .1 .1 .0) (g .last .1 .1 .1 .1 .0) in
-    store-16 (a .s) (deskOf (a .array .now) (a .security .now) (a .reply .now) (a .marks .now)) (a .station) (a .«data» .now) (a .allowance) (a .list .now) ok gave (read-is (g .ensures)) (done-none _ (c .before .before .before .before .enum-told .given .1)) _ (c .before .first-empty .ensures .0) (c .if2 .taken)
+    store-16 (a .s) (deskOf (a .array .now) (a .security .now) (a .reply .now) (a .marks .now)) (a .station) (a .«data» .now) (a .allowance) (a .list .now) ok gave (read-is (g .ensures)) (done-none _ (c .before .before .before .before .enum-told .given .1)) _ (c .before .slot-for .ensures .0) (c .if2 .taken)
 
 -- src/lib.rt:135:5
 write-all-requires : tie.Need-write-all-requires
-write-all-requires c κs = let a = c .before .before .before .before .before .before .before .before .before .before .before .before .before .before .before .before .before .before .before .before .before .before .before .before .before .before .before .before .before .before .before .before .before .args in let q = and-split (c .before .before .before .before .before .before .before .before .before .before .before .before .before .before .before .before .before .before .before .before .before .before .before .before .before .lengths-right .result) (leb (a .allowance) 65535) (not-false _ (c .before .before .before .before .before .before .before .before .before .before .before .before .before .before .before .before .before .before .before .before .before .before .before .before .if1 .left)) in let r = right-lengths (length (a .reply .now)) (length (a .marks .now)) (length (a .«data» .now)) (c .before .before .before .before .before .before .before .before .before .before .before .before .before .before .before .before .before .before .before .before .before .before .before .before .before .lengths-right .ensures) (q .0) in (omega (arith, c .before .before .before .before .if2 .left, c .before .before .before .before .before .first-empty .ensures .1), c .before .before .before .before .before .before .before .before .before .before .before .before .before .before .before .before .before .before .before .read-list .kept .1 .1 .1 .0 ∙ r .0, r .2, leb-true _ 65535 (q .1))
+write-all-requires c κs = let a = c .before .before .before .before .before .before .before .before .before .before .before .before .before .before .before .before .before .before .before .before .before .before .before .before .before .before .before .before .before .before .before .before .before .args in let q = and-split (c .before .before .before .before .before .before .before .before .before .before .before .before .before .before .before .before .before .before .before .before .before .before .before .before .before .lengths-right .result) (leb (a .allowance) 65535) (not-false _ (c .before .before .before .before .before .before .before .before .before .before .before .before .before .before .before .before .before .before .before .before .before .before .before .before .if1 .left)) in let r = right-lengths (length (a .reply .now)) (length (a .marks .now)) (length (a .«data» .now)) (c .before .before .before .before .before .before .before .before .before .before .before .before .before .before .before .before .before .before .before .before .before .before .before .before .before .lengths-right .ensures) (q .0) in (omega (arith, c .before .before .before .before .if2 .left, c .before .before .before .before .before .slot-for .ensures .1), c .before .before .before .before .before .before .before .before .before .before .before .before .before .before .before .before .before .before .before .read-list .kept .1 .1 .1 .0 ∙ r .0, r .2, leb-true _ 65535 (q .1))
 
 -- src/lib.rt:96:1
 same-length-9 : tie.Need-same-length-9
@@ -115,7 +114,7 @@ same-length-12 c = search needs
 returns-4 : tie.Need-returns-4
 returns-4 c = let a = c .before .before .before .before .before .before .before .before .before .before .before .before .before .before .before .before .before .before .before .before .before .before .before .before .before .before .before .before .before .before .before .before .before .before .before .before .before .before .args in let g = c .before .before .before .before .before .before .before .before .before .before .before .before .before .before .before .before .before .before .before .before .before .before .before .before .read-list in let ok = ap (λ (b : Bool). b && leb (a .allowance) 65535) (sym (c .before .before .before .before .before .before .before .before .before .before .before .before .before .before .before .before .before .before .before .before .before .before .before .before .before .before .before .before .before .before .lengths-right .ensures)) ∙ not-false _ (c .before .before .before .before .before .before .before .before .before .before .before .before .before .before .before .before .before .before .before .before .before .before .before .before .before .before .before .before .before .if1 .left) in
     let gave = returnedOf (g .result) (g .last .1 .0) (g .last .1 .1 .0) (g .last .1 .1 .1 .0) (g .last .1 .1 .1 .1 .0) in
-    store-written (a .s) (deskOf (a .array .now) (a .security .now) (a .reply .now) (a .marks .now)) (a .station) (a .«data» .now) (a .allowance) (a .list .now) ok gave (read-is (g .ensures)) (done-none _ (c .before .before .before .before .before .before .before .before .before .before .before .before .before .enum-told .given .1)) _ (c .before .before .before .before .before .before .before .before .before .before .first-empty .ensures .0) (omega (arith, c .before .before .before .before .before .before .before .before .before .if2 .left, c .before .before .before .before .before .before .before .before .before .before .first-empty .ensures .1)) _ _ _ (c .before .before .before .before .write-all .ensures)
+    store-written (a .s) (deskOf (a .array .now) (a .security .now) (a .reply .now) (a .marks .now)) (a .station) (a .«data» .now) (a .allowance) (a .list .now) ok gave (read-is (g .ensures)) (done-none _ (c .before .before .before .before .before .before .before .before .before .before .before .before .before .enum-told .given .1)) _ (c .before .before .before .before .before .before .before .before .before .before .slot-for .ensures .0) (omega (arith, c .before .before .before .before .before .before .before .before .before .if2 .left, c .before .before .before .before .before .before .before .before .before .before .slot-for .ensures .1)) _ _ _ (c .before .before .before .before .write-all .ensures)
 
 pub store-spec : {M : Type 1} → statement M
 store-spec =
@@ -132,7 +131,7 @@ store-spec =
     same-length-3
     same-length-4
     returns-2
-    first-empty-requires
+    slot-for-requires
     same-length-5
     same-length-6
     same-length-7
