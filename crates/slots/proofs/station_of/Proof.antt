@@ -26,7 +26,7 @@ wide-requires c κs = search needs
 
 -- src/lib.rt:42:5
 mul-result : tie.Need-mul-result
-mul-result c = let i = c .before .before .before .before .args .i in omega (arith, c .wide .ensures, c .before .shared-slice-known3 .given (i * 32 + 2))
+mul-result c = let i = c .before .before .before .before .args .i in omega (arith, c .wide .ensures, c .before .shared-slice-known3 .given (i * 32 + 2), c .before .shared-slice-known3 .given (i * 32 + 3))
 
 -- src/lib.rt:42:48
 mul-wide-2 : tie.Need-mul-wide-2
@@ -46,7 +46,7 @@ wide-requires-2 c κs = search needs
 
 -- src/lib.rt:42:5
 add-result : tie.Need-add-result
-add-result c = let i = c .before .before .before .before .before .before .args .i in omega (arith, c .wide2 .ensures, c .before .before .wide .ensures, c .before .before .before .shared-slice-known3 .given (i * 32 + 2), c .before .shared-slice-known4 .given (i * 32 + 3))
+add-result c = let i = c .before .before .before .before .before .before .args .i in omega (arith, c .wide2 .ensures, c .before .before .wide .ensures, c .before .shared-slice-known4 .given (i * 32 + 2), c .before .shared-slice-known4 .given (i * 32 + 3))
 
 -- src/lib.rt:38:1
 returns : tie.Need-returns
