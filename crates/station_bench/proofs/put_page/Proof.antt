@@ -1,21 +1,16 @@
-use Rattle.station_bench.proofs.Calls.{page-put}
+-- A copy over the first 256 bytes. Assumes nothing.
 use native.Mathlib.Omega.{arith}
 use borrow.Author.Needs.{needs}
+use Rattle.station_bench.proofs.Calls.{page-put}
 use Rattle.station_bench.proofs.put_page.Statement.{statement}
 use Rattle.station_bench.proofs.put_page.Tie as tie
-use Rattle.station_bench.proofs.put_page.Reads as reads
-use Rattle.station_bench.proofs.put_page.Lts as lts
-use Rattle.memory.proofs.copy.Reads as copy-reads
 
--- src/lib.rt:35:5
 copy-requires : tie.Need-copy-requires
 copy-requires c κs = search needs
 
--- src/lib.rt:31:1
 same-length : tie.Need-same-length
 same-length c = search needs
 
--- src/lib.rt:31:1
 returns : tie.Need-returns
 returns c = let a = c .before .before .before .before .before .before .args in (page-put _ (a .bytes .now) (a .page .now) (omega arith) (omega (arith, c .before .before .before .before .before .before .pre .0)) (c .before .before .copy .ensures), omega arith)
 

@@ -1,18 +1,15 @@
-use Prim.Native.Nat.{ℕ, _+_, _-_, _≤_}
+-- What is left of the polls comes, from where the chip is now, to what all of them come to from the start. Assumes nothing.
+use Prim.Native.Nat.{ℕ, _-_, _≤_}
+use mathlib.Core.Path.{_≡_, refl, ap, _∙_}
+use native.Mathlib.Omega.{arith}
 use lib.ListN.{length}
-use mathlib.Core.Path.{_≡_, refl, sym, ap, _∙_}
-use Rattle.rules.specs.Promises.{benchOf, stateOf}
-use Rattle.stations.specs.Calls.{ends, endedOf, played, polling}
 use borrow.Author.Needs.{needs}
 use borrow.Author.Tests.{not-true, not-false}
+use Rattle.rules.specs.Promises.{benchOf, stateOf}
+use Rattle.stations.specs.Calls.{ends, endedOf, played, polling}
 use Rattle.store.proofs.Steps.{poll-refused, poll-ended, poll-again, polls-over, refused-some, done-none}
-use native.Mathlib.Omega.{arith}
 use Rattle.store.proofs.writes.poll.Statement.{statement}
 use Rattle.store.proofs.writes.poll.Tie as tie
-use Rattle.store.proofs.writes.poll.Reads as reads
-use Rattle.store.proofs.writes.poll.Lts as lts
-use Rattle.chip.proofs.answer_number.Reads as answer-number-reads
-use Rattle.store.proofs.writes.poll_once.Reads as poll-once-reads
 
 abbrev Inv-loop : tie.InvT-loop
 Inv-loop array₀ security₀ allowance entry polls at₀ made₀ array security at made =
@@ -48,9 +45,11 @@ same-length-2 : tie.Need-same-length-2 Inv-loop μ-loop
 same-length-2 c = c .before .before .before .before .before .before .before .before .poll-once .kept .1 .1 .0 ∙ c .before .before .before .before .before .before .before .before .before .before .before .before .before .loop .inv .2
 
 returns : tie.Need-returns Inv-loop μ-loop
-returns c = let l = c .before .before .before .before .before .before .before .before .before .before .before .before .before .loop in let a = c .before .before .before .before .before .before .before .before .before .before .before .before .before .before .before .before .args in
-    (poll-refused (benchOf (l .at) (l .array) (l .security)) (a .allowance) (l .made) (a .entry) (a .polls) (omega (arith, c .before .before .before .before .before .before .before .before .before .before .before .before .loop-test .taken)) (c .before .before .before .before .before .before .before .before .before .before .before .arrives-next .ensures) (c .before .before .before .before .before .before .before .before .poll-once .ensures) (c .answer-number .ensures) (refused-some _ _ (c .before .enum-told2 .given .1))
-    ∙ l .inv .3, omega arith)
+returns c = let l = c .before .before .before .before .before .before .before .before .before .before .before .before .before .loop in let a = c .before .before .before .before .before .before .before .before .before .before .before .before .before .before .before .before .args in (
+  poll-refused (benchOf (l .at) (l .array) (l .security)) (a .allowance) (l .made) (a .entry) (a .polls) (omega (arith, c .before .before .before .before .before .before .before .before .before .before .before .before .loop-test .taken)) (c .before .before .before .before .before .before .before .before .before .before .before .arrives-next .ensures) (c .before .before .before .before .before .before .before .before .poll-once .ensures) (c .answer-number .ensures) (refused-some _ _ (c .before .enum-told2 .given .1))
+      ∙ l .inv .3,
+  omega arith,
+)
 
 add-t18 : tie.Need-add-t18 Inv-loop μ-loop
 add-t18 c = search needs
@@ -62,18 +61,23 @@ same-length-4 : tie.Need-same-length-4 Inv-loop μ-loop
 same-length-4 c = c .before .before .before .before .before .before .before .before .before .poll-once .kept .1 .1 .0 ∙ c .before .before .before .before .before .before .before .before .before .before .before .before .before .before .loop .inv .2
 
 returns-2 : tie.Need-returns-2 Inv-loop μ-loop
-returns-2 c = let l = c .before .before .before .before .before .before .before .before .before .before .before .before .before .before .loop in let a = c .before .before .before .before .before .before .before .before .before .before .before .before .before .before .before .before .before .args in
-    (poll-ended (benchOf (l .at) (l .array) (l .security)) (a .allowance) (l .made) (a .entry) (a .polls) (omega (arith, c .before .before .before .before .before .before .before .before .before .before .before .before .before .loop-test .taken)) (c .before .before .before .before .before .before .before .before .before .before .before .before .arrives-next .ensures) (c .before .before .before .before .before .before .before .before .before .poll-once .ensures) (done-none _ (c .before .before .enum-told .given .1)) (not-true _ (c .if1 .taken))
-    ∙ l .inv .3, omega (arith, c .before .before .before .before .before .before .before .before .before .before .before .before .before .loop-test .taken))
+returns-2 c = let l = c .before .before .before .before .before .before .before .before .before .before .before .before .before .before .loop in let a = c .before .before .before .before .before .before .before .before .before .before .before .before .before .before .before .before .before .args in (
+  poll-ended (benchOf (l .at) (l .array) (l .security)) (a .allowance) (l .made) (a .entry) (a .polls) (omega (arith, c .before .before .before .before .before .before .before .before .before .before .before .before .before .loop-test .taken)) (c .before .before .before .before .before .before .before .before .before .before .before .before .arrives-next .ensures) (c .before .before .before .before .before .before .before .before .before .poll-once .ensures) (done-none _ (c .before .before .enum-told .given .1)) (not-true _ (c .if1 .taken))
+      ∙ l .inv .3,
+  omega (arith, c .before .before .before .before .before .before .before .before .before .before .before .before .before .loop-test .taken),
+)
 
 loop-less : tie.Need-loop-less Inv-loop μ-loop
 loop-less c = search needs
 
 loop-again : tie.Need-loop-again Inv-loop μ-loop
-loop-again c = let l = c .before .before .before .before .before .before .before .before .before .before .before .before .before .before .loop in let a = c .before .before .before .before .before .before .before .before .before .before .before .before .before .before .before .before .before .args in
-    (omega (arith, c .before .before .before .before .before .before .before .before .before .before .before .before .before .loop-test .taken), c .before .before .before .before .before .before .before .before .before .poll-once .kept .1 .0 ∙ c .before .before .before .before .before .before .before .before .before .before .before .before .before .before .loop .inv .1, c .before .before .before .before .before .before .before .before .before .poll-once .kept .1 .1 .0 ∙ c .before .before .before .before .before .before .before .before .before .before .before .before .before .before .loop .inv .2,
-    poll-again (benchOf (l .at) (l .array) (l .security)) (a .allowance) (l .made) (a .entry) (a .polls) (omega (arith, c .before .before .before .before .before .before .before .before .before .before .before .before .before .loop-test .taken)) (c .before .before .before .before .before .before .before .before .before .before .before .before .arrives-next .ensures) (c .before .before .before .before .before .before .before .before .before .poll-once .ensures) (done-none _ (c .before .before .enum-told .given .1)) (not-false _ (c .if1 .left))
-    ∙ l .inv .3)
+loop-again c = let l = c .before .before .before .before .before .before .before .before .before .before .before .before .before .before .loop in let a = c .before .before .before .before .before .before .before .before .before .before .before .before .before .before .before .before .before .args in (
+  omega (arith, c .before .before .before .before .before .before .before .before .before .before .before .before .before .loop-test .taken),
+  c .before .before .before .before .before .before .before .before .before .poll-once .kept .1 .0 ∙ c .before .before .before .before .before .before .before .before .before .before .before .before .before .before .loop .inv .1,
+  c .before .before .before .before .before .before .before .before .before .poll-once .kept .1 .1 .0 ∙ c .before .before .before .before .before .before .before .before .before .before .before .before .before .before .loop .inv .2,
+  poll-again (benchOf (l .at) (l .array) (l .security)) (a .allowance) (l .made) (a .entry) (a .polls) (omega (arith, c .before .before .before .before .before .before .before .before .before .before .before .before .before .loop-test .taken)) (c .before .before .before .before .before .before .before .before .before .before .before .before .arrives-next .ensures) (c .before .before .before .before .before .before .before .before .before .poll-once .ensures) (done-none _ (c .before .before .enum-told .given .1)) (not-false _ (c .if1 .left))
+      ∙ l .inv .3,
+)
 
 same-length-5 : tie.Need-same-length-5 Inv-loop μ-loop
 same-length-5 c = c .before .before .loop .inv .1
@@ -82,9 +86,10 @@ same-length-6 : tie.Need-same-length-6 Inv-loop μ-loop
 same-length-6 c = c .before .before .loop .inv .2
 
 returns-3 : tie.Need-returns-3 Inv-loop μ-loop
-returns-3 c = let l = c .before .before .loop in let a = c .before .before .before .before .before .args in let s = stateOf (benchOf (l .at) (l .array) (l .security)) in
-    (ap (λ (x : ℕ). endedOf 18 x s) (c .used-up .ensures) ∙ polls-over s (a .allowance) (l .made) (a .entry) (a .polls) (omega (arith, c .before .loop-test .left)) ∙ l .inv .3,
-    omega (arith, c .used-up .ensures, l .inv .0))
+returns-3 c = let l = c .before .before .loop in let a = c .before .before .before .before .before .args in let s = stateOf (benchOf (l .at) (l .array) (l .security)) in (
+  ap (λ (x : ℕ). endedOf 18 x s) (c .used-up .ensures) ∙ polls-over s (a .allowance) (l .made) (a .entry) (a .polls) (omega (arith, c .before .loop-test .left)) ∙ l .inv .3,
+  omega (arith, c .used-up .ensures, l .inv .0),
+)
 
 arrives-next-requires : tie.Need-arrives-next-requires Inv-loop μ-loop
 arrives-next-requires c κs = omega (arith, c .loop-test .taken, c .before .before .before .before .pre .0)
