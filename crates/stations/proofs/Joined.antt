@@ -36,10 +36,10 @@ moment-passes s t n bytes (late ready size low k) =
     go : (t .chip .rest .works .running ≡ Nothing) ⊎ ((k .writes < length (storeFrames s n bytes)) × Runs (getD (storeFrames s n bytes) (k .writes) []) t)
         → (t .chip .rest .works .running ≡ Nothing) ⊎ OnFrame s n bytes (k .writes) t
     go (inl i) = inl i
-    go (inr r) = inr (record { room = low; more = r .0; runs = r .1 .running; buffer = r .1 .buffer })
+    go (inr r) = inr (record { room = low; long = size; more = r .0; runs = r .1 .running; buffer = r .1 .buffer })
 
 store-passes : StorePasses
-store-passes s t reply marks n bytes allowance list size m = moment-passes s t n bytes (store-moments s reply marks n bytes allowance list t m)
+store-passes s t reply marks n bytes allowance list m = moment-passes s t n bytes (store-moments s reply marks n bytes allowance list t m)
 
 -- ---- the theorems
 

@@ -4,6 +4,7 @@ pub mod Sequel
 pub mod First
 pub mod Same
 pub mod Midway
+pub mod Own
 pub mod Lookups
 pub mod Programmed
 pub mod Shown

@@ -2,11 +2,11 @@
 use Prim.Native.Nat.{ℕ, zero, suc, _+_, _-_, _≤_, _<_}
 use mathlib.Core.Path.{_≡_, refl, sym, ap, _∙_}
 use mathlib.Core.Bool.{Bool, true, false, _&&_}
-use mathlib.Core.List.{List, [], _∷_}
+use mathlib.Core.List.{[], _∷_}
 use native.Mathlib.Omega.{arith}
 use native.Mathlib.Decide.{ℕ-discrete}
 use Rattle.rules.specs.Words.{pick}
-use Rattle.stations.specs.Slots.{Shown, allBelow, firstFrom, thoseFrom, byteOf, bytesOf}
+use Rattle.stations.specs.Slots.{allBelow, firstFrom, thoseFrom}
 
 and-false : (a : Bool) → (a && false) ≡ false
 and-false true = refl

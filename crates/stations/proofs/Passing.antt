@@ -62,6 +62,7 @@ StoreDone =
 -- frame q runs
 pub record OnFrame (s : State) (n : ℕ) (bytes : List ℕ) (q : ℕ) (t : State) : Type 0 where
   pub room : freeSlot (shownAt s) < slotCount
+  pub long : length bytes ≡ dataSize
   pub more : q < length (framesOf s n bytes)
   pub runs : running t ≡ ProgramPage (address (getD (framesOf s n bytes) q []) / 256)
   pub buffer : t .chip .buffer ≡ pageBuffer (getD (framesOf s n bytes) q [])
@@ -74,7 +75,7 @@ pub record Passes (s : State) (n : ℕ) (bytes : List ℕ) (t : State) : Type 0 
 
 abbrev pub StorePasses : Type 0
 StorePasses =
-    (s t : State) (reply marks : Lent) (n : ℕ) (bytes : List ℕ) (allowance : ℕ) (list : List ℕ) → length bytes ≡ dataSize
+    (s t : State) (reply marks : Lent) (n : ℕ) (bytes : List ℕ) (allowance : ℕ) (list : List ℕ)
     → Among t (moments s (storeCall reply marks n bytes allowance list)) → Passes s n bytes t
 
 -- ---- the list then

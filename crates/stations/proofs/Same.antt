@@ -138,14 +138,18 @@ pub found-none : (v : Shown) (n : ℕ) → slotCount ≤ slotOf v n → found v 
 unfolding found
 found-none v n h = rw (le-ltb (slotOf v n) slotCount h)
 
--- the same slots are live of the number, with the same data
+-- the same slots are live of the number
+pub slot-same : (v w : Shown) (n : ℕ) → ((i : ℕ) → i < slotCount → liveOf w n i ≡ liveOf v n i) → slotOf w n ≡ slotOf v n
+unfolding slotOf
+slot-same v w n h = first-same (liveOf w n) (liveOf v n) 0 slotCount (λ i a b. h i b)
+
+-- with the same data
 pub found-same : (v w : Shown) (n : ℕ) → ((i : ℕ) → i < slotCount → liveOf w n i ≡ liveOf v n i) → ((i : ℕ) → i < slotCount → liveOf v n i ≡ true → SameFrom 2 v w i)
     → found w n ≡ found v n
-unfolding slotOf
 found-same v w n h same = go (ltb (slotOf v n) slotCount) refl
   where
     slots : slotOf w n ≡ slotOf v n
-    slots = first-same (liveOf w n) (liveOf v n) 0 slotCount (λ i a b. h i b)
+    slots = slot-same v w n h
 
     go : (b : Bool) → ltb (slotOf v n) slotCount ≡ b → found w n ≡ found v n
     go true e =
@@ -158,6 +162,9 @@ found-same v w n h same = go (ltb (slotOf v n) slotCount) refl
 pub alike-slot : (v w : Shown) → ((p : ℕ) → p < 65536 → v p ≡ w p) → (i : ℕ) → i < slotCount → SameFrom 0 v w i
 unfolding SameFrom
 alike-slot v w h i l j a b = h (i * 32 + j) (omega arith)
+
+pub alike-slot-of : (v w : Shown) (n : ℕ) → ((p : ℕ) → p < 65536 → v p ≡ w p) → slotOf w n ≡ slotOf v n
+alike-slot-of v w n h = slot-same v w n (λ i l. sym (same-live-of v w n i (alike-slot v w h i l)))
 
 pub alike-found : (v w : Shown) (n : ℕ) → ((p : ℕ) → p < 65536 → v p ≡ w p) → found w n ≡ found v n
 alike-found v w n h =

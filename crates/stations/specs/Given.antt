@@ -12,7 +12,7 @@ use Rattle.rules.specs.Registers.{busy, wsp}
 use Rattle.rules.specs.Numbers.{State, stateRight}
 use Rattle.rules.specs.Machine.{completion, left, step}
 use Rattle.stations.specs.Slots.{Shown, slotCount, thoseFrom, liveOf, slotOf, freeSlot}
-use Rattle.stations.specs.Calls.{Script, ends, endedOf, played, polling, reading, shownBy, storeRight, lookupRight, storeCall, lookupCall}
+use Rattle.stations.specs.Calls.{Script, endedOf, played, polling, reading, shownBy, storeRight, lookupRight, storeCall, lookupCall}
 
 -- ---- polls: "the place of the first poll that reads BUSY 0, or the allowance"
 
