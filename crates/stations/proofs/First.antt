@@ -140,6 +140,16 @@ those-same t u i zero h = refl
 those-same t u i (suc n) h =
     ap₂ (λ (b : Bool) (l : List ℕ). pick b (i ∷ l) l) (h i (omega arith) (omega arith)) (those-same t u (suc i) n (λ y a b. h y (omega arith) (omega arith)))
 
+pub those-hit : (t : ℕ → Bool) (i n : ℕ) → t i ≡ true → thoseFrom t i (suc n) ≡ i ∷ thoseFrom t (suc i) n
+unfolding thoseFrom
+those-hit t i n e = ap (λ (b : Bool). pick b (i ∷ thoseFrom t (suc i) n) (thoseFrom t (suc i) n)) e
+
+pub those-none : (t : ℕ → Bool) (i n : ℕ) → ((y : ℕ) → i ≤ y → y < i + n → t y ≡ false) → thoseFrom t i n ≡ []
+unfolding thoseFrom
+those-none t i zero h = refl
+those-none t i (suc n) h =
+    ap₂ (λ (b : Bool) (l : List ℕ). pick b (i ∷ l) l) (h i (omega arith) (omega arith)) (those-none t (suc i) n (λ y a b. h y (omega arith) (omega arith)))
+
 -- ---- membership by places
 
 pub one-of-place : (x : ℕ) (l : List ℕ) (d : ℕ) → oneOf x l ≡ true → Place l d x

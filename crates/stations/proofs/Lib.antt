@@ -11,6 +11,7 @@ pub mod Shown
 pub mod Clears
 pub mod Stored
 pub mod Torn
+pub mod Stale
 pub mod Passing
 pub mod Keeping
 pub mod Cuts
