@@ -1,24 +1,29 @@
 -- The store's theorems: where the machine ends and what it passes through, handed to the laws of the list. Assumes nothing.
 use Prim.Native.Nat.{ℕ, _<_}
-use mathlib.Core.Path.{_≡_, refl, sym, _∙_}
+use mathlib.Core.Path.{_≡_, refl, sym, ap, _∙_}
 use mathlib.Core.List.{List, []}
 use mathlib.Core.Logic.{_⊎_, inl, inr}
 use lib.ListN.{length, getD}
 use Rattle.rules.specs.declared.Work.the-variants.{Nothing}
+use Rattle.rules.specs.declared.Rest.{Rest}
 use Rattle.rules.specs.Numbers.{State}
 use Rattle.stations.specs.Keeping.{StoreLeaves, StoreKeeps, StoreRefused, StoreCut, StoreStays, CutStays}
+use Rattle.stations.specs.Records.{SameRecord, storeFrames}
 use Rattle.stations.proofs.Passing.{StoreEnds, StoreDone, OnFrame, Passes, StorePasses}
 use Rattle.stations.proofs.Keeping as keeping
 use Rattle.stations.proofs.Cuts as cuts
 use Rattle.stations.proofs.Writes.{Runs}
-use Rattle.stations.proofs.Given.{storeFrames, held, store-came, Moment, early, late, store-moments}
+use Rattle.stations.proofs.Given.{held, store-came, Moment, early, late, store-moments}
 
 -- ---- what the machine gives
+
+same-waits : (s t : State) → SameRecord s t → t .chip .rest .works .suspended ≡ s .chip .rest .works .suspended
+same-waits s t k = ap (λ (r : Rest). r .works .suspended) (k .rest)
 
 store-ends : StoreEnds
 store-ends s reply marks n bytes allowance list =
     let k = store-came s reply marks n bytes allowance list in
-    record { array = k .array; security = k .same .security; waits = k .same .suspended; room = k .room }
+    record { array = k .array; security = k .same .security; waits = same-waits s _ (k .same); room = k .room }
 
 store-done : StoreDone
 store-done s reply marks n bytes allowance list e = let k = store-came s reply marks n bytes allowance list in k .done (sym (k .number) ∙ e)
@@ -31,7 +36,7 @@ moment-passes s t n bytes (early e) =
       work = inl (held (λ (u : State). u .chip .rest .works .running) s t refl e);
     }
 moment-passes s t n bytes (late ready size low k) =
-    record { writes = k .writes; written = record { array = k .array; security = k .kept .same .security; waits = k .kept .same .suspended; room = inr (low, size) }; work = inr (go (k .doing)) }
+    record { writes = k .writes; written = record { array = k .array; security = k .kept .same .security; waits = same-waits s t (k .kept .same); room = inr (low, size) }; work = inr (go (k .doing)) }
   where
     go : (t .chip .rest .works .running ≡ Nothing) ⊎ ((k .writes < length (storeFrames s n bytes)) × Runs (getD (storeFrames s n bytes) (k .writes) []) t)
         → (t .chip .rest .works .running ≡ Nothing) ⊎ OnFrame s n bytes (k .writes) t

@@ -25,3 +25,4 @@ pub mod Outcomes
 pub mod Targets
 pub mod Given
 pub mod Joined
+pub mod Records

@@ -5,3 +5,4 @@ pub mod Calls
 pub mod Promises
 pub mod Given
 pub mod Keeping
+pub mod Records
