@@ -15,7 +15,6 @@ pub mod Stale
 pub mod Passing
 pub mod Keeping
 pub mod Cuts
-pub mod Done
 pub mod Events
 pub mod Frames
 pub mod Reading
