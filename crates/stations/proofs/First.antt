@@ -59,6 +59,13 @@ first-some t n x h e = go (firstFrom t 0 n) (first-is t 0 n) (ltb (firstFrom t 0
     go f r true p = ltb-true f n p
     go f r false p = let k = ltb-false f n p in absurd (true≢false (sym e ∙ r .below x (omega arith) (omega arith)))
 
+pub first-none : (t : ℕ → Bool) (i n : ℕ) → ((y : ℕ) → i ≤ y → y < i + n → t y ≡ false) → firstFrom t i n ≡ i + n
+first-none t i n none = go (firstFrom t i n) (first-is t i n) (ltb (firstFrom t i n) (i + n)) refl
+  where
+    go : (f : ℕ) → FirstIs t i n f → (a : Bool) → ltb f (i + n) ≡ a → f ≡ i + n
+    go f r true p = let l = ltb-true f (i + n) p in absurd (true≢false (sym (r .hit l) ∙ none f (r .from) l))
+    go f r false p = let l = ltb-false f (i + n) p in let h = r .to in omega arith
+
 pub first-same : (t u : ℕ → Bool) (i n : ℕ) → ((y : ℕ) → i ≤ y → y < i + n → t y ≡ u y) → firstFrom t i n ≡ firstFrom u i n
 unfolding firstFrom
 first-same t u i zero h = refl
@@ -143,6 +150,10 @@ those-same t u i (suc n) h =
 pub those-hit : (t : ℕ → Bool) (i n : ℕ) → t i ≡ true → thoseFrom t i (suc n) ≡ i ∷ thoseFrom t (suc i) n
 unfolding thoseFrom
 those-hit t i n e = ap (λ (b : Bool). pick b (i ∷ thoseFrom t (suc i) n) (thoseFrom t (suc i) n)) e
+
+pub those-miss : (t : ℕ → Bool) (i n : ℕ) → t i ≡ false → thoseFrom t i (suc n) ≡ thoseFrom t (suc i) n
+unfolding thoseFrom
+those-miss t i n e = ap (λ (b : Bool). pick b (i ∷ thoseFrom t (suc i) n) (thoseFrom t (suc i) n)) e
 
 pub those-none : (t : ℕ → Bool) (i n : ℕ) → ((y : ℕ) → i ≤ y → y < i + n → t y ≡ false) → thoseFrom t i n ≡ []
 unfolding thoseFrom

@@ -11,7 +11,7 @@ pub mod Shown
 pub mod Clears
 pub mod Stored
 pub mod Torn
-pub mod Stale
+pub mod Worked
 pub mod Passing
 pub mod Keeping
 pub mod Cuts
@@ -25,3 +25,4 @@ pub mod Targets
 pub mod Given
 pub mod Joined
 pub mod Records
+pub mod Cases

@@ -2,10 +2,10 @@
 use Prim.Native.Nat.{ℕ, _+_, _-_, _/_, _%_, _≤_, _<_}
 use mathlib.Core.Path.{_≡_}
 use mathlib.Core.Bool.{Bool, true, false, _&&_, _||_}
-use mathlib.Core.List.{List, [], _∷_, _++_}
+use mathlib.Core.List.{List, [], _∷_}
 use mathlib.Core.Logic.{_⊎_}
 use lib.Dec.{eqb, ltb, leb}
-use lib.ListN.{length, getD, take, replicate}
+use lib.ListN.{length, getD, take}
 use Rattle.rules.specs.declared.Work.the-variants.{Nothing}
 use Rattle.rules.specs.Words.{pick, oneOf, range, holds, Lent, Each}
 use Rattle.rules.specs.Works.{arrayRange, tearOf}
@@ -13,7 +13,7 @@ use Rattle.rules.specs.Reading.{known, unknown, placeCell}
 use Rattle.rules.specs.Numbers.{State}
 use Rattle.rules.specs.Machine.{Event, completes, step, left, powerCut}
 use Rattle.rules.specs.Tears.{OfBytes}
-use Rattle.stations.specs.Slots.{Shown, shownFrom, slotSize, slotCount, dataSize, thoseFrom, liveOf, slotOf, bytesOf, found, freeSlot}
+use Rattle.stations.specs.Slots.{Shown, slotSize, slotCount, dataSize, thoseFrom, liveOf, slotOf, bytesOf, found, freeSlot}
 use Rattle.stations.specs.Plans.{programAt}
 use Rattle.stations.specs.Calls.{Script, played, moments, made, short, reading, listSize, storeCall, lookupCall}
 use Rattle.stations.specs.Given.{storeAccount}
@@ -115,24 +115,6 @@ StoreCut =
     (s t : State) (reply marks : Lent) (n : ℕ) (bytes : List ℕ) (allowance : ℕ) (list : List ℕ) (k m : ℕ) → Storable n bytes → AtRest s
     → Among t (moments s (storeCall reply marks n bytes allowance list))
     → CutKeeps s (left (powerCut t (tearOf k m))) n bytes
-
--- with two live slots it need not be old or new: "lowest first" clears the record that lookup gave before the stale one above it, which then shows
-pub record Stale (v : Shown) (n : ℕ) (bytes : List ℕ) (w : ℕ) : Type 0 where
-  pub storable : Storable n bytes
-  pub long : length bytes ≡ dataSize
-  pub room : freeSlot v < slotCount
-  pub lives : thoseFrom (liveOf v n) 0 slotCount ≡ 0 ∷ 1 ∷ []
-  pub old : found v n ≡ bytesOf v 0 4 dataSize
-  pub shows : found (afterWrites v n bytes w) n ≡ bytesOf v 1 4 dataSize
-  pub not-old : found (afterWrites v n bytes w) n ≡ found v n → ⊥
-  pub not-new : found (afterWrites v n bytes w) n ≡ bytes → ⊥
-
--- station 7 with data 01 .. in slot 0 and 02 .. in slot 1, all else empty; 03 .. is stored, and three of its four writes are completed
-abbrev pub sevenWith : ℕ → List ℕ
-sevenWith b = 0x53 ∷ 0x54 ∷ 0x00 ∷ 0x07 ∷ replicate dataSize b
-
-abbrev pub StaleShows : Type 0
-StaleShows = Stale (shownFrom (sevenWith 0x01 ++ sevenWith 0x02)) 7 (replicate dataSize 0x03) 3
 
 -- ---- "The store never writes outside 010000 to 01FFFF, and never more than the slots it names": the first empty one and the live ones of the number
 

@@ -6,3 +6,5 @@ pub mod Promises
 pub mod Given
 pub mod Keeping
 pub mod Records
+pub mod Worked
+pub mod Cases
