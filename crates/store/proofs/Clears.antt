@@ -4,17 +4,17 @@ use mathlib.Core.Path.{_≡_, refl, sym, ap, _∙_}
 use mathlib.Core.Bool.{Bool, true, false}
 use mathlib.Core.List.{List, [], _∷_}
 use native.Mathlib.Omega.{arith}
-use lib.Dec.{eqb}
+use lib.Dec.{eqb, ltb}
 use lib.ListN.{getD}
-use borrow.Author.Tests.{eq-eqb, ne-eqb}
+use borrow.Author.Tests.{eq-eqb, ne-eqb, lt-ltb, le-ltb}
 use Rattle.rules.specs.Words.{pick}
 use Rattle.rules.specs.Numbers.{State}
 use Rattle.rules.specs.Promises.{benchOf, stateOf}
 use Rattle.stations.specs.declared.StoreRecord.{StoreRecord}
-use Rattle.stations.specs.Slots.{thoseFrom}
+use Rattle.stations.specs.Slots.{firstFrom, thoseFrom}
 use Rattle.stations.specs.Plans.{markFrame, clearings}
 use Rattle.stations.specs.Calls.{Script, ends, Ended, endedOf, played, write, writes}
-use Rattle.stations.proofs.Next.{those-next, those-end}
+use Rattle.stations.proofs.Next.{those-first}
 use Rattle.stations.proofs.Sequel.{continued, write-then}
 use Rattle.store.specs.Steps.{leaves}
 
@@ -49,21 +49,20 @@ module _ (s : State) (a e n : ℕ) (list : List ℕ) (j : ℕ) (f : List ℕ) (f
   goes-on-from h =
       sym (then ∙ ap (λ (b : Bool). pick b (played (leaves r array security .state) (rest (r .polls))) (leaves r array security)) (eq-eqb (r .number) 0 h))
 
--- ---- the clears, from slot i on
+-- ---- the clears, from slot i on: it is the first of them, or 2,048
 
-abbrev pub clearsFrom : (ℕ → Bool) → ℕ → List (List ℕ)
-clearsFrom t i = clearings (thoseFrom t i (2048 - i))
+abbrev pub clearsAt : (ℕ → Bool) → ℕ → List (List ℕ)
+clearsAt t i = clearings (pick (ltb i 2048) (i ∷ thoseFrom t (i + 1) (2048 - (i + 1))) [])
 
-module _ (t : ℕ → Bool) (i : ℕ) where
-  pub clears-hit : i < 2048 → t i ≡ true → clearsFrom t i ≡ markFrame i 0x00 0x00 ∷ clearsFrom t (i + 1)
-  unfolding clearings
-  clears-hit h e =
-      ap clearings (those-next t 2048 i h ∙ ap (λ (b : Bool). pick b (i ∷ thoseFrom t (i + 1) (2048 - (i + 1))) (thoseFrom t (i + 1) (2048 - (i + 1)))) e)
+-- as the first live slot from i on is found
+pub clears-first : (t : ℕ → Bool) (i r : ℕ) → i ≤ 2048 → r ≡ firstFrom t i (2048 - i) → clearings (thoseFrom t i (2048 - i)) ≡ clearsAt t r
+clears-first t i r h e = ap clearings (those-first t 2048 i h) ∙ ap (clearsAt t) (sym e)
 
-  pub clears-miss : i < 2048 → t i ≡ false → clearsFrom t i ≡ clearsFrom t (i + 1)
-  clears-miss h e =
-      ap clearings (those-next t 2048 i h ∙ ap (λ (b : Bool). pick b (i ∷ thoseFrom t (i + 1) (2048 - (i + 1))) (thoseFrom t (i + 1) (2048 - (i + 1)))) e)
+pub clears-here : (t : ℕ → Bool) (i : ℕ) → i < 2048 → clearsAt t i ≡ markFrame i 0x00 0x00 ∷ clearings (thoseFrom t (i + 1) (2048 - (i + 1)))
+unfolding clearings
+clears-here t i h = ap (λ (b : Bool). clearings (pick b (i ∷ thoseFrom t (i + 1) (2048 - (i + 1))) [])) (lt-ltb i 2048 h)
 
-  pub clears-end : 2048 ≤ i → (s : State) (a : ℕ) (list : List ℕ) (j n : ℕ) → endedOf 0 n s ≡ played s (writes a list j (clearsFrom t i) n)
-  unfolding clearings writes played
-  clears-end h s a list j n = sym (ap (λ (fs : List (List ℕ)). played s (writes a list j fs n)) (ap clearings (those-end t 2048 i h)))
+pub clears-end : (t : ℕ → Bool) (i : ℕ) → 2048 ≤ i → (s : State) (a : ℕ) (list : List ℕ) (j n : ℕ) → endedOf 0 n s ≡ played s (writes a list j (clearsAt t i) n)
+unfolding clearings writes played
+clears-end t i h s a list j n =
+    sym (ap (λ (b : Bool). played s (writes a list j (clearings (pick b (i ∷ thoseFrom t (i + 1) (2048 - (i + 1))) [])) n)) (le-ltb i 2048 h))

@@ -1,3 +1,4 @@
 -- Laws of the steps of a call.
 pub mod Steps
 pub mod Clears
+pub mod Calls

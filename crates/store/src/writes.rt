@@ -190,7 +190,14 @@ fn put_record(frame: &mut [u8; 34], i: usize, station: u16, data: &[u8])
 {
     let p = i * 32 + 2;
     let n = station as usize;
-    let head = [0x02, 0x01, byte_of(p / 256), byte_of(p), byte_of(n / 256), byte_of(n)];
+    let head = [
+        0x02,
+        0x01,
+        byte_of(p / 256),
+        byte_of(p),
+        byte_of(n / 256),
+        byte_of(n),
+    ];
     memory::copy(frame, 0, 6, &head, 0);
     memory::copy(frame, 6, 28, data, 0);
 }
@@ -231,16 +238,23 @@ pub fn clear_others(
 {
     let mut at = s;
     let mut turn: usize = 2;
-    let mut i: usize = 0;
+    let mut i = slots::live_from(reply, marks, station, 0);
     while i < 2048 {
-        if slots::is_live_of(reply, marks, station, i) {
-            at = write_mark(at, array, security, i, 0x00, 0x00, allowance, entry_of(list, turn));
-            if at.number != 0 {
-                return at;
-            }
-            turn += 1;
+        at = write_mark(
+            at,
+            array,
+            security,
+            i,
+            0x00,
+            0x00,
+            allowance,
+            entry_of(list, turn),
+        );
+        if at.number != 0 {
+            return at;
         }
-        i += 1;
+        turn += 1;
+        i = slots::live_from(reply, marks, station, i + 1);
     }
     at
 }
@@ -266,13 +280,40 @@ pub fn write_all(
         number: 0,
         polls: 0,
     };
-    let recorded = write_record(s, array, security, i, station, data, allowance, entry_of(list, 0));
+    let recorded = write_record(
+        s,
+        array,
+        security,
+        i,
+        station,
+        data,
+        allowance,
+        entry_of(list, 0),
+    );
     if recorded.number != 0 {
         return recorded;
     }
-    let marked = write_mark(recorded, array, security, i, 0x53, 0x54, allowance, entry_of(list, 1));
+    let marked = write_mark(
+        recorded,
+        array,
+        security,
+        i,
+        0x53,
+        0x54,
+        allowance,
+        entry_of(list, 1),
+    );
     if marked.number != 0 {
         return marked;
     }
-    clear_others(marked, array, security, reply, marks, station, allowance, list)
+    clear_others(
+        marked,
+        array,
+        security,
+        reply,
+        marks,
+        station,
+        allowance,
+        list,
+    )
 }
