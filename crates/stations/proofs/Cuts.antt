@@ -4,7 +4,6 @@ use mathlib.Core.Path.{_≡_, refl, sym, ap, ap₂, _∙_}
 use mathlib.Core.Bool.{Bool, true, false}
 use mathlib.Core.List.{List, []}
 use mathlib.Core.Logic.{_⊎_, inl, inr}
-use native.Mathlib.Omega.{arith}
 use lib.Dec.{eqb}
 use lib.ListN.{getD, take}
 use Rattle.rules.specs.declared.Range.{Range}
@@ -19,22 +18,19 @@ use Rattle.rules.specs.Fields.{chipOf}
 use Rattle.rules.specs.Commands.{settledFirst, afterCut}
 use Rattle.rules.specs.Numbers.{State, first, cutTests}
 use Rattle.rules.specs.Machine.{workedArray, workedSecurity, cutChip, powerCut, left}
-use Rattle.rules.proofs.Blocks.{holds-at}
-use Rattle.rules.proofs.TornBytes.{finish-same}
 use Rattle.stations.specs.Slots.{Shown, found}
 use Rattle.stations.specs.Keeping.{shownAt, Storable, AtRest, OneOfItsOwn, CutKeeps, StoreCut, Stays, CutStays}
+use Rattle.stations.specs.Records.{storeFrames}
 use Rattle.stations.proofs.Same.{alike-found}
 use Rattle.stations.proofs.Programmed.{stoppedBy, programmedAll}
 use Rattle.stations.proofs.Shown.{listOf}
+use Rattle.stations.proofs.Frames.{finish-nowhere}
 use Rattle.stations.proofs.Torn.{torn-stays, torn-others, torn-own}
-use Rattle.stations.proofs.Passing.{suspended, running, framesOf, Written, OnFrame, Passes, StorePasses, shown-as, written-stays}
+use Rattle.stations.proofs.Passing.{suspended, running, Written, OnFrame, Passes, store-passes, shown-as, written-stays}
 use Rattle.stations.proofs.Keeping.{written-others, written-own}
 use Rattle.stations.proofs.Own.{own-alike, own-kept, own-either}
 
 -- ---- what a cut makes of a state
-
-finish-nowhere : (w : Work) (b : List ℕ) (t : Tear) (mem : Lent) → finish w nowhere b t mem ≡ mem
-finish-nowhere w b t mem = finish-same w nowhere b t mem (λ a h. let k = holds-at nowhere a h in absurd (omega arith))
 
 module _ (t : State) (tear : Tear) where
   abbrev after : State
@@ -78,7 +74,7 @@ module _ (s t : State) (n : ℕ) (bytes : List ℕ) (tear : Tear) (rest : AtRest
 
   -- the memory and the list where the frame under way is cut
   abbrev memory : Lent
-  memory = stoppedBy tear (getD (framesOf s n bytes) w []) (programmedAll (take w (framesOf s n bytes)) (s .array))
+  memory = stoppedBy tear (getD (storeFrames s n bytes) w []) (programmedAll (take w (storeFrames s n bytes)) (s .array))
 
   abbrev x : Shown
   x = listOf 0 (arrayRange (suspended s)) memory
@@ -109,7 +105,7 @@ module _ (s t : State) (n : ℕ) (bytes : List ℕ) (tear : Tear) (rest : AtRest
           from (inr y) =
               torn f
               (y ∙ ap (λ (w : Work). finish w (arrayRange w) (t .chip .buffer) tear (t .array)) (f .runs)
-              ∙ ap₂ (λ (b : List ℕ) (l : Lent). finish (ProgramPage (address (getD (framesOf s n bytes) w []) / 256)) (arrayRange (ProgramPage (address (getD (framesOf s n bytes) w []) / 256))) b tear l)
+              ∙ ap₂ (λ (b : List ℕ) (l : Lent). finish (ProgramPage (address (getD (storeFrames s n bytes) w []) / 256)) (arrayRange (ProgramPage (address (getD (storeFrames s n bytes) w []) / 256))) b tear l)
               (f .buffer) (g .written .array))
               (ap securityRange (f .runs))
 
@@ -168,13 +164,12 @@ module _ (s t : State) (n : ℕ) (bytes : List ℕ) (tear : Tear) (rest : AtRest
             security = cut-security t tear h ∙ g .written .security;
           }
 
--- ---- the joins
+-- ---- the theorems
 
-module _ (passes : StorePasses) where
-  pub store-cut : StoreCut
-  store-cut s t reply marks n bytes allowance list k m right rest among =
-      passing-keeps s t n bytes (tearOf k m) rest (passes s t reply marks n bytes allowance list among) right
+pub store-cut : StoreCut
+store-cut s t reply marks n bytes allowance list k m right rest among =
+    passing-keeps s t n bytes (tearOf k m) rest (store-passes s reply marks n bytes allowance list t among) right
 
-  pub cut-stays : CutStays
-  cut-stays s t reply marks n bytes allowance list k m rest among =
-      passing-stays s t n bytes (tearOf k m) rest (passes s t reply marks n bytes allowance list among)
+pub cut-stays : CutStays
+cut-stays s t reply marks n bytes allowance list k m rest among =
+    passing-stays s t n bytes (tearOf k m) rest (store-passes s reply marks n bytes allowance list t among)

@@ -132,15 +132,6 @@ those-rise t i (suc n) j k d a h = go (t i) j k a h (λ j k. those-rise t (suc i
     go true (suc j) (suc k) a h f = f j k (omega arith) (omega arith)
     go false j k a h f = f j k a h
 
-pub those-once : (t : ℕ → Bool) (i n j k d : ℕ) → j < length (thoseFrom t i n) → k < length (thoseFrom t i n)
-    → getD (thoseFrom t i n) j d ≡ getD (thoseFrom t i n) k d → j ≡ k
-those-once t i n j k d a b e = go (ltb j k) (ltb k j) refl refl
-  where
-    go : (x y : Bool) → ltb j k ≡ x → ltb k j ≡ y → j ≡ k
-    go true y p q = let h = those-rise t i n j k d (ltb-true j k p) b in absurd (omega arith)
-    go false true p q = let h = those-rise t i n k j d (ltb-true k j q) a in absurd (omega arith)
-    go false false p q = let h = ltb-false j k p in let l = ltb-false k j q in omega arith
-
 pub those-same : (t u : ℕ → Bool) (i n : ℕ) → ((y : ℕ) → i ≤ y → y < i + n → t y ≡ u y) → thoseFrom t i n ≡ thoseFrom u i n
 unfolding thoseFrom
 those-same t u i zero h = refl

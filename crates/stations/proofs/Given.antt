@@ -20,10 +20,10 @@ use Rattle.stations.specs.Plans.{refused, writing, markFrame, recordFram
 use Rattle.stations.specs.Calls.{ends, Ended, endedOf, played, writes, reading, shownBy, listSize, carriedOut, calling, buffersRight, storeRight, lookupRight, storeCall, lookupCall}
 use Rattle.stations.specs.Given.{completed, pollsFrom, Account, accountOf, at, writeCount, writesAccount, storeAccount, lookupNumber, LookupGiven, StoreGiven}
 use Rattle.stations.specs.Keeping.{shownAt}
-use Rattle.stations.specs.Records.{SameRecord, chipLeft, storeFrames}
+use Rattle.stations.specs.Records.{used, SameRecord, chipLeft, storeFrames}
 use Rattle.stations.proofs.Programmed.{programmedAll}
 use Rattle.stations.proofs.Torn.{frame-count}
-use Rattle.stations.proofs.Frames.{step-right, Ready, polled}
+use Rattle.stations.proofs.Frames.{step-right, Ready}
 use Rattle.stations.proofs.Reading.{read-ready, read-leaves, read-keeps, refused-chip, read-shows}
 use Rattle.stations.proofs.Polls.{Always, always-ends, always-does}
 use Rattle.stations.proofs.Writes.{Written}
@@ -52,17 +52,17 @@ lookup-given s reply marks n buffer = go (lookupRight reply marks buffer)
 -- ---- store
 
 -- the read leaves a chip that is ready as it was
-polled-ready : (s : State) (reply marks : Lent) → step s (reading reply marks) .number ≡ 0 → Ready (polled s)
+polled-ready : (s : State) (reply marks : Lent) → step s (reading reply marks) .number ≡ 0 → Ready (used s)
 polled-ready s reply marks e =
     let h = read-ready s reply marks e in
     record { right = subst (λ (t : State). stateRight t ≡ true) (read-leaves s reply marks e) (step-right s (reading reply marks) (h .right)); spi = h .spi; idle = h .idle }
 
 -- what the read holds on to, done or refused
-pub held : {A : Type 0} (g : State → A) (s t : State) → g (polled s) ≡ g s → (t ≡ s) ⊎ (t ≡ polled s) → g t ≡ g s
+pub held : {A : Type 0} (g : State → A) (s t : State) → g (used s) ≡ g s → (t ≡ s) ⊎ (t ≡ used s) → g t ≡ g s
 held g s t h (inl e) = ap g e
 held g s t h (inr e) = ap g e ∙ h
 
-pub early-same : (s t : State) → (t ≡ s) ⊎ (t ≡ polled s) → SameRecord s t
+pub early-same : (s t : State) → (t ≡ s) ⊎ (t ≡ used s) → SameRecord s t
 early-same s t (inl e) = subst (SameRecord s) (sym e) (record { rest = refl; security = refl })
 early-same s t (inr e) = subst (SameRecord s) (sym e) (record { rest = refl; security = refl })
 
@@ -107,13 +107,13 @@ all-made r c allowance list = go (wsp r) (writeLocked (r .locks .protection) 0x1
     go false false false e h = absurd (omega arith)
 
 -- writes leave the same chip, whether the enable was used up before them or not
-enabled-no-more : (s : State) (c allowance : ℕ) (list f : List ℕ) → let k = writesAccount (s .chip .rest) c allowance list .number in chipLeft (polled s .chip) k f ≡ chipLeft (s .chip) k f
+enabled-no-more : (s : State) (c allowance : ℕ) (list f : List ℕ) → let k = writesAccount (s .chip .rest) c allowance list .number in chipLeft (used s .chip) k f ≡ chipLeft (s .chip) k f
 enabled-no-more s c allowance list f = go (wsp (s .chip .rest)) (writeLocked (s .chip .rest .locks .protection) 0x10000) (eqb w c)
   where
     w : ℕ
     w = completed allowance list 0 c
 
-    go : (x y z : Bool) → let k = pick x (at 8) (pick y (at 11) (accountOf (pick z 0 18) (pollsFrom allowance list 0 c) w)) .number in chipLeft (polled s .chip) k f ≡ chipLeft (s .chip) k f
+    go : (x y z : Bool) → let k = pick x (at 8) (pick y (at 11) (accountOf (pick z 0 18) (pollsFrom allowance list 0 c) w)) .number in chipLeft (used s .chip) k f ≡ chipLeft (s .chip) k f
     go true y z = refl
     go false true z = refl
     go false false true = refl
@@ -124,7 +124,7 @@ module _ (s : State) (reply marks : Lent) (n : ℕ) (bytes : List ℕ) (allowanc
   o = step s (reading reply marks)
 
   -- it ends before its writes
-  stopped : (k : ℕ) (t : State) → (k ≡ 0 → ⊥) → (t ≡ s) ⊎ (t ≡ polled s) → t .chip ≡ chipLeft (s .chip) k (getD (storeFrames s n bytes) 0 []) → Stored s n bytes (at k) (endedOf k 0 t)
+  stopped : (k : ℕ) (t : State) → (k ≡ 0 → ⊥) → (t ≡ s) ⊎ (t ≡ used s) → t .chip ≡ chipLeft (s .chip) k (getD (storeFrames s n bytes) 0 []) → Stored s n bytes (at k) (endedOf k 0 t)
   stopped k t some e c =
       record {
         number = refl;
@@ -140,7 +140,7 @@ module _ (s : State) (reply marks : Lent) (n : ℕ) (bytes : List ℕ) (allowanc
   abbrev planned : Shown → Account
   planned v = pick (not (ltb (freeSlot v) slotCount)) (at 16) (writesAccount (s .chip .rest) (writeCount v n) allowance list)
 
-  carried : length bytes ≡ 28 → Ready (polled s) → Stored s n bytes (planned (shownAt s)) (played (polled s) (carriedOut allowance list (storing (shownAt s) n bytes)))
+  carried : length bytes ≡ 28 → Ready (used s) → Stored s n bytes (planned (shownAt s)) (played (used s) (carriedOut allowance list (storing (shownAt s) n bytes)))
   unfolding storing played
   carried size h = go (ltb (freeSlot (shownAt s)) slotCount) refl
     where
@@ -148,12 +148,12 @@ module _ (s : State) (reply marks : Lent) (n : ℕ) (bytes : List ℕ) (allowanc
       v = shownAt s
 
       go : (b : Bool) → ltb (freeSlot v) slotCount ≡ b
-          → Stored s n bytes (pick (not b) (at 16) (writesAccount (s .chip .rest) (writeCount v n) allowance list)) (played (polled s) (carriedOut allowance list (pick b (writing (storingAt v n bytes (freeSlot v))) (refused 16))))
-      go false e = stopped 16 (polled s) (λ z. omega arith) (inr refl) refl
+          → Stored s n bytes (pick (not b) (at 16) (writesAccount (s .chip .rest) (writeCount v n) allowance list)) (played (used s) (carriedOut allowance list (pick b (writing (storingAt v n bytes (freeSlot v))) (refused 16))))
+      go false e = stopped 16 (used s) (λ z. omega arith) (inr refl) refl
       go true e =
           let low = ltb-true (freeSlot v) slotCount e in
-          let k = writes-given (polled s) h (recordFrame (freeSlot v) n bytes) (markFrame (freeSlot v) 0x53 0x54 ∷ clearings (thoseFrom (liveOf v n) 0 slotCount)) allowance list (plan-reaches s n bytes size low) in
-          subst (λ (c : ℕ). Stored s n bytes (writesAccount (s .chip .rest) c allowance list) (played (polled s) (writes allowance list 0 (storeFrames s n bytes) 0))) (frame-count v n bytes (freeSlot v))
+          let k = writes-given (used s) h (recordFrame (freeSlot v) n bytes) (markFrame (freeSlot v) 0x53 0x54 ∷ clearings (thoseFrom (liveOf v n) 0 slotCount)) allowance list (plan-reaches s n bytes size low) in
+          subst (λ (c : ℕ). Stored s n bytes (writesAccount (s .chip .rest) c allowance list) (played (used s) (writes allowance list 0 (storeFrames s n bytes) 0))) (frame-count v n bytes (freeSlot v))
           (record {
             number = k .number;
             polls = k .polls;
@@ -189,11 +189,11 @@ store-given s reply marks n bytes allowance list = let k = store-came s reply ma
 -- ---- each moment of a store: before its first write the state at its start or the one that the read leaves, and then a moment of its writes
 
 pub data Moment (s : State) (n : ℕ) (bytes : List ℕ) (t : State) : Type 0 where
-  early : (t ≡ s) ⊎ (t ≡ polled s) → Moment s n bytes t
+  early : (t ≡ s) ⊎ (t ≡ used s) → Moment s n bytes t
   late : Ready s → length bytes ≡ 28 → freeSlot (shownAt s) < slotCount → Written s (storeFrames s n bytes) t → Moment s n bytes t
 
 -- the writes begin on the chip that the read leaves, which has the same memory and registers
-from-start : (s t : State) (fs : List (List ℕ)) → Written (polled s) fs t → Written s fs t
+from-start : (s t : State) (fs : List (List ℕ)) → Written (used s) fs t → Written s fs t
 from-start s t fs k =
     record {
       writes = k .writes;
@@ -204,20 +204,20 @@ from-start s t fs k =
     }
 
 module _ (s : State) (reply marks : Lent) (n : ℕ) (bytes : List ℕ) (allowance : ℕ) (list : List ℕ) where
-  always-carried : Ready s → length bytes ≡ 28 → Ready (polled s) → Always (Moment s n bytes) (polled s) (carriedOut allowance list (storing (shownAt s) n bytes))
+  always-carried : Ready s → length bytes ≡ 28 → Ready (used s) → Always (Moment s n bytes) (used s) (carriedOut allowance list (storing (shownAt s) n bytes))
   unfolding storing
   always-carried ready size h = go (ltb (freeSlot (shownAt s)) slotCount) refl
     where
       v : Shown
       v = shownAt s
 
-      go : (b : Bool) → ltb (freeSlot v) slotCount ≡ b → Always (Moment s n bytes) (polled s) (carriedOut allowance list (pick b (writing (storingAt v n bytes (freeSlot v))) (refused 16)))
-      go false e = always-ends (Moment s n bytes) (polled s) 16 0 (early (inr refl))
+      go : (b : Bool) → ltb (freeSlot v) slotCount ≡ b → Always (Moment s n bytes) (used s) (carriedOut allowance list (pick b (writing (storingAt v n bytes (freeSlot v))) (refused 16)))
+      go false e = always-ends (Moment s n bytes) (used s) 16 0 (early (inr refl))
       go true e = λ t m.
           let low = ltb-true (freeSlot v) slotCount e in
           late ready size low
           (from-start s t (storeFrames s n bytes)
-          (writes-moments (polled s) h (recordFrame (freeSlot v) n bytes) (markFrame (freeSlot v) 0x53 0x54 ∷ clearings (thoseFrom (liveOf v n) 0 slotCount)) allowance list (plan-reaches s n bytes size low) 0 0 t m))
+          (writes-moments (used s) h (recordFrame (freeSlot v) n bytes) (markFrame (freeSlot v) 0x53 0x54 ∷ clearings (thoseFrom (liveOf v n) 0 slotCount)) allowance list (plan-reaches s n bytes size low) 0 0 t m))
 
   pub store-moments : Always (Moment s n bytes) s (storeCall reply marks n bytes allowance list)
   unfolding storeCall calling

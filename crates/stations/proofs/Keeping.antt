@@ -18,7 +18,7 @@ use Rattle.stations.proofs.Same.{alike-found}
 use Rattle.stations.proofs.Lookups.{after-others, after-before-mark, after-itself, after-all, after-own}
 use Rattle.stations.proofs.Own.{own-same, own-alike}
 use Rattle.stations.proofs.Stored.{none-written}
-use Rattle.stations.proofs.Passing.{Written, StoreEnds, StoreDone, Passes, StorePasses, written-list, written-found, written-stays}
+use Rattle.stations.proofs.Passing.{Written, store-ends, store-done, store-passes, written-list, written-found, written-stays}
 
 module _ (s t : State) (n : ℕ) (bytes : List ℕ) (w : ℕ) (g : Written s n bytes w t) (small : OfBytes (s .array)) (right : Storable n bytes) where
   -- nothing written: every lookup is as before
@@ -67,27 +67,24 @@ module _ (s t : State) (n : ℕ) (bytes : List ℕ) (w : ℕ) (g : Written s n b
       itself (inl y) h = absurd (omega arith)
       itself (inr e) h = after-itself (shownAt s) n bytes (e .0) right (e .1) w h
 
--- ---- the joins
+-- ---- the theorems
 
-module _ (ends : StoreEnds) where
-  pub store-leaves : StoreLeaves
-  store-leaves s reply marks n bytes allowance list small right p h =
-      written-list s (played s (storeCall reply marks n bytes allowance list) .state) n bytes (storeAccount s reply marks n bytes allowance list .writes)
-      (ends s reply marks n bytes allowance list) small right p h
+pub store-leaves : StoreLeaves
+store-leaves s reply marks n bytes allowance list small right p h =
+    written-list s (played s (storeCall reply marks n bytes allowance list) .state) n bytes (storeAccount s reply marks n bytes allowance list .writes)
+    (store-ends s reply marks n bytes allowance list) small right p h
 
-  pub store-keeps : StoreDone → StoreKeeps
-  store-keeps done s reply marks n bytes allowance list small right e =
-      written-keeps s (played s (storeCall reply marks n bytes allowance list) .state) n bytes (storeAccount s reply marks n bytes allowance list .writes)
-      (ends s reply marks n bytes allowance list) small right (done s reply marks n bytes allowance list e)
+pub store-keeps : StoreKeeps
+store-keeps s reply marks n bytes allowance list small right e =
+    written-keeps s (played s (storeCall reply marks n bytes allowance list) .state) n bytes (storeAccount s reply marks n bytes allowance list .writes)
+    (store-ends s reply marks n bytes allowance list) small right (store-done s reply marks n bytes allowance list e)
 
-  pub store-refused : StoreRefused
-  store-refused s reply marks n bytes allowance list small right =
-      written-leaves s (played s (storeCall reply marks n bytes allowance list) .state) n bytes (storeAccount s reply marks n bytes allowance list .writes)
-      (ends s reply marks n bytes allowance list) small right
+pub store-refused : StoreRefused
+store-refused s reply marks n bytes allowance list small right =
+    written-leaves s (played s (storeCall reply marks n bytes allowance list) .state) n bytes (storeAccount s reply marks n bytes allowance list .writes)
+    (store-ends s reply marks n bytes allowance list) small right
 
-pub store-stays : StorePasses → StoreStays
-store-stays passes s t reply marks n bytes allowance list small among =
+pub store-stays : StoreStays
+store-stays s t reply marks n bytes allowance list small among =
+    let g = store-passes s reply marks n bytes allowance list t among in
     record { array = written-stays s t n bytes (g .writes) (g .written) small; security = g .written .security }
-  where
-    g : Passes s n bytes t
-    g = passes s t reply marks n bytes allowance list among

@@ -1,4 +1,4 @@
--- The laws of the station list.
+-- The laws of the station list: of numbers, of slots and lookups, of memory, of frames and writes, and then of calls.
 pub mod Next
 pub mod Sequel
 pub mod First
@@ -11,11 +11,6 @@ pub mod Shown
 pub mod Clears
 pub mod Stored
 pub mod Torn
-pub mod Worked
-pub mod Passing
-pub mod Keeping
-pub mod Cuts
-pub mod Events
 pub mod Frames
 pub mod Reading
 pub mod Polls
@@ -23,6 +18,10 @@ pub mod Writes
 pub mod Outcomes
 pub mod Targets
 pub mod Given
-pub mod Joined
+pub mod Passing
+pub mod Keeping
+pub mod Cuts
 pub mod Records
+pub mod Events
+pub mod Worked
 pub mod Cases

@@ -23,7 +23,7 @@ use Rattle.rules.proofs.Numbers.{accepted, accepted-right}
 use Rattle.stations.specs.Calls.{reading, shownBy, listSize}
 use Rattle.stations.specs.Keeping.{shownAt}
 use Rattle.stations.specs.Records.{used, readNumber, chipLeft}
-use Rattle.stations.proofs.Frames.{Ready, polled}
+use Rattle.stations.proofs.Frames.{Ready}
 
 module _ (s : State) (reply marks : Lent) where
   abbrev reads : Frame
@@ -67,16 +67,16 @@ module _ (s : State) (reply marks : Lent) where
 
   -- ---- what it leaves
 
-  pub read-leaves : came .number ≡ 0 → left came ≡ polled s
+  pub read-leaves : came .number ≡ 0 → left came ≡ used s
   unfolding step formOf find frames workedArray workedSecurity
   read-leaves e = ap left (frame-done-whole s reads e)
 
   -- refused or not
-  pub read-keeps : (left came ≡ s) ⊎ (left came ≡ polled s)
+  pub read-keeps : (left came ≡ s) ⊎ (left came ≡ used s)
   unfolding step
   read-keeps = go (frame s reads .number) refl
     where
-      go : (n : ℕ) → frame s reads .number ≡ n → (left (frame s reads) ≡ s) ⊎ (left (frame s reads) ≡ polled s)
+      go : (n : ℕ) → frame s reads .number ≡ n → (left (frame s reads) ≡ s) ⊎ (left (frame s reads) ≡ used s)
       go zero e = inr (read-leaves e)
       go (suc zero) e = inl (ap left (frame-refused-1 s reads e))
       go (suc (suc zero)) e = inl (ap left (frame-refused-2 s reads e))

@@ -10,7 +10,7 @@ use borrow.Author.Tests.{ltb-true, ltb-false, eqb-true, eq-eqb, lt-ltb, le-ltb}
 use Rattle.rules.specs.declared.Cell.{Cell}
 use Rattle.rules.proofs.Bools.{and-split, and-both, never}
 use Rattle.stations.specs.Slots.{Shown, slotCount, dataSize, byteOf, empty, live, station, liveOf, slotOf, bytesOf, found, freeSlot}
-use Rattle.stations.proofs.First.{FirstIs, first-is, first-one, first-some, first-same, all-at, all-same}
+use Rattle.stations.proofs.First.{FirstIs, first-is, first-one, first-some, first-same, all-at}
 
 -- ---- tests
 
@@ -47,11 +47,6 @@ same-live v w i s =
 pub same-live-of : (v w : Shown) (n i : ℕ) → SameFrom 0 v w i → liveOf v n i ≡ liveOf w n i
 unfolding liveOf
 same-live-of v w n i s = ap₂ (λ (a : Bool) (b : ℕ). a && eqb b n) (same-live v w i s) (same-station v w i (same-tail v w i s))
-
-pub same-empty : (v w : Shown) (i : ℕ) → SameFrom 0 v w i → empty v i ≡ empty w i
-unfolding empty
-same-empty v w i s =
-    all-same 32 (λ j. eqb (byteOf v i j) 0xFF) (λ j. eqb (byteOf w i j) 0xFF) (λ j l. ap (λ (x : ℕ). eqb x 0xFF) (same-byte 0 v w i j s (omega arith) l))
 
 -- ---- classes
 

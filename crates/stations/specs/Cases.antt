@@ -18,7 +18,7 @@ use Rattle.stations.specs.Slots.{Shown, shownIn, shownFrom, allBelow, so
 use Rattle.stations.specs.Plans.{recordFrame, markFrame, clearings}
 use Rattle.stations.specs.Calls.{ends, played, polling, storeRight, lookupRight}
 use Rattle.stations.specs.Worked.{slotWith, clearedWith, data28}
-use Rattle.stations.specs.Given.{inTime, pollsOf, completed, pollsFrom, Account, writesAccount}
+use Rattle.stations.specs.Given.{inTime, completed, pollsFrom, Account, writesAccount}
 
 -- a sentence, what the definitions give, and what they must give
 pub record Case : Type 0 where
@@ -56,7 +56,7 @@ lookupWith reply marks buffer = num (lookupRight (sized reply) (sized marks) (re
 
 -- whether a write with this allowance and entry is completed, and its polls
 abbrev pub waited : ℕ → ℕ → List ℕ
-waited a e = num (inTime a e) ∷ pollsOf a e ∷ []
+waited a e = num (inTime a e) ∷ pollsFrom a (e ∷ []) 0 1 ∷ []
 
 -- of c writes from entry j on with an allowance of 3: how many are completed, and their polls
 abbrev pub account : List ℕ → ℕ → ℕ → List ℕ

@@ -20,9 +20,6 @@ use Rattle.stations.specs.Calls.{Script, endedOf, played, polling, readi
 abbrev pub inTime : ℕ → ℕ → Bool
 inTime a e = leb 1 e && leb e a
 
-abbrev pub pollsOf : ℕ → ℕ → ℕ
-pollsOf a e = pick (inTime a e) e a
-
 -- the closed form of polling, on a busy chip in SPI after a frame: it goes on from the completed chip, or ends with the write still running
 abbrev pub PollingComesTo : Type 0
 PollingComesTo =
