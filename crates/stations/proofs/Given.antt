@@ -1,5 +1,5 @@
 -- Which number a call gets, and what it leaves: the tests of the definitions taken in their order, the read by its law, and the writes by theirs. Assumes nothing.
-use Prim.Native.Nat.{ℕ, _≤_, _<_}
+use Prim.Native.Nat.{ℕ, _<_}
 use mathlib.Core.Path.{_≡_, refl, sym, ap, _∙_, subst, subst₂}
 use mathlib.Core.Bool.{Bool, true, false, not, _&&_}
 use mathlib.Core.List.{List, [], _∷_}
@@ -7,7 +7,7 @@ use mathlib.Core.Logic.{_⊎_, inl, inr}
 use native.Mathlib.Omega.{arith}
 use lib.Dec.{eqb, ltb, leb}
 use lib.ListN.{length, getD, take}
-use borrow.Author.Tests.{eqb-true, eqb-false, ltb-true, leb-true}
+use borrow.Author.Tests.{eqb-true, eqb-false, ltb-true}
 use Rattle.rules.specs.declared.Rest.{Rest}
 use Rattle.rules.specs.Words.{pick, Lent}
 use Rattle.rules.specs.Blocks.{writeLocked}
@@ -71,14 +71,13 @@ pub record Asked (reply marks : Lent) (bytes : List ℕ) (allowance : ℕ) : Typ
   pub reply-size : reply .size ≡ listSize
   pub marks-size : marks .size ≡ listSize
   pub count : length bytes ≡ 28
-  pub allowed : allowance ≤ 65535
 
 pub store-asked : (reply marks : Lent) (bytes : List ℕ) (allowance : ℕ) → storeRight reply marks bytes allowance ≡ true → Asked reply marks bytes allowance
 store-asked reply marks bytes allowance r =
     let h₂ = and-split (buffersRight reply marks && eqb (length bytes) 28) (leb allowance 65535) r in
     let h₁ = and-split (buffersRight reply marks) (eqb (length bytes) 28) (h₂ .0) in
     let h₀ = and-split (eqb (reply .size) listSize) (eqb (marks .size) listSize) (h₁ .0) in
-    record { reply-size = eqb-true (reply .size) listSize (h₀ .0); marks-size = eqb-true (marks .size) listSize (h₀ .1); count = eqb-true (length bytes) 28 (h₁ .1); allowed = leb-true allowance 65535 (h₂ .1) }
+    record { reply-size = eqb-true (reply .size) listSize (h₀ .0); marks-size = eqb-true (marks .size) listSize (h₀ .1); count = eqb-true (length bytes) 28 (h₁ .1) }
 
 -- what a store comes to, by an account: its number and its polls, the array with its completed writes, and the rest as it was
 pub record Stored (s : State) (n : ℕ) (bytes : List ℕ) (x : Account) (e : Ended) : Type 0 where

@@ -2,6 +2,7 @@
 pub mod Next
 pub mod Sequel
 pub mod First
+pub mod Exactly
 pub mod Same
 pub mod Midway
 pub mod Own

@@ -1,4 +1,4 @@
--- 02, W-206: what a call leaves of the list: done, refused, or cut at any moment. Proved in proofs/Keeping and proofs/Cuts.
+-- 02, W-206: what a call leaves of the list: done, refused, or cut at any moment. Proved in proofs/Keeping, Cuts and Events.
 use Prim.Native.Nat.{ℕ, _+_, _-_, _/_, _%_, _≤_, _<_}
 use mathlib.Core.Path.{_≡_}
 use mathlib.Core.Bool.{Bool, true, false, _&&_, _||_}
