@@ -1,15 +1,16 @@
 -- One list worked through: its first four slots are computed, all behind them are empty, and so the laws of first and of lowest first give the rest. Assumes nothing.
-use Prim.Native.Nat.{ℕ, zero, suc, _+_, _*_, _≤_, _<_}
+use Prim.Native.Nat.{ℕ, zero, suc, _+_, _-_, _*_, _/_, _≤_, _<_}
 use mathlib.Core.Path.{_≡_, refl, sym, ap, _∙_}
-use mathlib.Core.Bool.{true, false}
+use mathlib.Core.Bool.{Bool, true, false, not, _&&_, _||_}
 use mathlib.Core.List.{List, [], _∷_}
 use native.Mathlib.Omega.{arith}
 use lib.ListN.{getD, replicate, List·getD-eq-default}
-use lib.Dec.{ltb}
-use Rattle.rules.specs.Words.{pick, Each, end, _next_}
-use Rattle.stations.specs.Slots.{shownIn, slotCount, dataSize, allBelow, thoseFrom, byteOf, empty, live, station, liveOf, slotOf, bytesOf, found, freeSlot}
+use lib.Dec.{eqb, ltb}
+use Rattle.rules.specs.Words.{pick, every, Each, end, _next_, range, holds}
+use Rattle.stations.specs.Slots.{shownIn, slotSize, slotCount, dataSize, allBelow, thoseFrom, byteOf, empty, live, station, liveOf, slotOf, bytesOf, found, freeSlot}
 use Rattle.stations.specs.Plans.{refused, writing, recordFrame, markFrame, clearings, storingAt, storing, lookingUp}
-use Rattle.stations.specs.Keeping.{Storable, nextLive, afterWrites}
+use Rattle.stations.specs.Keeping.{listStart, Storable, nextLive, afterWrites, mayChange}
+use Rattle.stations.specs.Calls.{listSize}
 use Rattle.stations.specs.Worked.{data28, fourBytes, four, news, FourHold, StaleShows}
 use Rattle.stations.proofs.First.{first-one, first-none, those-hit, those-miss, those-none}
 use Rattle.stations.proofs.Same.{no-mark, not-live-of, slot-one, found-at, found-none}
@@ -97,6 +98,18 @@ plan : storing four 7 news
 unfolding storing clearings
 plan = λ i. pick (ltb (free i) slotCount) (writing (recordFrame (free i) 7 news ∷ markFrame (free i) 0x53 0x54 ∷ clearings (lives i))) (refused 16)
 
+-- the slots that a store names, by the first empty one
+changes : ℕ → ℕ → Bool
+changes f a = holds (range listStart listSize) a && (eqb ((a - listStart) / slotSize) f || liveOf four 7 ((a - listStart) / slotSize))
+
+may-change : every (mayChange four 7) (0x10020 ∷ 0x1003F ∷ 0x10060 ∷ 0x1007F ∷ 0x10080 ∷ 0x1009F ∷ []) ≡ true
+unfolding changes holds liveOf live station byteOf
+may-change = ap (λ (f : ℕ). every (changes f) (0x10020 ∷ 0x1003F ∷ 0x10060 ∷ 0x1007F ∷ 0x10080 ∷ 0x1009F ∷ [])) free
+
+may-not : every (λ a. not (mayChange four 7 a)) (0x0FFFF ∷ 0x10000 ∷ 0x1001F ∷ 0x10040 ∷ 0x1005F ∷ 0x100A0 ∷ 0x1FFFF ∷ 0x20000 ∷ 0x20020 ∷ 0x20080 ∷ []) ≡ true
+unfolding changes holds liveOf live station byteOf
+may-not = ap (λ (f : ℕ). every (λ a. not (changes f a)) (0x0FFFF ∷ 0x10000 ∷ 0x1001F ∷ 0x10040 ∷ 0x1005F ∷ 0x100A0 ∷ 0x1FFFF ∷ 0x20000 ∷ 0x20020 ∷ 0x20080 ∷ [])) free
+
 pub four-hold : FourHold
 four-hold =
     record {
@@ -108,6 +121,8 @@ four-hold =
       seventeen = looking 9 2048 no-slot;
       free = free;
       plan = plan;
+      may-change = may-change;
+      may-not = may-not;
       sixteen = store-full;
     }
 

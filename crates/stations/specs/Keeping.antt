@@ -1,5 +1,5 @@
 -- 02, W-206: what a call leaves of the list: done, refused, or cut at any moment. Proved in proofs/Keeping, Cuts and Events.
-use Prim.Native.Nat.{ℕ, _+_, _-_, _/_, _%_, _≤_, _<_}
+use Prim.Native.Nat.{ℕ, suc, _+_, _-_, _/_, _%_, _≤_, _<_}
 use mathlib.Core.Path.{_≡_}
 use mathlib.Core.Bool.{Bool, true, false, _&&_, _||_}
 use mathlib.Core.List.{List, [], _∷_}
@@ -88,6 +88,15 @@ StoreRefused =
 abbrev pub Among : State → List State → Type 0
 Among t [] = ⊥
 Among t (u ∷ us) = (t ≡ u) ⊎ Among t us
+
+-- the first state and the last are moments too
+pub record EndsAmong (s : State) (call : Script) : Type 0 where
+  pub start : Among s (moments s call)
+  pub end : Among (played s call .state) (moments s call)
+  pub count : length (moments s call) ≡ suc (length (made s call))
+
+abbrev pub EndsAreMoments : Type 0
+EndsAreMoments = (s : State) (call : Script) → EndsAmong s call
 
 -- nothing running or suspended
 pub record AtRest (s : State) : Type 0 where

@@ -1,11 +1,13 @@
 -- 02, W-206: one list worked through, by lookup, by a store, and by a store that is cut. Proved in proofs/Worked.
 use Prim.Native.Nat.{ℕ, _<_}
 use mathlib.Core.Path.{_≡_}
+use mathlib.Core.Bool.{true, not}
 use mathlib.Core.List.{List, [], _∷_, _++_}
 use lib.ListN.{length, replicate}
+use Rattle.rules.specs.Words.{every}
 use Rattle.stations.specs.Slots.{Shown, shownIn, shownFrom, slotCount, dataSize, thoseFrom, liveOf, slotOf, bytesOf, found, freeSlot}
 use Rattle.stations.specs.Plans.{refused, writing, storing, lookingUp}
-use Rattle.stations.specs.Keeping.{afterWrites, Storable}
+use Rattle.stations.specs.Keeping.{afterWrites, Storable, mayChange}
 
 -- a live slot of the station with these number bytes and data b b ..
 abbrev pub slotWith : ℕ → ℕ → ℕ → List ℕ
@@ -50,6 +52,9 @@ pub record FourHold : Type 0 where
       ∷ (0x02 ∷ 0x01 ∷ 0x00 ∷ 0x20 ∷ 0x00 ∷ 0x00 ∷ [])
       ∷ (0x02 ∷ 0x01 ∷ 0x00 ∷ 0x60 ∷ 0x00 ∷ 0x00 ∷ [])
       ∷ [])
+  -- "never writes outside 010000 to 01FFFF, and never more than the slots it names": slots 1, 3 and 4, from their first byte to their last
+  pub may-change : every (mayChange four 7) (0x10020 ∷ 0x1003F ∷ 0x10060 ∷ 0x1007F ∷ 0x10080 ∷ 0x1009F ∷ []) ≡ true
+  pub may-not : every (λ a. not (mayChange four 7 a)) (0x0FFFF ∷ 0x10000 ∷ 0x1001F ∷ 0x10040 ∷ 0x1005F ∷ 0x100A0 ∷ 0x1FFFF ∷ 0x20000 ∷ 0x20020 ∷ 0x20080 ∷ []) ≡ true
   -- "16 exactly if the read shows no empty slot", where every place reads 00
   pub sixteen : storing (shownIn [] []) 7 news ≡ refused 16
 
