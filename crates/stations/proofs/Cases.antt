@@ -19,7 +19,8 @@ use Rattle.rules.proofs.Bools.{and-split}
 use Rattle.rules.proofs.Cases.{none-in-front}
 use Rattle.stations.specs.Slots.{allBelow, someBelow, firstFrom, thoseFrom, byteOf, empty, live, dead, station, liveOf, passedOver, bytesOf}
 use Rattle.stations.specs.Plans.{clearings}
-use Rattle.stations.specs.Calls.{played, polling}
+use Rattle.stations.specs.Calls.{played, polling, calling, storeCall, lookupCall}
+use Rattle.stations.specs.Promises.{stored, lookedUp}
 use Rattle.stations.specs.Given.{completed, pollsFrom}
 use Rattle.stations.specs.Cases.{Case, cases, CasesHold}
 
@@ -46,7 +47,7 @@ failing c = pick (same (c .gives) (c .must)) [] (c .sentence ∷ [])
 
 -- case by case, so that an error shows which one fails
 none-fails : Each (λ c. failing c ≡ []) cases
-unfolding failing same cases allBelow someBelow firstFrom thoseFrom byteOf empty live dead station liveOf passedOver bytesOf clearings played polling completed pollsFrom bit holds seek blockOf blockAt blocks wide writeLocked blank frames find formOf shown placeCell locksRight frameTests commandTests completionTests workedArray workedSecurity frameChip frameCell frameReply frameMarks frame completedChip completion step wellFormed worksRight firstFF unlocked overlap finish
+unfolding failing same cases allBelow someBelow firstFrom thoseFrom byteOf empty live dead station liveOf passedOver bytesOf clearings played polling calling storeCall lookupCall stored lookedUp completed pollsFrom bit holds seek blockOf blockAt blocks wide writeLocked blank frames find formOf shown placeCell locksRight frameTests commandTests completionTests workedArray workedSecurity frameChip frameCell frameReply frameMarks frame completedChip completion step wellFormed worksRight firstFF unlocked overlap finish
 none-fails =
     refl next refl next refl next refl next refl next refl next refl next refl next refl next refl next
     refl next refl next refl next refl next refl next refl next refl next refl next refl next refl next
@@ -54,7 +55,7 @@ none-fails =
     refl next refl next refl next refl next refl next refl next refl next refl next refl next refl next
     refl next refl next refl next refl next refl next refl next refl next refl next refl next refl next
     refl next refl next refl next refl next refl next refl next refl next refl next refl next refl next
-    refl next end
+    refl next refl next refl next refl next refl next refl next refl next end
 
 holds-of : (c : Case) → failing c ≡ [] → c .gives ≡ c .must
 unfolding failing

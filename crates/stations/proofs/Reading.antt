@@ -125,3 +125,7 @@ module _ (s : State) (reply marks : Lent) where
           → record { byte = pick c (cell ((0x10000 + p) % arraySize) .byte) 0; mark = pick c (cell ((0x10000 + p) % arraySize) .mark) 0 } ≡ pick c (cell (0x10000 + p)) unknown
       go p true h = let l = ltb-true p listSize h in let z : (0x10000 + p) % arraySize ≡ 0x10000 + p = omega arith in ap cell z
       go p false h = refl
+
+  pub read-sizes : came .number ≡ 0 → (came .reply .size ≡ reply .size) × (came .marks .size ≡ marks .size)
+  unfolding step
+  read-sizes e = (ap (λ (o : Outcome). o .reply .size) (frame-done-whole s reads e), ap (λ (o : Outcome). o .marks .size) (frame-done-whole s reads e))

@@ -10,13 +10,15 @@ use Rattle.rules.specs.declared.Rest.{Rest}
 use Rattle.rules.specs.declared.Work.the-variants.{ProgramPage, EraseSector}
 use Rattle.rules.specs.Words.{Each, num, Lent, written}
 use Rattle.rules.specs.Blocks.{arraySize, securitySize}
-use Rattle.rules.specs.Fields.{chipOf, withRunning, withSuspended, withProtection}
+use Rattle.rules.specs.Fields.{chipOf, withRunning, withSuspended, withSqi, withProtection}
 use Rattle.rules.specs.Programs.{blank}
 use Rattle.rules.specs.Commands.{newOldChip}
 use Rattle.rules.specs.Numbers.{State}
+use Rattle.stations.specs.declared.StoreRecord.{StoreRecord}
 use Rattle.stations.specs.Slots.{Shown, shownIn, shownFrom, allBelow, someBelow, firstFrom, thoseFrom, empty, live, dead, station, liveOf, passedOver, bytesOf}
 use Rattle.stations.specs.Plans.{recordFrame, markFrame, clearings}
 use Rattle.stations.specs.Calls.{ends, played, polling, storeRight, lookupRight}
+use Rattle.stations.specs.Promises.{Desk, deskOf, stateAt, Came, cameOf, stored, lookedUp}
 use Rattle.stations.specs.Worked.{slotWith, clearedWith, data28}
 use Rattle.stations.specs.Given.{inTime, completed, pollsFrom, Account, writesAccount}
 
@@ -76,6 +78,30 @@ busyState = record { chip = chipOf blank (withRunning (ProgramPage 0x100) bare);
 -- polls there, 10 of them before: number and polls, and whether it still runs
 abbrev pub polled : ℕ → ℕ → List ℕ
 polled a e = let x = played busyState (polling a 0 e 10 (ends 0)) in x .number ∷ x .polls ∷ []
+
+-- a record, and four slices lent with it
+abbrev pub oneRecord : StoreRecord
+oneRecord = record { chip = newOldChip; number = 5; polls = 6 }
+
+abbrev pub oneDesk : Desk
+oneDesk = deskOf (0xA1 ∷ []) (0xB1 ∷ []) (0xC1 ∷ []) (0xD1 ∷ [])
+
+abbrev pub memories : State → List ℕ
+memories s = s .array .size ∷ s .array .byte 0 ∷ s .security .size ∷ s .security .byte 0 ∷ []
+
+-- a chip in SQI, which refuses the read with 3
+abbrev pub sqiState : State
+sqiState = record { chip = chipOf blank (withSqi true (newOldChip .rest)); array = written arraySize (λ i. 0xFF); security = written securitySize (λ i. 0xFF) }
+
+-- number and polls, and the first byte of the reply and of the marks, which were 5A and A5
+abbrev pub came : Came → List ℕ
+came c = c .ended .number ∷ c .ended .polls ∷ c .reply .byte 0 ∷ c .marks .byte 0 ∷ []
+
+abbrev pub storedThere : ℕ → List ℕ
+storedThere allowance = came (stored sqiState (written 65536 (λ i. 0x5A)) (written 65536 (λ i. 0xA5)) 7 data28 allowance [])
+
+abbrev pub lookedUpThere : List ℕ → List ℕ
+lookedUpThere buffer = let x = lookedUp sqiState (written 65536 (λ i. 0x5A)) (written 65536 (λ i. 0xA5)) 7 buffer in came (x .came) ++ x .buffer
 
 -- ---- the cases
 
@@ -146,9 +172,15 @@ cases =
     ∷ case "10 polls before this write: the completion before poll 1, and before the last allowed" (polled 3 1 ++ polled 3 3) (0 ∷ 11 ∷ 0 ∷ 13 ∷ [])
     ∷ case "before one that is not made, and never" (polled 3 4 ++ polled 3 0) (18 ∷ 13 ∷ 18 ∷ 13 ∷ [])
     ∷ case "none allowed" (polled 0 0 ++ polled 0 1) (18 ∷ 10 ∷ 18 ∷ 10 ∷ [])
+    ∷ case "the two memories, as they are lent" (memories (stateAt oneRecord oneDesk)) (1 ∷ 0xA1 ∷ 1 ∷ 0xB1 ∷ [])
+    ∷ case "what came: number, polls, reply, marks and the two memories" (came (cameOf oneRecord oneDesk) ++ memories (cameOf oneRecord oneDesk .ended .state)) (5 ∷ 6 ∷ 0xC1 ∷ 0xD1 ∷ 1 ∷ 0xA1 ∷ 1 ∷ 0xB1 ∷ [])
+    ∷ case "a refused read leaves its reply and its marks" (storedThere 65535) (3 ∷ 0 ∷ 0xFF ∷ 0x00 ∷ [])
+    ∷ case "1: nothing is sent, and they stay" (storedThere 65536) (1 ∷ 0 ∷ 0x5A ∷ 0xA5 ∷ [])
+    ∷ case "a refusal leaves lookup's buffer unchanged: 3" (lookedUpThere data28) (3 ∷ 0 ∷ 0xFF ∷ 0x00 ∷ data28)
+    ∷ case "and 1" (lookedUpThere (0x11 ∷ 0x22 ∷ [])) (1 ∷ 0 ∷ 0x5A ∷ 0xA5 ∷ 0x11 ∷ 0x22 ∷ [])
     ∷ []
 
 -- every case holds, and no line is missing
 pub record CasesHold : Type 0 where
   pub hold : Each (λ c. c .gives ≡ c .must) cases
-  pub whole : length cases ≡ 61
+  pub whole : length cases ≡ 67

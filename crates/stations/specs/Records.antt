@@ -1,4 +1,4 @@
--- 02, W-206: what a call leaves of the chip's record, at each moment and at its end. Proved in proofs/Records.
+-- 02, W-206: what a call leaves of the chip's record, at each moment and at its end, and of the buffers that are lent with it. Proved in proofs/Records.
 use Prim.Native.Nat.{ℕ, _/_}
 use mathlib.Core.Path.{_≡_}
 use mathlib.Core.Bool.{true, false, not}
@@ -15,10 +15,11 @@ use Rattle.rules.specs.Programs.{blank, pageBuffer}
 use Rattle.rules.specs.Fields.{chipOf, withRunning, withWel, withEnable}
 use Rattle.rules.specs.Numbers.{State, stateRight}
 use Rattle.rules.specs.Machine.{left, step}
-use Rattle.stations.specs.Slots.{freeSlot}
+use Rattle.stations.specs.Slots.{found, freeSlot}
 use Rattle.stations.specs.Plans.{storingAt}
-use Rattle.stations.specs.Calls.{played, moments, reading, buffersRight, storeCall, lookupCall}
-use Rattle.stations.specs.Given.{Account, storeAccount}
+use Rattle.stations.specs.Calls.{played, moments, reading, listSize, buffersRight, storeRight, lookupRight, storeCall, lookupCall}
+use Rattle.stations.specs.Given.{Account, storeAccount, lookupNumber}
+use Rattle.stations.specs.Promises.{Came, stored, lookedUp}
 use Rattle.stations.specs.Keeping.{shownAt, Among}
 
 -- the state with its enable used up
@@ -87,3 +88,26 @@ abbrev pub StoreLeavesRecord : Type 0
 StoreLeavesRecord =
     (s : State) (reply marks : Lent) (n : ℕ) (bytes : List ℕ) (allowance : ℕ) (list : List ℕ)
     → RecordLeft s n bytes (storeAccount s reply marks n bytes allowance list) (played s (storeCall reply marks n bytes allowance list) .state)
+
+-- ---- the buffers of a call that is right and whose read is done
+
+-- the read's two hold the list as it was at the start
+pub record Reads (s : State) (c : Came) : Type 0 where
+  pub reply : (p : ℕ) → c .reply .byte p ≡ shownAt s p .byte
+  pub marks : (p : ℕ) → c .marks .byte p ≡ shownAt s p .mark
+  pub reply-size : c .reply .size ≡ listSize
+  pub marks-size : c .marks .size ≡ listSize
+
+abbrev pub StoreReads : Type 0
+StoreReads =
+    (s : State) (reply marks : Lent) (n : ℕ) (bytes : List ℕ) (allowance : ℕ) (list : List ℕ) → storeRight reply marks bytes allowance ≡ true → readNumber s ≡ 0
+    → Reads s (stored s reply marks n bytes allowance list)
+
+-- and lookup's own holds the data where it is done; "a refusal leaves its buffer unchanged"
+pub record LookupFills (s : State) (reply marks : Lent) (n : ℕ) (buffer : List ℕ) : Type 0 where
+  pub reads : lookupRight reply marks buffer ≡ true → readNumber s ≡ 0 → Reads s (lookedUp s reply marks n buffer .came)
+  pub done : lookupNumber s reply marks n buffer ≡ 0 → lookedUp s reply marks n buffer .buffer ≡ found (shownAt s) n
+  pub refused : (lookupNumber s reply marks n buffer ≡ 0 → ⊥) → lookedUp s reply marks n buffer .buffer ≡ buffer
+
+abbrev pub LookupBuffers : Type 0
+LookupBuffers = (s : State) (reply marks : Lent) (n : ℕ) (buffer : List ℕ) → LookupFills s reply marks n buffer
