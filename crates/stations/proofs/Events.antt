@@ -3,7 +3,6 @@ use Prim.Native.Nat.{ℕ, zero, suc, _+_}
 use mathlib.Core.Path.{refl, ap}
 use mathlib.Core.Bool.{Bool, true, false}
 use mathlib.Core.List.{List, [], _∷_}
-use mathlib.Core.Logic.{inl, inr}
 use lib.Dec.{eqb, ltb}
 use lib.ListN.{getD}
 use Rattle.rules.specs.Words.{bit, pick, Lent, Each, end, _next_}
@@ -12,7 +11,7 @@ use Rattle.rules.specs.Machine.{Outcome, completes, step, left}
 use Rattle.stations.specs.Slots.{Shown, slotCount, thoseFrom, liveOf, slotOf, freeSlot}
 use Rattle.stations.specs.Plans.{Plan, refused, writing, programAt, clearings, storingAt, storing, lookingUp}
 use Rattle.stations.specs.Calls.{Script, ends, does, played, moments, made, short, onDone, arriving, polling, write, writes, reading, shownBy, carriedOut, calling, storeRight, lookupRight, storeCall, lookupCall}
-use Rattle.stations.specs.Keeping.{OfStore, a-read, a-latch, a-write, a-poll, a-completion, EndsAreMoments, CallsSendOnly, CallsAreRuns}
+use Rattle.stations.specs.Keeping.{OfStore, a-read, a-latch, a-write, a-poll, a-completion, CallsSendOnly, CallsAreRuns, MomentsAreRuns}
 
 -- ---- the frames of the writes
 
@@ -113,9 +112,7 @@ unfolding played made
 calls-are-runs s (ends number polls) = refl
 calls-are-runs s (does e more) = calls-are-runs (left (step s e)) (more (step s e))
 
-pub ends-are-moments : EndsAreMoments
-unfolding played moments made
-ends-are-moments s (ends number polls) = record { start = inl refl; end = inl refl; count = refl }
-ends-are-moments s (does e more) =
-    let r = ends-are-moments (left (step s e)) (more (step s e)) in
-    record { start = inl refl; end = inr (r .end); count = ap suc (r .count) }
+pub moments-are-runs : MomentsAreRuns
+unfolding moments made
+moments-are-runs s (ends number polls) = refl
+moments-are-runs s (does e more) = ap (λ (l : List State). s ∷ l) (moments-are-runs (left (step s e)) (more (step s e)))

@@ -1,5 +1,5 @@
 -- 02, W-206: what a call leaves of the list: done, refused, or cut at any moment. Proved in proofs/Keeping, Cuts and Events.
-use Prim.Native.Nat.{ℕ, suc, _+_, _-_, _/_, _%_, _≤_, _<_}
+use Prim.Native.Nat.{ℕ, _+_, _-_, _/_, _%_, _≤_, _<_}
 use mathlib.Core.Path.{_≡_}
 use mathlib.Core.Bool.{Bool, true, false, _&&_, _||_}
 use mathlib.Core.List.{List, [], _∷_}
@@ -89,15 +89,6 @@ abbrev pub Among : State → List State → Type 0
 Among t [] = ⊥
 Among t (u ∷ us) = (t ≡ u) ⊎ Among t us
 
--- the first state and the last are moments too
-pub record EndsAmong (s : State) (call : Script) : Type 0 where
-  pub start : Among s (moments s call)
-  pub end : Among (played s call .state) (moments s call)
-  pub count : length (moments s call) ≡ suc (length (made s call))
-
-abbrev pub EndsAreMoments : Type 0
-EndsAreMoments = (s : State) (call : Script) → EndsAmong s call
-
 -- nothing running or suspended
 pub record AtRest (s : State) : Type 0 where
   pub idle : s .chip .rest .works .running ≡ Nothing
@@ -174,3 +165,11 @@ lastOf s (e ∷ es) = lastOf (left (step s e)) es
 
 abbrev pub CallsAreRuns : Type 0
 CallsAreRuns = (s : State) (call : Script) → played s call .state ≡ lastOf s (made s call)
+
+-- and its moments are the states before, between and after them
+abbrev pub along : State → List Event → List State
+along s [] = s ∷ []
+along s (e ∷ es) = s ∷ along (left (step s e)) es
+
+abbrev pub MomentsAreRuns : Type 0
+MomentsAreRuns = (s : State) (call : Script) → moments s call ≡ along s (made s call)
