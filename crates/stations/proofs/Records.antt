@@ -8,18 +8,25 @@ use native.Mathlib.Omega.{arith}
 use lib.Dec.{eqb, ltb, leb}
 use lib.ListN.{length, take}
 use borrow.Author.Tests.{eqb-true, eqb-false, ne-eqb}
+use Rattle.rules.specs.declared.Tear.{Tear}
 use Rattle.rules.specs.Words.{pick, Lent}
-use Rattle.rules.specs.Numbers.{State}
-use Rattle.rules.specs.Machine.{Outcome, step, left}
+use Rattle.rules.specs.Works.{tearOf}
+use Rattle.rules.specs.Registers.{busy}
+use Rattle.rules.specs.Commands.{settledFirst, afterCut}
+use Rattle.rules.specs.Numbers.{State, stateRight}
+use Rattle.rules.specs.Machine.{Outcome, cuts, step, left, powerCut}
 use Rattle.rules.proofs.Bools.{and-split}
+use Rattle.rules.proofs.Numbers.{cut-given}
+use Rattle.rules.proofs.Refusals.{cut-done-whole}
 use Rattle.stations.specs.Slots.{Shown, slotCount, dataSize, slotOf, found}
 use Rattle.stations.specs.Plans.{refused, writing, lookingUp}
 use Rattle.stations.specs.Calls.{Script, ends, Ended, played, writes, reading, shownBy, listSize, carriedOut, calling, buffersRight, storeRight, lookupRight, storeCall, lookupCall}
 use Rattle.stations.specs.Promises.{cameBy, stored, lookedUp}
 use Rattle.stations.specs.Given.{lookupNumber}
 use Rattle.stations.specs.Keeping.{shownAt}
-use Rattle.stations.specs.Records.{used, readNumber, ReadGiven, SameRecord, StoreKeepsRecord, LookupKeepsRecord, storeFrames, StoreLeavesRecord, Reads, StoreReads, LookupBuffers}
+use Rattle.stations.specs.Records.{used, readNumber, ReadGiven, SameRecord, StoreKeepsRecord, LookupKeepsRecord, storeFrames, StoreLeavesRecord, Reads, StoreReads, LookupBuffers, LookupAfterCut}
 use Rattle.stations.proofs.Programmed.{programmedAll}
+use Rattle.stations.proofs.Frames.{step-right}
 use Rattle.stations.proofs.Reading.{read-number, read-state, read-keeps, read-shows, read-sizes}
 use Rattle.stations.proofs.Polls.{Always, always-ends, always-does}
 use Rattle.stations.proofs.Given.{lookup-given, early-same, store-came, Moment, early, late, store-moments}
@@ -121,3 +128,31 @@ lookup-buffers s reply marks n buffer =
         go false y a b z = absurd (omega arith)
         go true false a b z = absurd (eqb-false (step s (reading reply marks) .number) 0 b z)
         go true true a b z = shows s reply marks (fits a) (eqb-true (step s (reading reply marks) .number) 0 b)
+
+-- ---- after a power cut
+
+powered-up : (t : State) (tear : Tear) → stateRight t ≡ true → readNumber (left (powerCut t tear)) ≡ 0
+unfolding step
+powered-up t tear r = λ i. pick (not (right i)) 1 (pick (rest i .flags .sqi) 3 (pick (busy (rest i)) 5 0))
+  where
+    right : stateRight (left (powerCut t tear)) ≡ true
+    right = step-right t (cuts tear) r
+
+    rest : powerCut t tear .chip .rest ≡ afterCut (settledFirst (tear .k) (t .chip .rest))
+    rest = ap (λ (o : Outcome). o .chip .rest) (cut-done-whole t tear (cut-given t tear .is-0 .1 r))
+
+pub lookup-after-cut : LookupAfterCut
+unfolding lookupNumber
+lookup-after-cut t k m reply marks n buffer r right =
+    let none = powered-up t (tearOf k m) r in
+    let u = left (powerCut t (tearOf k m)) in
+    let fits = and-split (buffersRight reply marks) (eqb (length buffer) dataSize) right .0 in
+    let number = read-given u reply marks fits .number ∙ none in
+    let v = shows u reply marks fits number in (
+      none,
+      (λ i. pick (not (right i)) 1 (pick (not (eqb (number i) 0)) (number i) (pick (not (ltb (slotOf (v i) n) slotCount)) 17 0))) ∙ turn (ltb (slotOf (shownAt u) n) slotCount),
+    )
+  where
+    turn : (b : Bool) → _≡_ {A = ℕ} (pick (not b) 17 0) (pick b 0 17)
+    turn true = refl
+    turn false = refl

@@ -4,18 +4,19 @@ use mathlib.Core.Path.{_≡_}
 use mathlib.Core.Bool.{true, false, not}
 use mathlib.Core.List.{List, [], _∷_}
 use mathlib.Core.Logic.{_⊎_}
-use lib.Dec.{eqb}
+use lib.Dec.{eqb, ltb}
 use lib.ListN.{getD}
 use Rattle.rules.specs.declared.Chip.{Chip}
 use Rattle.rules.specs.declared.Work.the-variants.{Nothing, ProgramPage}
 use Rattle.rules.specs.Words.{pick, oneOf, Lent}
+use Rattle.rules.specs.Works.{tearOf}
 use Rattle.rules.specs.Registers.{busy}
 use Rattle.rules.specs.Frames.{address}
 use Rattle.rules.specs.Programs.{blank, pageBuffer}
 use Rattle.rules.specs.Fields.{chipOf, withRunning, withWel, withEnable}
 use Rattle.rules.specs.Numbers.{State, stateRight}
-use Rattle.rules.specs.Machine.{left, step}
-use Rattle.stations.specs.Slots.{found, freeSlot}
+use Rattle.rules.specs.Machine.{left, step, powerCut}
+use Rattle.stations.specs.Slots.{slotCount, slotOf, found, freeSlot}
 use Rattle.stations.specs.Plans.{storingAt}
 use Rattle.stations.specs.Calls.{played, moments, reading, listSize, buffersRight, storeRight, lookupRight, storeCall, lookupCall}
 use Rattle.stations.specs.Given.{Account, storeAccount, lookupNumber}
@@ -111,3 +112,11 @@ pub record LookupFills (s : State) (reply marks : Lent) (n : ℕ) (buffer : List
 
 abbrev pub LookupBuffers : Type 0
 LookupBuffers = (s : State) (reply marks : Lent) (n : ℕ) (buffer : List ℕ) → LookupFills s reply marks n buffer
+
+-- ---- after a power cut comes power-up: the read is done, and lookup gives what is found there
+
+abbrev pub LookupAfterCut : Type 0
+LookupAfterCut =
+    (t : State) (k m : ℕ) (reply marks : Lent) (n : ℕ) (buffer : List ℕ) → stateRight t ≡ true → lookupRight reply marks buffer ≡ true
+    → let u = left (powerCut t (tearOf k m)) in
+    (readNumber u ≡ 0) × (lookupNumber u reply marks n buffer ≡ pick (ltb (slotOf (shownAt u) n) slotCount) 0 17)
