@@ -28,7 +28,7 @@ struct Done {
     right: bool,
 }
 
-fn done(pair: Pair, right: bool) -> Done {
+fn came(pair: Pair, right: bool) -> Done {
     Done {
         pair,
         odd: 0,
@@ -36,7 +36,7 @@ fn done(pair: Pair, right: bool) -> Done {
     }
 }
 
-fn done_with(pair: Pair, odd: u64, d: Deed, polls: bool) -> Done {
+fn came_with(pair: Pair, odd: u64, d: Deed, polls: bool) -> Done {
     let right = both::number_of(pair) == d.number;
     let counted = !polls | (both::polls_of(pair) == d.polls);
     Done {
@@ -75,14 +75,24 @@ fn is_outside(i: usize) -> bool {
     (i < 0x10000) | (0x20000 <= i)
 }
 
-pub fn fill_outside(array: &mut [u8]) {
+fn put_outside(array: &mut [u8], i: usize) {
+    if is_outside(i) {
+        put(array, i, outside_byte(i));
+    }
+}
+
+fn fill_outside(array: &mut [u8]) {
     let mut i: usize = 0;
     while i < array.len() {
-        if is_outside(i) {
-            put(array, i, outside_byte(i));
-        }
+        put_outside(array, i);
         i += 1;
     }
+}
+
+// Both arrays outside the list.
+pub fn both_filled(array: &mut Memory, array2: &mut Memory) {
+    fill_outside(array);
+    fill_outside(array2);
 }
 
 fn outside_kept(array: &[u8]) -> bool {
@@ -119,9 +129,10 @@ fn slot_of(d: Deed) -> Slot {
 
 // ---- steps
 
-fn stores(
+fn stores_by(
     p: Pair,
     d: Deed,
+    list: &[u64; 5],
     array: &mut Memory,
     security: &mut Identity,
     reply: &mut Reply,
@@ -137,12 +148,11 @@ fn stores(
         allowance: d.allowance,
     };
     let l = lengths_of(d.lengths);
-    let list = d.list;
     let w = both::stored(
         p,
         l,
         c,
-        &list,
+        list,
         0,
         array,
         security,
@@ -154,7 +164,35 @@ fn stores(
         marks2,
     );
     let pair = w.pair;
-    done_with(pair, w.odd, d, true)
+    came_with(pair, w.odd, d, true)
+}
+
+fn stores(
+    p: Pair,
+    d: Deed,
+    array: &mut Memory,
+    security: &mut Identity,
+    reply: &mut Reply,
+    marks: &mut Reply,
+    array2: &mut Memory,
+    security2: &mut Identity,
+    reply2: &mut Reply,
+    marks2: &mut Reply,
+) -> Done {
+    let list = d.list;
+    stores_by(
+        p,
+        d,
+        &list,
+        array,
+        security,
+        reply,
+        marks,
+        array2,
+        security2,
+        reply2,
+        marks2,
+    )
 }
 
 fn looks(
@@ -190,11 +228,12 @@ fn looks(
         marks2,
     );
     let pair = w.pair;
-    done_with(pair, w.odd, d, true)
+    came_with(pair, w.odd, d, true)
 }
 
 fn kind_of(d: Deed) -> u64 {
-    match d.kind {
+    let kind = d.kind;
+    match kind {
         deeds::FRAME => 0,
         deeds::COMPLETES => 1,
         _ => 2,
@@ -219,30 +258,30 @@ fn happens(
     let n = within(d.count, &sent);
     let w = both::happened(p, l, e, &sent[..n], 0, array, security, array2, security2);
     let pair = w.pair;
-    done_with(pair, w.odd, d, false)
+    came_with(pair, w.odd, d, false)
 }
 
 fn puts(p: Pair, d: Deed, array: &mut Memory, array2: &mut Memory) -> Done {
     let s = slot_of(d);
     lists::put_slot(array, d.slot, s);
     lists::put_slot(array2, d.slot, s);
-    done(p, true)
+    came(p, true)
 }
 
 fn fills(p: Pair, array: &mut Memory, array2: &mut Memory) -> Done {
     lists::fill_full(array);
     lists::fill_full(array2);
-    done(p, true)
+    came(p, true)
 }
 
 fn starts(array: &mut Memory, array2: &mut Memory) -> Done {
     lists::fill(array, 0, 0);
     lists::fill(array2, 0, 0);
-    done(both::new_pair(), true)
+    came(both::new_pair(), true)
 }
 
 fn breaks() -> Done {
-    done(both::pair_of(image_drawing::chips::broken(0, 1)), true)
+    came(both::pair_of(image_drawing::chips::broken(0, 1)), true)
 }
 
 fn one(b: bool) -> u8 {
@@ -252,21 +291,21 @@ fn one(b: bool) -> u8 {
 fn stands(p: Pair, d: Deed) -> Done {
     let f = flat_of(both::chip_of(p));
     let busy = one(f.run_kind != 0);
-    done(p, (one(f.wel) == d.first) & (busy == d.other))
+    came(p, (one(f.wel) == d.first) & (busy == d.other))
 }
 
 // A claim on what is there.
 fn claims(p: Pair, d: Deed, array: &Memory, reply: &Reply, marks: &Reply) -> Done {
     let kind = d.kind;
     match kind {
-        deeds::HOLDS => done(p, slot_shown(array, d.slot, slot_of(d))),
-        deeds::READS => done(
+        deeds::HOLDS => came(p, slot_shown(array, d.slot, slot_of(d))),
+        deeds::READS => came(
             p,
             (at(reply, d.slot) == d.first) & (at(marks, d.slot) == d.other),
         ),
-        deeds::OUTSIDE => done(p, outside_kept(array)),
+        deeds::OUTSIDE => came(p, outside_kept(array)),
         deeds::STANDS => stands(p, d),
-        _ => done(p, true),
+        _ => came(p, true),
     }
 }
 
