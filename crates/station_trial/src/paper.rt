@@ -131,7 +131,7 @@ fn lengths(i: u64) -> Deed {
         12..=20 => misses_with(std::num::wrapping_sub_u64(i, 11), 1),
         21 => is_empty(0),
         22 => stands(0, 0),
-        23 => stores_with(0, 0),
+        23 => stores(7, 1, 3, [1u64; 5], 0, 2),
         24 => is_live(0, 7, 1),
         25 => broken(),
         26 => stores_with(0, 1),
@@ -387,7 +387,7 @@ fn cut_short(i: u64) -> Deed {
     }
 }
 
-// "WEL 1 at the start": no difference; both parts; a list of no entry
+// "Completion sets BUSY and WEL to 0": a 06 before the call makes no difference to a store, and a lookup keeps WEL.
 fn enabled_before(i: u64) -> Deed {
     match i {
         0 => fresh(),

@@ -1,6 +1,6 @@
 // What is counted, and what is written.
 
-// Places of what is counted: the paper's values, cases with a difference, stores, lookups, events; numbers of stores, of lookups and of events; sorts of chips and of lists;
+// Places of what is counted: the paper's values, cases with a difference, stores, lookups, power cuts; numbers of stores and of lookups; sorts of chips and of lists;
 // done stores by the marks that they cleared.
 pub type Counts = [u64; 256];
 
