@@ -192,7 +192,7 @@ static uint64_t some_k(void)
 }
 static uint8_t some_m(void) { return (uint8_t)(below(3) ? any() : below(2) ? 0xFF : 0x00); }
 
-static long counts[19];
+static long counts[16], station_counts[19];
 
 static void after(uint8_t number, int frame, const uint8_t *array_before)
 {
@@ -422,6 +422,7 @@ static void image_round(uint8_t *before)
 /* ---- the station list. What its functions do, a driver can do over frames and completions: each call is compared with that driver, which works on copies of
  * all that is lent. */
 
+static const uint8_t of_stations[] = { 0, 1, 3, 5, 8, 11, 16, 17, 18 };
 static struct room data, list;
 static uint8_t *twin; /* the driver's array */
 static struct { fulkibono_record chip; uint8_t security[FULKIBONO_SECURITY], data[FULKIBONO_STATION_DATA]; fulkibono_station_buffers b; } driver;
@@ -507,7 +508,7 @@ static fulkibono_stored drive_store(uint16_t station, const uint8_t *bytes, uint
 static void some_stations(void)
 {
     uint8_t *l = array.open + array.size - FULKIBONO_ARRAY + FULKIBONO_STATION_START;
-    size_t empty = below(3) ? 8 : 1;
+    size_t empty = below(3) ? 8 : below(2); /* of eight slots */
     if (below(4))
         return;
     memset(l, 0xFF, FULKIBONO_STATION_LIST);
@@ -524,6 +525,23 @@ static void some_stations(void)
     }
 }
 
+/* an open chip: idle, in SQI, at work, or with work aside, in the list or elsewhere */
+static void station_chip(void)
+{
+    static const struct { size_t n; uint8_t bytes[5]; } frames[] = {
+        { 1, { 0x06 } }, { 1, { 0x98 } }, { 1, { 0x06 } }, { 5, { 0x02, 0x10, 0x00, 0x00, 0x00 } }, { 1, { 0xB0 } }, { 4, { 0x20, 0x01, 0x20, 0x00 } }, { 1, { 0x38 } },
+    };
+    static const uint8_t ways[][6] = { /* each ends with FF */
+        { 0, 1, 0xFF }, { 0, 1, 6, 0xFF }, { 0, 1, 2, 3, 0xFF }, { 0, 1, 2, 3, 4, 0xFF }, { 0, 1, 2, 5, 4, 0xFF }, { 0, 0xFF },
+    };
+    const uint8_t *way = ways[below(3) ? 0 : below(sizeof ways / sizeof *ways)];
+    fulkibono_record c;
+    fulkibono_make(&c);
+    for (; *way != 0xFF; way++)
+        must(fulkibono_send(&c, array.open, security.open, frames[*way].bytes, frames[*way].n, NULL, NULL, 0) == 0, "a chip for stations");
+    memcpy(kept, c.bytes, sizeof c.bytes);
+}
+
 static void station_round(uint8_t *before)
 {
     const uint8_t status = 0x05;
@@ -534,14 +552,8 @@ static void station_round(uint8_t *before)
     int storing = below(3) != 0, right, taken;
 
     some_stations();
-    if (below(2)) { /* an open chip */
-        const uint8_t wren = 0x06, open_all = 0x98;
-        fulkibono_record c;
-        fulkibono_make(&c);
-        must(fulkibono_send(&c, array.open, security.open, &wren, 1, NULL, NULL, 0) == 0, "06");
-        must(fulkibono_send(&c, array.open, security.open, &open_all, 1, NULL, NULL, 0) == 0, "98");
-        memcpy(kept, c.bytes, sizeof c.bytes);
-    }
+    if (below(4))
+        station_chip();
     some_record();
     some_memory();
     memcpy(before, array.lent, array.n);
@@ -589,7 +601,7 @@ static void station_round(uint8_t *before)
                                           station, data.lent, data.n);
     }
     must(s.number <= 18, "a station's number above 18");
-    counts[s.number]++;
+    station_counts[s.number]++;
     must((s.number == 1) == !(right && taken), "refusal 1 of a station");
     must(same(&list), "the completions were changed");
     if (s.number == 1) {
@@ -814,11 +826,14 @@ int main(int argc, char **argv)
     }
     for (int i = 0; i <= 8; i++)
         must(torn_work[i] > 0 || rounds < 20000, "a kind of work was never stopped");
-    for (int i = 0; i <= 18; i++)
-        must(counts[i] > 0 || rounds < 20000, "a number was never given");
+    for (size_t i = 0; i < sizeof of_stations; i++)
+        must(station_counts[of_stations[i]] > 0 || rounds < 20000, "a number of the station list was never given");
     printf("hostile: %ld rounds, no finding; numbers given:", rounds);
-    for (int i = 0; i <= 18; i++)
+    for (int i = 0; i <= 15; i++)
         printf(" %d:%ld", i, counts[i]);
+    printf("; of stations:");
+    for (size_t i = 0; i < sizeof of_stations; i++)
+        printf(" %d:%ld", of_stations[i], station_counts[of_stations[i]]);
     printf("; stopped by kind:");
     for (int i = 0; i <= 8; i++)
         printf(" %d:%ld", i, torn_work[i]);
