@@ -410,6 +410,13 @@ static void store_frames(void)
 }
 static void frames_alone(void) { store_frames(); list_again(); }
 static void store_limit(void) { find_ours(); store_frames(); list_again(); }
+/* with a lookup that goes through the whole list, as the clears of a store must */
+static void store_whole_limit(void)
+{
+    sink += fulkibono_find(&chip, array, security, &stations, HALF, station_data);
+    store_frames();
+    list_again();
+}
 
 static void measure(struct row *r)
 {
@@ -609,6 +616,10 @@ int main(void)
         measure(&s);
         must(store_number == FULKIBONO_DONE, "store refused");
         store_ratio[k] = s.to_limit;
+        if (k == 0) {
+            struct row h = { "  the same (limit: a lookup to the list's end)", store_ours, NULL, store_whole_limit, 4000, 0, 0 };
+            measure(&h);
+        }
         struct row w = { "  its frames alone (limit: with the lookup)", frames_alone, NULL, store_limit, 4000, 0, 0 };
         measure(&w);
     }
