@@ -80,10 +80,7 @@ fn compared(name: &[u8], rust: bool) {
     let others = names_wrong(&text[..n], rust);
     io::write_all(1, name);
     if lines {
-        io::write_all(
-            1,
-            b" lacks the lines above, which the definitions have\n",
-        );
+        io::write_all(1, b" lacks the lines above, which the definitions have\n");
         return;
     }
     if others {
