@@ -5,7 +5,7 @@ ghost use lib.ListN.{length};
 ghost use Rattle.meanings.specs.Meanings.{over, MeaningBytes};
 
 // As many bytes of the text as fit; the text's length.
-fn put_text(lent: &mut [u8], text: &[u8]) -> usize
+pub fn put_text(lent: &mut [u8], text: &[u8]) -> usize
     ensures { λ r. ⌜ (r ≡ length (now (text .entry))) × (now (lent .exit) ≡ over (now (text .entry)) (now (lent .entry))) ⌝ }
 {
     let mut i: usize = 0;

@@ -1,0 +1,4 @@
+-- Laws that the proofs cite, and no second outcome.
+pub mod Entries
+pub mod Desks
+pub mod Reads
