@@ -1,2 +1,3 @@
 -- Slots as code finds them.
 pub mod Slots
+pub mod Unique

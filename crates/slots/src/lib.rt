@@ -1,8 +1,8 @@
 // Slots of the station list, as the two buffers of a read show them. Document 02, W-206: crate stations, specs/Slots.
 ghost use mathlib.Core.Path.{_≡_};
-ghost use Prim.Native.Nat.{_<_};
+ghost use Prim.Native.Nat.{_-_, _<_, _≤_};
 ghost use lib.ListN.{length};
-ghost use Rattle.stations.specs.Slots.{shownIn, empty, live, station, liveOf, slotOf, freeSlot};
+ghost use Rattle.stations.specs.Slots.{shownIn, firstFrom, empty, live, station, liveOf, freeSlot};
 ghost use Rattle.stations.specs.Calls.{listSize};
 
 // Slot i is empty: all FF.
@@ -57,6 +57,7 @@ pub fn is_live_of(reply: &[u8], marks: &[u8], number: u16, i: usize) -> bool
 pub fn first_empty(reply: &[u8], marks: &[u8]) -> usize
     requires { ⌜ length (now reply) ≡ listSize ⌝ }
     ensures { λ r. ⌜ r ≡ freeSlot (shownIn (now (reply .entry)) (now (marks .entry))) ⌝ }
+    ensures within { λ r. ⌜ r ≤ 2048 ⌝ }
 {
     let mut i: usize = 0;
     while i < 2048 {
@@ -68,12 +69,13 @@ pub fn first_empty(reply: &[u8], marks: &[u8]) -> usize
     i
 }
 
-// The first live slot of a number, 2048 where there is none.
-pub fn first_live(reply: &[u8], marks: &[u8], number: u16) -> usize
-    requires { ⌜ length (now reply) ≡ listSize ⌝ }
-    ensures { λ r. ⌜ r ≡ slotOf (shownIn (now (reply .entry)) (now (marks .entry))) number ⌝ }
+// The first live slot of a number from slot `from` on, 2048 where there is none.
+pub fn live_from(reply: &[u8], marks: &[u8], number: u16, from: usize) -> usize
+    requires { ⌜ (length (now reply) ≡ listSize) × (from ≤ 2048) ⌝ }
+    ensures { λ r. ⌜ r ≡ firstFrom (liveOf (shownIn (now (reply .entry)) (now (marks .entry))) number) from (2048 - from) ⌝ }
+    ensures within { λ r. ⌜ (from ≤ r) × (r ≤ 2048) ⌝ }
 {
-    let mut i: usize = 0;
+    let mut i = from;
     while i < 2048 {
         if is_live_of(reply, marks, number, i) {
             return i;

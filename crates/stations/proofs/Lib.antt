@@ -1,2 +1,26 @@
--- Laws of the station list.
+-- The laws of the station list.
 pub mod Next
+pub mod Sequel
+pub mod First
+pub mod Same
+pub mod Midway
+pub mod Lookups
+pub mod Programmed
+pub mod Shown
+pub mod Clears
+pub mod Stored
+pub mod Torn
+pub mod Passing
+pub mod Keeping
+pub mod Cuts
+pub mod Done
+pub mod Events
+pub mod Frames
+pub mod Reading
+pub mod Polls
+pub mod Writes
+pub mod Outcomes
+pub mod Targets
+pub mod Given
+pub mod Joined
+pub mod Unique

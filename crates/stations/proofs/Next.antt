@@ -5,6 +5,8 @@ use mathlib.Core.Bool.{Bool, true, false, _&&_}
 use mathlib.Core.List.{List, [], _∷_}
 use native.Mathlib.Omega.{arith}
 use native.Mathlib.Decide.{ℕ-discrete}
+use lib.Dec.{ltb}
+use borrow.Author.Tests.{lt-ltb, le-ltb}
 use Rattle.rules.specs.Words.{pick}
 use Rattle.stations.specs.Slots.{Shown, allBelow, firstFrom, thoseFrom, byteOf, bytesOf}
 
@@ -33,15 +35,33 @@ pub first-end : (t : ℕ → Bool) (n i : ℕ) → i ≡ n → firstFrom t i (n 
 unfolding firstFrom
 first-end t n i e = let z : n - i ≡ 0 = omega arith in ap (firstFrom t i) z ∙ e
 
-pub those-next : (t : ℕ → Bool) (n i : ℕ) → i < n → thoseFrom t i (n - i) ≡ pick (t i) (i ∷ thoseFrom t (i + 1) (n - (i + 1))) (thoseFrom t (i + 1) (n - (i + 1)))
-unfolding thoseFrom
-those-next t n i h =
-    ap (thoseFrom t i) (left n i h)
-    ∙ ap (λ (k : ℕ). pick (t i) (i ∷ thoseFrom t k (n - (i + 1))) (thoseFrom t k (n - (i + 1)))) (one-more i)
+-- those from i on are the first of them and those behind it
+those-first-of : (t : ℕ → Bool) (k i : ℕ)
+    → let r = firstFrom t i k in thoseFrom t i k ≡ pick (ltb r (i + k)) (r ∷ thoseFrom t (r + 1) (i + k - (r + 1))) []
+unfolding firstFrom thoseFrom
+those-first-of t zero i = sym (ap (λ (b : Bool). pick b (i ∷ thoseFrom t (i + 1) (i + 0 - (i + 1))) []) (le-ltb i (i + 0) (omega arith)))
+those-first-of t (suc k) i = go (t i) (those-first-of t k (suc i))
+  where
+    up : suc i + k ≡ i + suc k
+    up = omega arith
 
-pub those-end : (t : ℕ → Bool) (n i : ℕ) → n ≤ i → thoseFrom t i (n - i) ≡ []
-unfolding thoseFrom
-those-end t n i h = let z : n - i ≡ 0 = omega arith in ap (thoseFrom t i) z
+    rest : i + suc k - (i + 1) ≡ k
+    rest = omega arith
+
+    go : (b : Bool)
+        → (let r = firstFrom t (suc i) k in thoseFrom t (suc i) k ≡ pick (ltb r (suc i + k)) (r ∷ thoseFrom t (r + 1) (suc i + k - (r + 1))) [])
+        → pick b (i ∷ thoseFrom t (suc i) k) (thoseFrom t (suc i) k) ≡ (let r = pick b i (firstFrom t (suc i) k) in pick (ltb r (i + suc k)) (r ∷ thoseFrom t (r + 1) (i + suc k - (r + 1))) [])
+    go true e =
+        sym (ap (λ (b : Bool). pick b (i ∷ thoseFrom t (i + 1) (i + suc k - (i + 1))) []) (lt-ltb i (i + suc k) (omega arith))
+        ∙ (λ j. i ∷ thoseFrom t (sym (one-more i) j) (rest j)))
+    go false e =
+        e ∙ ap (λ (x : ℕ). let r = firstFrom t (suc i) k in pick (ltb r x) (r ∷ thoseFrom t (r + 1) (x - (r + 1))) []) up
+
+pub those-first : (t : ℕ → Bool) (n i : ℕ) → i ≤ n
+    → let r = firstFrom t i (n - i) in thoseFrom t i (n - i) ≡ pick (ltb r n) (r ∷ thoseFrom t (r + 1) (n - (r + 1))) []
+those-first t n i h =
+    let e : i + (n - i) ≡ n = omega arith in
+    those-first-of t (n - i) i ∙ ap (λ (x : ℕ). let r = firstFrom t i (n - i) in pick (ltb r x) (r ∷ thoseFrom t (r + 1) (x - (r + 1))) []) e
 
 -- all of them hold so far, and this one too; or this one does not, and so not all of more
 pub all-next : (t : ℕ → Bool) (i : ℕ) → allBelow i t ≡ true → t i ≡ true → allBelow (i + 1) t ≡ true

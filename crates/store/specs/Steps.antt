@@ -17,7 +17,7 @@ readFrame = 0x03 ∷ 0x01 ∷ 0x00 ∷ 0x00 ∷ []
 
 -- a call makes at most 2,050 writes of at most 65,535 polls each
 abbrev pub mostPolls : ℕ
-mostPolls = 134349750
+mostPolls = 134346750
 
 abbrev pub leaves : StoreRecord → List ℕ → List ℕ → Ended
 leaves r array security = endedOf (r .number) (r .polls) (stateOf (benchOf (r .chip) array security))

@@ -29,7 +29,7 @@ is-empty-requires c κs = search needs
 
 -- src/lib.rt:79:13
 returns : tie.Need-returns Inv-loop μ-loop
-returns c = let l = c .before .before .before .loop in sym (l .inv .1 ∙ first-hit _ 2048 (l .i) (omega arith) (sym (c .before .is-empty .ensures) ∙ c .if1 .taken))
+returns c = let l = c .before .before .before .loop in (sym (l .inv .1 ∙ first-hit _ 2048 (l .i) (omega arith) (sym (c .before .is-empty .ensures) ∙ c .if1 .taken)), omega arith)
 
 -- src/lib.rt:81:9
 add-i : tie.Need-add-i Inv-loop μ-loop
@@ -45,7 +45,7 @@ loop-again c = let l = c .before .before .before .loop in (omega arith, l .inv .
 
 -- src/lib.rt:72:1
 returns-2 : tie.Need-returns-2 Inv-loop μ-loop
-returns-2 c = let l = c .before .loop in let e : l .i ≡ 2048 = omega arith in e ∙ sym (l .inv .1 ∙ first-end _ 2048 (l .i) e)
+returns-2 c = let l = c .before .loop in let e : l .i ≡ 2048 = omega arith in (e ∙ sym (l .inv .1 ∙ first-end _ 2048 (l .i) e), omega arith)
 
 pub first-empty-spec : {M : Type 1} → statement M
 first-empty-spec =

@@ -1,5 +1,6 @@
 use native.Mathlib.Omega.{arith}
 use borrow.Author.Needs.{needs}
+use Rattle.store.proofs.Steps.{calmly}
 use Rattle.store.proofs.read_list.Statement.{statement}
 use Rattle.store.proofs.read_list.Tie as tie
 use Rattle.store.proofs.read_list.Reads as reads
@@ -37,7 +38,7 @@ same-length-4 c = search needs
 
 -- src/lib.rt:23:1
 returns : tie.Need-returns
-returns c = search needs
+returns c = calmly (c .before .before .before .before .before .before .before .before .before .before .before .before .before .before .calm .ensures) (c .before .before .before .before .before .before .before .before .frame .ensures)
 
 pub read-list-spec : {M : Type 1} → statement M
 read-list-spec =

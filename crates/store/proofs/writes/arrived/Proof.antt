@@ -1,5 +1,6 @@
 use native.Mathlib.Omega.{arith}
 use borrow.Author.Needs.{needs}
+use Rattle.store.proofs.Steps.{arrives-now, arrives-not}
 use Rattle.store.proofs.writes.arrived.Statement.{statement}
 use Rattle.store.proofs.writes.arrived.Tie as tie
 use Rattle.store.proofs.writes.arrived.Reads as reads
@@ -20,11 +21,11 @@ same-length-2 c = search needs
 
 -- src/writes.rt:42:9
 returns : tie.Need-returns
-returns c = search needs
+returns c = arrives-now (c .before .before .before .before .before .before .before .before .if1 .taken) (c .before .before .before .before .before .completion .ensures)
 
 -- src/writes.rt:36:1
 returns-2 : tie.Need-returns-2
-returns-2 c = search needs
+returns-2 c = arrives-not (c .if1 .left)
 
 pub arrived-spec : {M : Type 1} → statement M
 arrived-spec = tie.close (tie.spec completion-requires same-length same-length-2 returns returns-2)

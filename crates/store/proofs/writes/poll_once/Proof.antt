@@ -1,5 +1,6 @@
 use native.Mathlib.Omega.{arith}
 use borrow.Author.Needs.{needs}
+use Rattle.store.proofs.Steps.{calmly, polls-once}
 use Rattle.store.proofs.writes.poll_once.Statement.{statement}
 use Rattle.store.proofs.writes.poll_once.Tie as tie
 use Rattle.store.proofs.writes.poll_once.Reads as reads
@@ -46,7 +47,7 @@ same-length-2 c = search needs
 
 -- src/writes.rt:54:1
 returns : tie.Need-returns
-returns c = search needs
+returns c = polls-once (c .before .before .before .before .before .before .before .before .before .before .before .before .before .before .before .before .before .before .arrived .ensures) (calmly (c .before .before .before .before .before .before .before .before .before .before .before .before .before .calm .ensures) (c .before .before .before .before .before .before .before .frame .ensures))
 
 pub poll-once-spec : {M : Type 1} → statement M
 poll-once-spec =

@@ -1,5 +1,6 @@
 use native.Mathlib.Omega.{arith}
 use borrow.Author.Needs.{needs}
+use Rattle.store.proofs.Steps.{calmly, sends-one}
 use Rattle.store.proofs.writes.send.Statement.{statement}
 use Rattle.store.proofs.writes.send.Tie as tie
 use Rattle.store.proofs.writes.send.Reads as reads
@@ -33,7 +34,7 @@ same-length-2 c = search needs
 
 -- src/writes.rt:26:1
 returns : tie.Need-returns
-returns c = search needs
+returns c = sends-one (calmly (c .before .before .before .before .before .before .before .before .before .before .before .calm .ensures) (c .before .before .before .before .before .before .frame .ensures))
 
 pub send-spec : {M : Type 1} → statement M
 send-spec =
