@@ -1,7 +1,6 @@
 // What becomes of the bench where a line stores a station, finds one or asks for the list. specs/Lines.antt.
-mod desk;
+mod calls;
 mod lists;
-mod stub;
 
 use census::Counts;
 use expecting::Verdict;
@@ -178,7 +177,7 @@ fn store(
     let station = lists::station_of(slots);
     let allowance = lists::allowance_of(slots);
     let list = lists::list_of(slots, expected, known);
-    let r = desk::sent(
+    let r = calls::sent(
         b, station, slots, sent, allowance, &list, array, security, reply, marks,
     );
     let writes = lists::writes_ended(allowance, &list);
@@ -198,7 +197,7 @@ fn found_count(number: u8) -> usize
     if number == 0 { 28 } else { 0 }
 }
 
-fn find_judged(
+fn compared(
     p: Playing,
     l: Line,
     expected: &[u8],
@@ -228,6 +227,21 @@ fn find_judged(
     )
 }
 
+// What was found is known.
+fn find_judged(
+    p: Playing,
+    l: Line,
+    expected: &[u8],
+    known: &[u8],
+    number: u8,
+    bytes: &[u8; 28],
+) -> Verdict
+    ensures { λ v. ⌜ FindJudged p l (now (expected .entry)) (now (known .entry)) number (now (bytes .entry)) v ⌝ }
+{
+    let sure = [1u8; 28];
+    compared(p, l, expected, known, number, bytes, &sure)
+}
+
 fn find(
     p: Playing,
     l: Line,
@@ -244,10 +258,9 @@ fn find(
     let slots = l.slots;
     let station = lists::station_of(slots);
     let mut bytes = [0u8; 28];
-    let sure = [1u8; 28];
-    let r = desk::found(b, station, &mut bytes, array, security, reply, marks);
+    let r = calls::found(b, station, &mut bytes, array, security, reply, marks);
     let chip = r.chip;
-    let v = find_judged(p, l, expected, known, r.number, &bytes, &sure);
+    let v = find_judged(p, l, expected, known, r.number, &bytes);
     let playing = ended(p, r.number, chip, v);
     let account = account_of(r.polls, 0, bytes, v);
     Called { playing, account }
@@ -311,7 +324,7 @@ fn stations(
     ensures { λ r. ⌜ StationsPlayed p (now (array .entry)) (now (security .entry)) (now (reply .entry)) (now (marks .entry)) r (now (array .exit)) (now (security .exit)) (now (reply .exit)) (now (marks .exit)) ⌝ }
 {
     let b = p.bench;
-    let number = desk::shown(b, array, security, reply, marks);
+    let number = calls::shown(b, array, security, reply, marks);
     let playing = answered(p, number);
     if number == 0 {
         let account = list_shown(b.full, reply, marks);

@@ -8,7 +8,6 @@ use native.Mathlib.Decide.{ℕ-discrete}
 use lib.ListN.{getD}
 use Rattle.rules.specs.Words.{num, pick}
 use Rattle.stations.specs.Slots.{Shown, someBelow, thoseFrom, empty, live, dead, station, liveOf, passedOver}
-use Rattle.stations.proofs.Next.{those-next, those-end}
 use Rattle.census.specs.declared.Counts.{Counts}
 use Rattle.census.specs.Census.{countBelow, countsBelow}
 
@@ -105,6 +104,16 @@ module _ (v : Shown) (i : ℕ) {b : Bool} (is : b ≡ live v i) where
       flip false h = sym h
 
 -- ---- the k-th of those at which a test holds
+
+those-next : (t : ℕ → Bool) (n i : ℕ) → i < n → thoseFrom t i (n - i) ≡ pick (t i) (i ∷ thoseFrom t (i + 1) (n - (i + 1))) (thoseFrom t (i + 1) (n - (i + 1)))
+unfolding thoseFrom
+those-next t n i h =
+    let e : n - i ≡ suc (n - (i + 1)) = omega arith in
+    ap (thoseFrom t i) e ∙ ap (λ (k : ℕ). pick (t i) (i ∷ thoseFrom t k (n - (i + 1))) (thoseFrom t k (n - (i + 1)))) (one-more i)
+
+those-end : (t : ℕ → Bool) (n i : ℕ) → n ≤ i → thoseFrom t i (n - i) ≡ []
+unfolding thoseFrom
+those-end t n i h = let z : n - i ≡ 0 = omega arith in ap (thoseFrom t i) z
 
 module _ (t : ℕ → Bool) (d n i k : ℕ) (below : i < n) where
   pub nth-hit : t i ≡ true → k ≡ 0 → i ≡ getD (thoseFrom t i (n - i)) k d

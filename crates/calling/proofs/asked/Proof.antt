@@ -1,3 +1,4 @@
+-- By what the line asks for. Assumes nothing.
 use native.Mathlib.Omega.{arith}
 use borrow.Author.Needs.{needs}
 use Rattle.calling.proofs.asked.Statement.{statement}
@@ -7,73 +8,56 @@ use Rattle.calling.proofs.asked.Lts as lts
 use Rattle.script.proofs.line_of.Reads as line-of-reads
 use Rattle.standing.proofs.deed_of.Reads as deed-of-reads
 
--- src/lib.rt:58:9
 returns : tie.Need-returns
 returns c = search needs
 
--- src/lib.rt:60:9
 line-of-requires : tie.Need-line-of-requires
 line-of-requires c κs = search needs
 
--- src/lib.rt:61:9
 deed-of-requires : tie.Need-deed-of-requires
 deed-of-requires c κs = search needs
 
--- src/lib.rt:63:26
 enum-told : tie.Need-enum-told
 enum-told c = search needs
 
--- src/lib.rt:64:27
 enum-told-2 : tie.Need-enum-told-2
 enum-told-2 c = search needs
 
--- src/lib.rt:65:29
 enum-told-3 : tie.Need-enum-told-3
 enum-told-3 c = search needs
 
--- src/lib.rt:66:30
 enum-told-4 : tie.Need-enum-told-4
 enum-told-4 c = search needs
 
--- src/lib.rt:67:26
 enum-told-5 : tie.Need-enum-told-5
 enum-told-5 c = search needs
 
--- src/lib.rt:68:20
 enum-known-deed : tie.Need-enum-known-deed
 enum-known-deed c = search needs
 
--- src/lib.rt:69:24
 enum-told-6 : tie.Need-enum-told-6
 enum-told-6 c = search needs
 
--- src/lib.rt:53:1
 returns-2 : tie.Need-returns-2
-returns-2 c = search needs
+returns-2 c = rw (c .before .before .before .before .if1 .left, ← c .before .before .before .line-of .ensures, ← c .before .before .deed-of .ensures, c .enum-told .given .1)
 
--- src/lib.rt:53:1
 returns-3 : tie.Need-returns-3
-returns-3 c = search needs
+returns-3 c = rw (c .before .before .before .before .if1 .left, ← c .before .before .before .line-of .ensures, ← c .before .before .deed-of .ensures, c .enum-told2 .given .1)
 
--- src/lib.rt:53:1
 returns-4 : tie.Need-returns-4
-returns-4 c = search needs
+returns-4 c = rw (c .before .before .before .before .if1 .left, ← c .before .before .before .line-of .ensures, ← c .before .before .deed-of .ensures, c .enum-told3 .given .1)
 
--- src/lib.rt:53:1
 returns-5 : tie.Need-returns-5
-returns-5 c = search needs
+returns-5 c = rw (c .before .before .before .before .if1 .left, ← c .before .before .before .line-of .ensures, ← c .before .before .deed-of .ensures, c .enum-told4 .given .1)
 
--- src/lib.rt:53:1
 returns-6 : tie.Need-returns-6
-returns-6 c = search needs
+returns-6 c = rw (c .before .before .before .before .if1 .left, ← c .before .before .before .line-of .ensures, ← c .before .before .deed-of .ensures, c .enum-told5 .given .1)
 
--- src/lib.rt:53:1
 returns-7 : tie.Need-returns-7
-returns-7 c = search needs
+returns-7 c = rw (c .before .before .before .before .before .if1 .left, ← c .before .before .before .before .line-of .ensures, ← c .before .before .before .deed-of .ensures, c .before .deed .given .1)
 
--- src/lib.rt:53:1
 returns-8 : tie.Need-returns-8
-returns-8 c = search needs
+returns-8 c = rw (c .before .before .before .before .if1 .left, ← c .before .before .before .line-of .ensures, ← c .before .before .deed-of .ensures, c .enum-told6 .given .1)
 
 pub asked-spec : {M : Type 1} → statement M
 asked-spec =

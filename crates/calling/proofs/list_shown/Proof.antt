@@ -1,3 +1,6 @@
+-- Of both as much as the list has. Assumes nothing.
+use mathlib.Core.Path.{sym, _∙_}
+use lib.Seq.{length-take-le}
 use native.Mathlib.Omega.{arith}
 use borrow.Author.Needs.{needs}
 use Rattle.calling.proofs.list_shown.Statement.{statement}
@@ -7,29 +10,23 @@ use Rattle.calling.proofs.list_shown.Lts as lts
 use Rattle.calling.proofs.account_shown.Reads as account-shown-reads
 use Rattle.rules.proofs.plain.smaller.Reads as smaller-reads
 
--- src/lib.rt:299:9
 smaller-requires : tie.Need-smaller-requires
 smaller-requires c κs = search needs
 
--- src/lib.rt:300:9
 smaller-requires-2 : tie.Need-smaller-requires-2
 smaller-requires-2 c κs = search needs
 
--- src/lib.rt:301:25
 slice-aggregate-account-shown : tie.Need-slice-aggregate-account-shown
-slice-aggregate-account-shown c = search needs
+slice-aggregate-account-shown c = sym (length-take-le _ _ (omega (arith, c .before .before .smaller .ensures)))
 
--- src/lib.rt:301:38
 slice-aggregate-account-shown-2 : tie.Need-slice-aggregate-account-shown-2
-slice-aggregate-account-shown-2 c = search needs
+slice-aggregate-account-shown-2 c = sym (length-take-le _ _ (omega (arith, c .before .before .smaller2 .ensures)))
 
--- src/lib.rt:301:5
 account-shown-requires : tie.Need-account-shown-requires
-account-shown-requires c κs = search needs
+account-shown-requires c κs = let e = c .before .before .before .smaller .ensures in let z = c .before .before .before .before .before .before .pre .0 in length-take-le (c .before .before .before .smaller .result) (c .before .before .before .before .before .before .args .reply .now) (omega arith) ∙ e ∙ omega arith
 
--- src/lib.rt:295:1
 returns : tie.Need-returns
-returns c = search needs
+returns c = rw (← c .before .before .before .before .smaller .ensures, ← c .before .before .before .smaller2 .ensures) (c .account-shown .ensures)
 
 pub list-shown-spec : {M : Type 1} → statement M
 list-shown-spec =

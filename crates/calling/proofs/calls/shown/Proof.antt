@@ -1,12 +1,12 @@
 -- The event of the line that reads the list. Assumes nothing.
-use Rattle.calling.proofs.Reads.{shown-is}
+use Rattle.calling.proofs.Copies.{shown-is}
 use native.Mathlib.Omega.{arith}
 use borrow.Author.Needs.{needs}
-use Rattle.calling.proofs.desk.shown.Statement.{statement}
-use Rattle.calling.proofs.desk.shown.Tie as tie
-use Rattle.calling.proofs.desk.shown.Reads as reads
-use Rattle.calling.proofs.desk.shown.Lts as lts
-use Rattle.calling.proofs.desk.read_line.Reads as read-line-reads
+use Rattle.calling.proofs.calls.shown.Statement.{statement}
+use Rattle.calling.proofs.calls.shown.Tie as tie
+use Rattle.calling.proofs.calls.shown.Reads as reads
+use Rattle.calling.proofs.calls.shown.Lts as lts
+use Rattle.calling.proofs.calls.read_line.Reads as read-line-reads
 use Rattle.chip.proofs.answer_number.Reads as answer-number-reads
 use Rattle.lending.proofs.happened.Reads as happened-reads
 
@@ -36,7 +36,7 @@ same-length-4 c = search needs
 
 returns : tie.Need-returns
 returns c = let a = c .before .before .before .before .before .before .before .before .before .before .before .before .before .before .before .before .before .before .before .before .args in
-    shown-is (a .b) (a .array .now) (a .security .now) (a .reply .now) (a .marks .now) (c .before .before .before .before .before .before .before .before .before .before .before .before .before .before .before .read-line .ensures) _ (c .answer-number .ensures) _ _ _ _ (c .before .before .before .before .before .before .before .before .before .happened .ensures)
+    shown-is (a .b) (a .array .now) (a .security .now) (a .reply .now) (a .marks .now) (c .before .before .before .before .before .before .before .before .before .before .before .before .before .before .before .read-line .ensures) (c .before .before .before .before .before .before .before .before .before .happened .result) (c .answer-number .ensures) _ _ _ _ (c .before .before .before .before .before .before .before .before .before .happened .ensures)
 
 pub shown-spec : {M : Type 1} → statement M
 shown-spec =

@@ -1,5 +1,4 @@
 // The calls on what the bench lends. specs/Calls.antt.
-use crate::stub;
 use meanings::put_text;
 use rules::plain::smaller;
 use script::Line;
@@ -39,7 +38,7 @@ fn stored(
     let s = smaller(b.security, security.len());
     let n = smaller(65536, reply.len());
     let m = smaller(65536, marks.len());
-    stub::store(
+    store::store(
         opened(b),
         &mut array[..a],
         &mut security[..s],
@@ -90,7 +89,7 @@ pub fn found(
     let s = smaller(b.security, security.len());
     let n = smaller(65536, reply.len());
     let m = smaller(65536, marks.len());
-    stub::lookup(
+    store::lookup(
         opened(b),
         &mut array[..a],
         &mut security[..s],

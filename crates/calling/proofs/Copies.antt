@@ -10,8 +10,7 @@ use Rattle.rules.specs.declared.After.{After}
 use Rattle.rules.specs.Words.{pick, Lent, lent}
 use Rattle.rules.specs.Numbers.{State, answerNumber}
 use Rattle.rules.specs.Registers.{busy}
-use Rattle.rules.specs.Machine.{Outcome, frame, stops}
-use Rattle.rules.specs.Promises.{Frame}
+use Rattle.rules.specs.Machine.{Outcome}
 use Rattle.rules.proofs.Promises.{lent-one}
 use Rattle.rules.proofs.Tears.{frames-leave}
 use Rattle.meanings.specs.Meanings.{over}
@@ -41,11 +40,13 @@ module _ (b : Bench) (A S R M : List ℕ) where
   o = outcome Event.Frame b readLine A S readBytes R M
 
   leaves : (o .array ≡ stateLent b A S .array) × (o .security ≡ stateLent b A S .security)
+  unfolding o
   leaves = frames-leave (stateLent b A S) _ (ap (λ (t : Bool). t && busy (b .chip .rest)) (neither (eqb (o .number) 0)))
 
   pub shown-is : {l : Line} → l ≡ readLine → (after : After) {n : ℕ} → n ≡ answerNumber (after .answer) → (A′ S′ R′ M′ : List ℕ)
       → Happened (outcome Event.Frame b l A S readBytes R M) (answerNumber (after .answer)) (after .chip) A S R M A′ S′ R′ M′
       → Shown b A S R M n A′ S′ R′ M′
+  unfolding o
   shown-is {l} e after q A′ S′ R′ M′ p =
       let h = subst (λ (x : Line). Happened (outcome Event.Frame b x A S readBytes R M) (answerNumber (after .answer)) (after .chip) A S R M A′ S′ R′ M′) e p in
       record {

@@ -4,12 +4,11 @@ use lib.Seq.{length-take-le}
 use Rattle.calling.proofs.Desks.{stored-is}
 use native.Mathlib.Omega.{arith}
 use borrow.Author.Needs.{needs}
-use Rattle.calling.proofs.desk.stored.Statement.{statement}
-use Rattle.calling.proofs.desk.stored.Tie as tie
-use Rattle.calling.proofs.desk.stored.Reads as reads
-use Rattle.calling.proofs.desk.stored.Lts as lts
-use Rattle.calling.proofs.desk.opened.Reads as opened-reads
-use Rattle.calling.proofs.stub.store.Reads as store-reads
+use Rattle.calling.proofs.calls.stored.Statement.{statement}
+use Rattle.calling.proofs.calls.stored.Tie as tie
+use Rattle.calling.proofs.calls.stored.Reads as reads
+use Rattle.calling.proofs.calls.stored.Lts as lts
+use Rattle.calling.proofs.calls.opened.Reads as opened-reads
 use Rattle.rules.proofs.plain.smaller.Reads as smaller-reads
 
 smaller-requires : tie.Need-smaller-requires

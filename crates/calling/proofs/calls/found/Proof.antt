@@ -4,12 +4,11 @@ use lib.Seq.{length-take-le}
 use Rattle.calling.proofs.Desks.{found-is}
 use native.Mathlib.Omega.{arith}
 use borrow.Author.Needs.{needs}
-use Rattle.calling.proofs.desk.found.Statement.{statement}
-use Rattle.calling.proofs.desk.found.Tie as tie
-use Rattle.calling.proofs.desk.found.Reads as reads
-use Rattle.calling.proofs.desk.found.Lts as lts
-use Rattle.calling.proofs.desk.opened.Reads as opened-reads
-use Rattle.calling.proofs.stub.lookup.Reads as lookup-reads
+use Rattle.calling.proofs.calls.found.Statement.{statement}
+use Rattle.calling.proofs.calls.found.Tie as tie
+use Rattle.calling.proofs.calls.found.Reads as reads
+use Rattle.calling.proofs.calls.found.Lts as lts
+use Rattle.calling.proofs.calls.opened.Reads as opened-reads
 use Rattle.rules.proofs.plain.smaller.Reads as smaller-reads
 
 smaller-requires : tie.Need-smaller-requires
