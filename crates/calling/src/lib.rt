@@ -4,6 +4,8 @@ mod lists;
 
 use census::Counts;
 use expecting::Verdict;
+pub use lists::allowance_of;
+pub use lists::station_of;
 use rules::Chip;
 use rules::plain::smaller;
 use script::Line;
