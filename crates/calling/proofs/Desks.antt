@@ -29,7 +29,7 @@ module _ (b : Bench) (A S R M : List ℕ) {a s n m : ℕ} (ea : a ≡ min (b .ar
       record {
         desk = deskOf A′ S′ R′ M′;
         promise = subst (λ (x : StoreRecord). StorePromise x (lentDesk b A S R M) k D w L r (deskOf A′ S′ R′ M′)) eq
-        (subst (λ (d : Desk). StorePromise q d k D w L r (deskOf A′ S′ R′ M′)) desk-is p);
+            (subst (λ (d : Desk). StorePromise q d k D w L r (deskOf A′ S′ R′ M′)) desk-is p);
         left = left-is A′ S′ R′ M′;
       }
 
@@ -40,6 +40,6 @@ module _ (b : Bench) (A S R M : List ℕ) {a s n m : ℕ} (ea : a ≡ min (b .ar
       record {
         desk = deskOf A′ S′ R′ M′;
         promise = subst (λ (x : StoreRecord). LookupPromise x (lentDesk b A S R M) k B r (deskOf A′ S′ R′ M′) B′) eq
-        (subst (λ (d : Desk). LookupPromise q d k B r (deskOf A′ S′ R′ M′) B′) desk-is p);
+            (subst (λ (d : Desk). LookupPromise q d k B r (deskOf A′ S′ R′ M′) B′) desk-is p);
         left = left-is A′ S′ R′ M′;
       }

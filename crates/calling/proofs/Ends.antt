@@ -28,8 +28,8 @@ module _ (p : Playing) (l : Line) (A S E K R M A′ S′ R′ M′ : List ℕ) (
       (λ i. calledOf (sym is i) (sym (e ∙ ap (λ (x : ℕ). accountOf (q .polls) x noBytes v noCounts 0) (en ∙ (λ j. writesEnded (ew j) (eL j)))) i))
       (record {
         stored = subst (λ (x : List ℕ). Stored (p .bench) (stationOf (l .slots)) (dataOf (l .slots) F) (allowanceOf (l .slots)) x A S R M q A′ S′ R′ M′) eL
-        (subst (λ (x : ℕ). Stored (p .bench) (stationOf (l .slots)) (dataOf (l .slots) F) x L A S R M q A′ S′ R′ M′) ew
-        (subst (λ (x : ℕ). Stored (p .bench) x (dataOf (l .slots) F) w L A S R M q A′ S′ R′ M′) ek h));
+            (subst (λ (x : ℕ). Stored (p .bench) (stationOf (l .slots)) (dataOf (l .slots) F) x L A S R M q A′ S′ R′ M′) ew
+            (subst (λ (x : ℕ). Stored (p .bench) x (dataOf (l .slots) F) w L A S R M q A′ S′ R′ M′) ek h));
         judged = j;
         is = refl;
       })

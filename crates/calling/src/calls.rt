@@ -69,9 +69,29 @@ pub fn sent(
     if (slots[9] != 0) & (bytes.len() <= 28) {
         let mut text = [0x20u8; 28];
         put_text(&mut text, bytes);
-        return stored(b, station, &text, allowance, list, array, security, reply, marks);
+        return stored(
+            b,
+            station,
+            &text,
+            allowance,
+            list,
+            array,
+            security,
+            reply,
+            marks,
+        );
     }
-    stored(b, station, bytes, allowance, list, array, security, reply, marks)
+    stored(
+        b,
+        station,
+        bytes,
+        allowance,
+        list,
+        array,
+        security,
+        reply,
+        marks,
+    )
 }
 
 pub fn found(

@@ -180,7 +180,16 @@ fn store(
     let allowance = lists::allowance_of(slots);
     let list = lists::list_of(slots, expected, known);
     let r = calls::sent(
-        b, station, slots, sent, allowance, &list, array, security, reply, marks,
+        b,
+        station,
+        slots,
+        sent,
+        allowance,
+        &list,
+        array,
+        security,
+        reply,
+        marks,
     );
     let writes = lists::writes_ended(allowance, &list);
     let chip = r.chip;

@@ -83,15 +83,7 @@ fn stations(line: u64, number: u8, c: Counts) -> Row
     rows::form(r, 21, number as u64, 0, 0)
 }
 
-pub fn row(
-    k: Call,
-    line: u64,
-    n: u16,
-    number: u8,
-    a: Account,
-    reply: &[u8],
-    marks: &[u8],
-) -> Row
+pub fn row(k: Call, line: u64, n: u16, number: u8, a: Account, reply: &[u8], marks: &[u8]) -> Row
     requires { ⌜ length (now reply) ≡ listSize ⌝ }
     ensures { λ q. ⌜ q ≡ headRow k line n number a (shownIn (now (reply .entry)) (now (marks .entry))) ⌝ }
 {
