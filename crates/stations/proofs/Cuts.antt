@@ -1,12 +1,11 @@
 -- A power cut at any moment of a store: nothing runs, and the list is that of the writes so far, or one frame runs, and the list is in the middle of the store. Assumes nothing.
-use Prim.Native.Nat.{ℕ, _/_, _≤_}
+use Prim.Native.Nat.{ℕ, _/_, _<_}
 use mathlib.Core.Path.{_≡_, refl, sym, ap, ap₂, _∙_}
 use mathlib.Core.Bool.{Bool, true, false}
 use mathlib.Core.List.{List, []}
 use mathlib.Core.Logic.{_⊎_, inl, inr}
-use native.Mathlib.Omega.{arith}
 use lib.Dec.{eqb}
-use lib.ListN.{length, getD, take}
+use lib.ListN.{getD, take}
 use Rattle.rules.specs.declared.Range.{Range}
 use Rattle.rules.specs.declared.Tear.{Tear}
 use Rattle.rules.specs.declared.Work.{Work}
@@ -19,22 +18,19 @@ use Rattle.rules.specs.Fields.{chipOf}
 use Rattle.rules.specs.Commands.{settledFirst, afterCut}
 use Rattle.rules.specs.Numbers.{State, first, cutTests}
 use Rattle.rules.specs.Machine.{workedArray, workedSecurity, cutChip, powerCut, left}
-use Rattle.rules.proofs.Blocks.{holds-at}
-use Rattle.rules.proofs.TornBytes.{finish-same}
-use Rattle.stations.specs.Slots.{Shown, dataSize, found}
-use Rattle.stations.specs.Keeping.{shownAt, Storable, AtRest, CutKeeps, StoreCut, Stays, CutStays}
-use Rattle.stations.proofs.Midway.{livesOf}
+use Rattle.stations.specs.Slots.{Shown, found}
+use Rattle.stations.specs.Keeping.{shownAt, Storable, AtRest, OneOfItsOwn, CutKeeps, StoreCut, Stays, CutStays}
+use Rattle.stations.specs.Records.{storeFrames}
 use Rattle.stations.proofs.Same.{alike-found}
 use Rattle.stations.proofs.Programmed.{stoppedBy, programmedAll}
 use Rattle.stations.proofs.Shown.{listOf}
-use Rattle.stations.proofs.Torn.{torn-stays, torn-others, torn-itself}
-use Rattle.stations.proofs.Passing.{suspended, running, framesOf, Written, OnFrame, Passes, StorePasses, shown-as, written-stays}
-use Rattle.stations.proofs.Keeping.{written-others, written-either}
+use Rattle.stations.proofs.Frames.{finish-nowhere}
+use Rattle.stations.proofs.Torn.{torn-stays, torn-others, torn-own}
+use Rattle.stations.proofs.Passing.{suspended, running, Written, OnFrame, Passes, store-passes, shown-as, written-stays}
+use Rattle.stations.proofs.Keeping.{written-others, written-own}
+use Rattle.stations.proofs.Own.{own-alike, own-kept, own-either}
 
 -- ---- what a cut makes of a state
-
-finish-nowhere : (w : Work) (b : List ℕ) (t : Tear) (mem : Lent) → finish w nowhere b t mem ≡ mem
-finish-nowhere w b t mem = finish-same w nowhere b t mem (λ a h. let k = holds-at nowhere a h in absurd (omega arith))
 
 module _ (t : State) (tear : Tear) where
   abbrev after : State
@@ -78,7 +74,7 @@ module _ (s t : State) (n : ℕ) (bytes : List ℕ) (tear : Tear) (rest : AtRest
 
   -- the memory and the list where the frame under way is cut
   abbrev memory : Lent
-  memory = stoppedBy tear (getD (framesOf s n bytes) w []) (programmedAll (take w (framesOf s n bytes)) (s .array))
+  memory = stoppedBy tear (getD (storeFrames s n bytes) w []) (programmedAll (take w (storeFrames s n bytes)) (s .array))
 
   abbrev x : Shown
   x = listOf 0 (arrayRange (suspended s)) memory
@@ -109,7 +105,7 @@ module _ (s t : State) (n : ℕ) (bytes : List ℕ) (tear : Tear) (rest : AtRest
           from (inr y) =
               torn f
               (y ∙ ap (λ (w : Work). finish w (arrayRange w) (t .chip .buffer) tear (t .array)) (f .runs)
-              ∙ ap₂ (λ (b : List ℕ) (l : Lent). finish (ProgramPage (address (getD (framesOf s n bytes) w []) / 256)) (arrayRange (ProgramPage (address (getD (framesOf s n bytes) w []) / 256))) b tear l)
+              ∙ ap₂ (λ (b : List ℕ) (l : Lent). finish (ProgramPage (address (getD (storeFrames s n bytes) w []) / 256)) (arrayRange (ProgramPage (address (getD (storeFrames s n bytes) w []) / 256))) b tear l)
               (f .buffer) (g .written .array))
               (ap securityRange (f .runs))
 
@@ -129,37 +125,34 @@ module _ (s t : State) (n : ℕ) (bytes : List ℕ) (tear : Tear) (rest : AtRest
       }
 
   -- the frame under way cut: the list then
-  torn-found : u .array ≡ memory → (q : ℕ)
-      → found (shownAt u) q ≡ found x q
-  torn-found e q =
-      alike-found x (shownAt u) q
-      (λ p h. sym (shown-as u (arrayRange (suspended s)) memory 0
-      (ap arrayRange (cut-drops t tear waits ∙ sym (rest .none-suspended))) e p h))
+  torn-shown : u .array ≡ memory → (p : ℕ) → p < 65536 → x p ≡ shownAt u p
+  torn-shown e p h = sym (shown-as u (arrayRange (suspended s)) memory 0 (ap arrayRange (cut-drops t tear waits ∙ sym (rest .none-suspended))) e p h)
 
-  pub passing-keeps : Storable n bytes → length bytes ≡ dataSize → CutKeeps s (left (powerCut t tear)) n bytes
+  torn-found : u .array ≡ memory → (q : ℕ) → found (shownAt u) q ≡ found x q
+  torn-found e q = alike-found x (shownAt u) q (torn-shown e)
+
+  keeps : ((q : ℕ) → (q ≡ n → ⊥) → found (shownAt u) q ≡ found (shownAt s) q) → OneOfItsOwn (shownAt s) (shownAt u) n bytes → CutKeeps s u n bytes
+  keeps a o = record { others = a; one-of-its-own = o; never-lost = own-kept (shownAt s) n bytes (shownAt u) o; itself = own-either (shownAt s) n bytes (shownAt u) o }
+
+  pub passing-keeps : Storable n bytes → CutKeeps s (left (powerCut t tear)) n bytes
   unfolding shownAt listOf
-  passing-keeps right long = go cut-is
+  passing-keeps right = go cut-is
     where
       go : Cut → CutKeeps s u n bytes
       go (unchanged e h) =
-          let k = still-written e h in
-          record { others = written-others s u n bytes w k (rest .of-bytes) right; itself = written-either s u n bytes w k (rest .of-bytes) right }
-      go (torn f e h) = record { others = λ q ne. torn-found e q ∙ apart q ne; itself = λ few. turn (either few) }
+          let k = still-written e h in keeps (written-others s u n bytes w k (rest .of-bytes) right) (written-own s u n bytes w k (rest .of-bytes) right)
+      go (torn f e h) = keeps (λ q ne. torn-found e q ∙ apart q ne) (own-alike (shownAt s) n bytes x (shownAt u) (torn-shown e) own)
         where
           apart : (q : ℕ) → (q ≡ n → ⊥)
               → found x q ≡ found (shownAt s) q
-          apart = torn-others (s .chip .rest .locks .protection) (arrayRange (suspended s)) (s .array) (rest .of-bytes) n bytes long (f .room) right w (f .more) tear 0
+          apart = torn-others (s .chip .rest .locks .protection) (arrayRange (suspended s)) (s .array) (rest .of-bytes) n bytes (f .long) (f .room) right w (f .more) tear 0
 
-          either : length (livesOf (shownAt s) n) ≤ 1 → (found x n ≡ found (shownAt s) n) ⊎ (found x n ≡ bytes)
-          either = torn-itself (s .chip .rest .locks .protection) (arrayRange (suspended s)) (s .array) (rest .of-bytes) n bytes long (f .room) right w (f .more) tear 0
+          own : OneOfItsOwn (shownAt s) x n bytes
+          own = torn-own (s .chip .rest .locks .protection) (arrayRange (suspended s)) (s .array) (rest .of-bytes) n bytes (f .long) (f .room) right w (f .more) tear 0
 
-          turn : (found x n ≡ found (shownAt s) n) ⊎ (found x n ≡ bytes) → (found (shownAt u) n ≡ found (shownAt s) n) ⊎ (found (shownAt u) n ≡ bytes)
-          turn (inl y) = inl (torn-found e n ∙ y)
-          turn (inr y) = inr (torn-found e n ∙ y)
-
-  pub passing-stays : length bytes ≡ dataSize → Stays (shownAt s) n s (left (powerCut t tear))
+  pub passing-stays : Stays (shownAt s) n s (left (powerCut t tear))
   unfolding shownAt listOf
-  passing-stays long = go cut-is
+  passing-stays = go cut-is
     where
       go : Cut → Stays (shownAt s) n s u
       go (unchanged e h) = let k = still-written e h in record { array = written-stays s u n bytes w k (rest .of-bytes); security = k .security }
@@ -167,17 +160,16 @@ module _ (s t : State) (n : ℕ) (bytes : List ℕ) (tear : Tear) (rest : AtRest
           record {
             array = λ a out.
                 ap (λ (l : Lent). l .byte a) e
-                ∙ torn-stays (s .chip .rest .locks .protection) (arrayRange (suspended s)) (s .array) (rest .of-bytes) n bytes long (f .room) w a (f .more) out tear;
+                ∙ torn-stays (s .chip .rest .locks .protection) (arrayRange (suspended s)) (s .array) (rest .of-bytes) n bytes (f .long) (f .room) w a (f .more) out tear;
             security = cut-security t tear h ∙ g .written .security;
           }
 
--- ---- the joins
+-- ---- the theorems
 
-module _ (passes : StorePasses) where
-  pub store-cut : StoreCut
-  store-cut s t reply marks n bytes allowance list k m right long rest among h =
-      passing-keeps s t n bytes (tearOf k m) rest (passes s t reply marks n bytes allowance list long among) right long
+pub store-cut : StoreCut
+store-cut s t reply marks n bytes allowance list k m right rest among =
+    passing-keeps s t n bytes (tearOf k m) rest (store-passes s reply marks n bytes allowance list t among) right
 
-  pub cut-stays : CutStays
-  cut-stays s t reply marks n bytes allowance list k m long rest among h =
-      passing-stays s t n bytes (tearOf k m) rest (passes s t reply marks n bytes allowance list long among) long
+pub cut-stays : CutStays
+cut-stays s t reply marks n bytes allowance list k m rest among =
+    passing-stays s t n bytes (tearOf k m) rest (store-passes s reply marks n bytes allowance list t among)

@@ -1,6 +1,6 @@
--- A call sends only the frames of the store, since each of its frames is written into its program; and a call is the run of the events that it makes, by induction over the program. Assumes nothing.
+-- A call sends only the frames of the store, since each of its frames is written into its program; and a call is the run of the events that it makes, with a moment before and after each, by induction over the program. Assumes nothing.
 use Prim.Native.Nat.{ℕ, zero, suc, _+_}
-use mathlib.Core.Path.{refl}
+use mathlib.Core.Path.{refl, ap}
 use mathlib.Core.Bool.{Bool, true, false}
 use mathlib.Core.List.{List, [], _∷_}
 use lib.Dec.{eqb, ltb}
@@ -10,8 +10,8 @@ use Rattle.rules.specs.Numbers.{State}
 use Rattle.rules.specs.Machine.{Outcome, completes, step, left}
 use Rattle.stations.specs.Slots.{Shown, slotCount, thoseFrom, liveOf, slotOf, freeSlot}
 use Rattle.stations.specs.Plans.{Plan, refused, writing, programAt, clearings, storingAt, storing, lookingUp}
-use Rattle.stations.specs.Calls.{Script, ends, does, played, made, short, onDone, arriving, polling, write, writes, reading, shownBy, carriedOut, calling, storeRight, lookupRight, storeCall, lookupCall}
-use Rattle.stations.specs.Keeping.{OfStore, a-read, a-latch, a-write, a-poll, a-completion, CallsSendOnly, CallsAreRuns}
+use Rattle.stations.specs.Calls.{Script, ends, does, played, moments, made, short, onDone, arriving, polling, write, writes, reading, shownBy, carriedOut, calling, storeRight, lookupRight, storeCall, lookupCall}
+use Rattle.stations.specs.Keeping.{OfStore, a-read, a-latch, a-write, a-poll, a-completion, CallsSendOnly, CallsAreRuns, MomentsAreRuns}
 
 -- ---- the frames of the writes
 
@@ -111,3 +111,8 @@ pub calls-are-runs : CallsAreRuns
 unfolding played made
 calls-are-runs s (ends number polls) = refl
 calls-are-runs s (does e more) = calls-are-runs (left (step s e)) (more (step s e))
+
+pub moments-are-runs : MomentsAreRuns
+unfolding moments made
+moments-are-runs s (ends number polls) = refl
+moments-are-runs s (does e more) = ap (λ (l : List State). s ∷ l) (moments-are-runs (left (step s e)) (more (step s e)))

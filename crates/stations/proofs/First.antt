@@ -59,6 +59,13 @@ first-some t n x h e = go (firstFrom t 0 n) (first-is t 0 n) (ltb (firstFrom t 0
     go f r true p = ltb-true f n p
     go f r false p = let k = ltb-false f n p in absurd (true≢false (sym e ∙ r .below x (omega arith) (omega arith)))
 
+pub first-none : (t : ℕ → Bool) (i n : ℕ) → ((y : ℕ) → i ≤ y → y < i + n → t y ≡ false) → firstFrom t i n ≡ i + n
+first-none t i n none = go (firstFrom t i n) (first-is t i n) (ltb (firstFrom t i n) (i + n)) refl
+  where
+    go : (f : ℕ) → FirstIs t i n f → (a : Bool) → ltb f (i + n) ≡ a → f ≡ i + n
+    go f r true p = let l = ltb-true f (i + n) p in absurd (true≢false (sym (r .hit l) ∙ none f (r .from) l))
+    go f r false p = let l = ltb-false f (i + n) p in let h = r .to in omega arith
+
 pub first-same : (t u : ℕ → Bool) (i n : ℕ) → ((y : ℕ) → i ≤ y → y < i + n → t y ≡ u y) → firstFrom t i n ≡ firstFrom u i n
 unfolding firstFrom
 first-same t u i zero h = refl
@@ -125,20 +132,25 @@ those-rise t i (suc n) j k d a h = go (t i) j k a h (λ j k. those-rise t (suc i
     go true (suc j) (suc k) a h f = f j k (omega arith) (omega arith)
     go false j k a h f = f j k a h
 
-pub those-once : (t : ℕ → Bool) (i n j k d : ℕ) → j < length (thoseFrom t i n) → k < length (thoseFrom t i n)
-    → getD (thoseFrom t i n) j d ≡ getD (thoseFrom t i n) k d → j ≡ k
-those-once t i n j k d a b e = go (ltb j k) (ltb k j) refl refl
-  where
-    go : (x y : Bool) → ltb j k ≡ x → ltb k j ≡ y → j ≡ k
-    go true y p q = let h = those-rise t i n j k d (ltb-true j k p) b in absurd (omega arith)
-    go false true p q = let h = those-rise t i n k j d (ltb-true k j q) a in absurd (omega arith)
-    go false false p q = let h = ltb-false j k p in let l = ltb-false k j q in omega arith
-
 pub those-same : (t u : ℕ → Bool) (i n : ℕ) → ((y : ℕ) → i ≤ y → y < i + n → t y ≡ u y) → thoseFrom t i n ≡ thoseFrom u i n
 unfolding thoseFrom
 those-same t u i zero h = refl
 those-same t u i (suc n) h =
     ap₂ (λ (b : Bool) (l : List ℕ). pick b (i ∷ l) l) (h i (omega arith) (omega arith)) (those-same t u (suc i) n (λ y a b. h y (omega arith) (omega arith)))
+
+pub those-hit : (t : ℕ → Bool) (i n : ℕ) → t i ≡ true → thoseFrom t i (suc n) ≡ i ∷ thoseFrom t (suc i) n
+unfolding thoseFrom
+those-hit t i n e = ap (λ (b : Bool). pick b (i ∷ thoseFrom t (suc i) n) (thoseFrom t (suc i) n)) e
+
+pub those-miss : (t : ℕ → Bool) (i n : ℕ) → t i ≡ false → thoseFrom t i (suc n) ≡ thoseFrom t (suc i) n
+unfolding thoseFrom
+those-miss t i n e = ap (λ (b : Bool). pick b (i ∷ thoseFrom t (suc i) n) (thoseFrom t (suc i) n)) e
+
+pub those-none : (t : ℕ → Bool) (i n : ℕ) → ((y : ℕ) → i ≤ y → y < i + n → t y ≡ false) → thoseFrom t i n ≡ []
+unfolding thoseFrom
+those-none t i zero h = refl
+those-none t i (suc n) h =
+    ap₂ (λ (b : Bool) (l : List ℕ). pick b (i ∷ l) l) (h i (omega arith) (omega arith)) (those-none t (suc i) n (λ y a b. h y (omega arith) (omega arith)))
 
 -- ---- membership by places
 

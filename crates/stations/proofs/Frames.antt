@@ -1,7 +1,7 @@
 -- The store's frames on a right record in SPI: each is done or refused by its tests, and then leaves what the rules say of its number. Assumes nothing.
 use Prim.Native.Nat.{ℕ, zero, suc, _+_, _*_, _/_, _%_, _^_, _≤_, _<_}
 use mathlib.Core.Path.{_≡_, refl, sym, ap, _∙_, subst}
-use mathlib.Core.Bool.{Bool, true, false, not, _&&_, _||_, true≢false}
+use mathlib.Core.Bool.{Bool, true, false, not, _&&_, _||_, and-false}
 use mathlib.Core.List.{List, [], _∷_}
 use native.Mathlib.Omega.{arith}
 use lib.Dec.{eqb, ltb}
@@ -10,6 +10,7 @@ use borrow.Author.Tests.{eq-eqb, ne-eqb, le-leb, lt-ltb}
 use Rattle.rules.specs.declared.Chip.{Chip}
 use Rattle.rules.specs.declared.Range.{Range}
 use Rattle.rules.specs.declared.Rest.{Rest}
+use Rattle.rules.specs.declared.Tear.{Tear}
 use Rattle.rules.specs.declared.Work.{Work}
 use Rattle.rules.specs.declared.Work.the-variants.{Nothing, ProgramPage}
 use Rattle.rules.specs.Words.{bit, num, pick, holds, nowhere, Lent}
@@ -25,7 +26,7 @@ use Rattle.rules.specs.Numbers.{State, Frame, stateRight, malformed, emptyFrame
 use Rattle.rules.specs.Machine.{Outcome, Event, sends, workedArray, workedSecurity, frame, completion, step, left}
 use Rattle.rules.specs.Cases.{stateAfter}
 use Rattle.rules.specs.Promises.{zeroed, carriedOf, frameOf}
-use Rattle.rules.proofs.Bools.{never, or-none, or-right}
+use Rattle.rules.proofs.Bools.{or-none, or-right}
 use Rattle.rules.proofs.Blocks.{holds-at}
 use Rattle.rules.proofs.Refusals.{frame-done-whole, frame-refused-more, completion-done-whole}
 use Rattle.rules.proofs.Numbers.{frame-given, completion-given}
@@ -33,6 +34,7 @@ use Rattle.rules.proofs.TornBytes.{finish-same}
 use Rattle.rules.proofs.Quick.{after-right}
 use Rattle.stations.specs.Plans.{programAt}
 use Rattle.stations.specs.Calls.{short}
+use Rattle.stations.specs.Records.{used}
 use Rattle.stations.proofs.Programmed.{programmed, list-block, frame-to}
 
 -- ---- every event keeps a right state
@@ -54,10 +56,6 @@ pub record Ready (s : State) : Type 0 where
 
 -- ---- tests of a frame that names one opcode
 
-and-false : (a : Bool) → (a && false) ≡ false
-and-false true = refl
-and-false false = refl
-
 -- beside nothing: a frame that neither erases nor programs
 pub beside-none : (a b : Bool) → (a && false || b && false) ≡ false
 beside-none true true = refl
@@ -73,9 +71,6 @@ stateOf c array security = record { chip = c; array = array; security = security
 
 -- ---- 05
 
-abbrev pub polled : State → State
-polled s = stateOf (chipOf (s .chip .buffer) (withEnable false (s .chip .rest))) (s .array) (s .security)
-
 poll-number : (s : State) → Wired s → frame s (framed (0x05 ∷ [])) .number ≡ 0
 unfolding frameTests commandTests formOf find frames
 poll-number s h =
@@ -84,7 +79,7 @@ poll-number s h =
 
 pub record Polled (s : State) (o : Outcome) : Type 0 where
   pub number : o .number ≡ 0
-  pub state : left o ≡ polled s
+  pub state : left o ≡ used s
   pub reads : bit 0 (o .reply .byte 0) ≡ busy (s .chip .rest)
 
 -- bit 0 of the status is BUSY
@@ -103,7 +98,7 @@ poll s h =
     record { number = poll-number s h; state = ap left e; reads = ap (λ (o : Outcome). bit 0 (o .reply .byte 0)) e ∙ status-busy (s .chip .rest) }
 
 -- where no 99 is taken next a poll changes nothing at all
-pub poll-leaves : (s : State) → s .chip .rest .flags .enable ≡ false → polled s ≡ s
+pub poll-leaves : (s : State) → s .chip .rest .flags .enable ≡ false → used s ≡ s
 poll-leaves s e = ap (λ (b : Bool). stateOf (chipOf (s .chip .buffer) (withEnable b (s .chip .rest))) (s .array) (s .security)) (sym e)
 
 -- ---- 06
@@ -192,14 +187,14 @@ unfolding step formOf find frames workedArray workedSecurity
 begins s p b bytes e = ap left (frame-done-whole s (framed (programAt p (b ∷ bytes))) e)
 
 -- refused: the enable is used up
-pub refuses : (s : State) (f : Frame) (n : ℕ) → 3 ≤ n → step s (sends f) .number ≡ n → left (step s (sends f)) ≡ polled s
+pub refuses : (s : State) (f : Frame) (n : ℕ) → 3 ≤ n → step s (sends f) .number ≡ n → left (step s (sends f)) ≡ used s
 unfolding step
 refuses s f n h e = ap left (frame-refused-more s f n h e)
 
 -- ---- its completion
 
-pub nowhere-holds : (a : ℕ) → holds nowhere a ≡ false
-nowhere-holds a = never (holds nowhere a) (λ e. let h = holds-at nowhere a e in omega arith)
+pub finish-nowhere : (w : Work) (b : List ℕ) (t : Tear) (mem : Lent) → finish w nowhere b t mem ≡ mem
+finish-nowhere w b t mem = finish-same w nowhere b t mem (λ a h. let k = holds-at nowhere a h in absurd (omega arith))
 
 abbrev pub ended : List ℕ → State → State
 ended f s = stateOf (chipOf blank (withRunning Nothing (withWel false (withEnable false (s .chip .rest))))) (programmed f (s .array)) (s .security)
@@ -212,4 +207,4 @@ completes-page s f r w = (number, ap left (completion-done-whole (begun f s) num
     number = completion-given (begun f s) .is-0 .1 (r, refl)
 
     security : finish (pageOf f) nowhere (pageBuffer f) all (s .security) ≡ s .security
-    security = finish-same (pageOf f) nowhere (pageBuffer f) all (s .security) (λ a e. absurd (true≢false (sym e ∙ nowhere-holds a)))
+    security = finish-nowhere (pageOf f) (pageBuffer f) all (s .security)

@@ -4,7 +4,7 @@ use Prim.Native.Nat.{ℕ, _+_, _-_, _*_, _≤_, _<_}
 use mathlib.Core.Path.{_≡_, refl, sym, ap, _∙_, subst}
 use mathlib.Core.Bool.{Bool, true, false, true≢false}
 use mathlib.Core.List.{List, [], _∷_}
-use mathlib.Core.Logic.{_⊎_, inl, inr}
+use mathlib.Core.Logic.{inl, inr}
 use native.Mathlib.Omega.{arith}
 use native.Mathlib.Decide.{ℕ-discrete}
 use lib.Dec.{ltb}
@@ -15,9 +15,10 @@ use Rattle.rules.specs.Words.{pick, oneOf}
 use Rattle.rules.specs.Reading.{known}
 use Rattle.rules.proofs.Bools.{and-both, never}
 use Rattle.stations.specs.Slots.{Shown, slotCount, dataSize, byteOf, live, station, liveOf, slotOf, bytesOf, found, freeSlot}
-use Rattle.stations.specs.Keeping.{clearedBy, afterWrites, Storable, nextLive}
+use Rattle.stations.specs.Keeping.{clearedBy, afterWrites, Storable, nextLive, OneOfItsOwn, its-new, its-earlier}
 use Rattle.stations.proofs.First.{those-rise, Place, Early, one-of-take, take-one-of}
-use Rattle.stations.proofs.Same.{and-no-left, SameFrom, same-tail, same-station, same-live-of, same-data, marks-live, no-mark, live-of-split, live-of-both, not-live-of, other-station, slot-is, slot-one, slot-some, found-at, found-same}
+use Rattle.stations.proofs.Same.{and-no-left, SameFrom, same-tail, same-station, same-live-of, same-data, marks-live, no-mark, live-of-split, live-of-both, not-live-of, other-station, slot-is, slot-one, slot-some, slot-same, found-at, found-same}
+use Rattle.stations.proofs.Own.{own-same}
 use Rattle.stations.proofs.Midway.{livesOf, lives-in, lives-has, after-mark, after-other, after-same, after-underway, Midway, Turned, free-not-live-of, live-not-free, midway, turned, others-live, unmarked}
 
 module _ (v : Shown) (n : ℕ) (bytes : List ℕ) (room : freeSlot v < slotCount) (x : Shown) (m : Midway v n bytes x) where
@@ -53,13 +54,16 @@ module _ (v : Shown) (n : ℕ) (bytes : List ℕ) (room : freeSlot v < slotCount
   -- ---- the number itself
 
   -- the new slot is not live, and all the others are
-  pub midway-old : live x (freeSlot v) ≡ false → ((i : ℕ) → i < slotCount → liveOf v n i ≡ true → live x i ≡ true) → found x n ≡ found v n
-  midway-old none all = found-same v x n (λ i l. go i l (ℕ-discrete i (freeSlot v)) (liveOf v n i) refl) (m .tail)
+  old-lives : live x (freeSlot v) ≡ false → ((i : ℕ) → i < slotCount → liveOf v n i ≡ true → live x i ≡ true) → (i : ℕ) → i < slotCount → liveOf x n i ≡ liveOf v n i
+  old-lives none all i l = go i l (ℕ-discrete i (freeSlot v)) (liveOf v n i) refl
     where
       go : (i : ℕ) → i < slotCount → Dec (i ≡ freeSlot v) → (b : Bool) → liveOf v n i ≡ b → liveOf x n i ≡ liveOf v n i
       go i l (yes z) b p = not-live-of x n i (ap (live x) z ∙ none) ∙ sym (ap (liveOf v n) z ∙ free-not-live-of v n room n)
       go i l (no z) true p = live-of-both x n i (all i l p) (sym (same-station v x i (m .tail i l p)) ∙ live-of-split v n i p .1) ∙ sym p
       go i l (no z) false p = sym (same-live-of v x n i (m .rest i l z p))
+
+  pub midway-old : live x (freeSlot v) ≡ false → ((i : ℕ) → i < slotCount → liveOf v n i ≡ true → live x i ≡ true) → found x n ≡ found v n
+  midway-old none all = found-same v x n (old-lives none all) (m .tail)
 
   -- lookup's slot is the new one
   pub midway-new : slotOf x n ≡ freeSlot v → found x n ≡ bytes
@@ -78,29 +82,17 @@ module _ (v : Shown) (n : ℕ) (bytes : List ℕ) (room : freeSlot v < slotCount
       before : liveOf v n i ≡ true
       before = live-before i l ne (subst (λ (k : ℕ). liveOf x n k ≡ true) e (slot-is x n .hit below))
 
-  -- with at most one live slot: old or new
-  only-one : length (livesOf v n) ≤ 1 → (i k : ℕ) → i < slotCount → k < slotCount → liveOf v n i ≡ true → liveOf v n k ≡ true → i ≡ k
-  only-one few i k a b e f =
-      let p = lives-has v n i a e in
-      let q = lives-has v n k b f in
-      let c = p .inside in
-      let d = q .inside in
-      let z : p .at ≡ q .at = omega arith in
-      sym (p .is) ∙ ap (λ (y : ℕ). getD (livesOf v n) y slotCount) z ∙ q .is
-
-  pub midway-either : length (livesOf v n) ≤ 1 → Turned v n x → (found x n ≡ found v n) ⊎ (found x n ≡ bytes)
-  midway-either few (inr t) = inl (midway-old (t .0) (t .1))
-  midway-either few (inl t) = go (ℕ-discrete (slotOf x n) (freeSlot v))
+  -- one of its own
+  pub midway-own : Turned v n x → OneOfItsOwn v x n bytes
+  midway-own (inr t) = own-same v n bytes x (slot-same v x n (old-lives (t .0) (t .1))) (midway-old (t .0) (t .1))
+  midway-own (inl t) = go (ℕ-discrete (slotOf x n) (freeSlot v))
     where
       below : slotOf x n < slotCount
       below = slot-some x n (freeSlot v) room (live-of-both x n (freeSlot v) t (m .fresh t .0))
 
-      go : Dec (slotOf x n ≡ freeSlot v) → (found x n ≡ found v n) ⊎ (found x n ≡ bytes)
-      go (yes z) = inr (midway-new z)
-      go (no z) =
-          let r = midway-at (slotOf x n) refl below z in
-          let l = slot-some v n (slotOf x n) below (r .0) in
-          inl (r .1 ∙ sym (found-at v n (slotOf x n) (only-one few (slotOf v n) (slotOf x n) l below (slot-is v n .hit l) (r .0)) below))
+      go : Dec (slotOf x n ≡ freeSlot v) → OneOfItsOwn v x n bytes
+      go (yes z) = its-new below (midway-new z)
+      go (no z) = let r = midway-at (slotOf x n) refl below z in its-earlier (slotOf x n) below (r .0) below (r .1)
 
 -- ---- after w writes
 
@@ -221,12 +213,14 @@ module _ (v : Shown) (n : ℕ) (bytes : List ℕ) (room : freeSlot v < slotCount
           let z : nextLive v n w ≡ slotCount = List·getD-eq-default (livesOf v n) slotCount {n = w - 2} (omega arith) in
           lt-ltb (freeSlot v) (nextLive v n w) (omega arith)
 
-  -- with at most one live slot: old or new
-  pub after-either : length (livesOf v n) ≤ 1 → (found (afterWrites v n bytes w) n ≡ found v n) ⊎ (found (afterWrites v n bytes w) n ≡ bytes)
-  after-either few = go (ltb w (2 + length (livesOf v n))) refl
+  -- one of its own
+  pub after-own : OneOfItsOwn v (afterWrites v n bytes w) n bytes
+  after-own = go (ltb w (2 + length (livesOf v n))) refl
     where
-      go : (b : Bool) → ltb w (2 + length (livesOf v n)) ≡ b → (found after n ≡ found v n) ⊎ (found after n ≡ bytes)
+      go : (b : Bool) → ltb w (2 + length (livesOf v n)) ≡ b → OneOfItsOwn v after n bytes
       go true e =
-          midway-either v n bytes room after after-midway few
+          midway-own v n bytes room after after-midway
           (turned v n room bytes right long w after (after-underway v n bytes w) (ltb-true w (2 + length (livesOf v n)) e))
-      go false e = inr (after-all (ltb-false w (2 + length (livesOf v n)) e))
+      go false e =
+          let h = ltb-false w (2 + length (livesOf v n)) e in
+          its-new (slot-some after n (freeSlot v) room (new-live (omega arith))) (after-all h)

@@ -1,18 +1,14 @@
 -- One number more: what the tests over numbers are at the next one, as a loop finds them. By their definitions. Assumes nothing.
 use Prim.Native.Nat.{ℕ, zero, suc, _+_, _-_, _≤_, _<_}
-use mathlib.Core.Path.{_≡_, refl, sym, ap, _∙_}
-use mathlib.Core.Bool.{Bool, true, false, _&&_}
-use mathlib.Core.List.{List, [], _∷_}
+use mathlib.Core.Path.{_≡_, sym, ap, _∙_}
+use mathlib.Core.Bool.{Bool, true, false, _&&_, and-false}
+use mathlib.Core.List.{[], _∷_}
 use native.Mathlib.Omega.{arith}
 use native.Mathlib.Decide.{ℕ-discrete}
 use lib.Dec.{ltb}
 use borrow.Author.Tests.{lt-ltb, le-ltb}
 use Rattle.rules.specs.Words.{pick}
-use Rattle.stations.specs.Slots.{Shown, allBelow, firstFrom, thoseFrom, byteOf, bytesOf}
-
-and-false : (a : Bool) → (a && false) ≡ false
-and-false true = refl
-and-false false = refl
+use Rattle.stations.specs.Slots.{allBelow, firstFrom, thoseFrom}
 
 one-more : (n : ℕ) → suc n ≡ n + 1
 one-more n = omega arith

@@ -1,11 +1,12 @@
--- What the list's theorems ask of the machine, as records of states: where a store ends, and what each state on its way is. From the list's laws: the list shown there. Assumes nothing.
+-- Where a store ends and what each state on its way is, as the machine's laws give it; and by the list's laws, the list shown there. Assumes nothing.
 use Prim.Native.Nat.{ℕ, _+_, _/_, _<_}
-use mathlib.Core.Path.{_≡_, sym, ap, ap₂, _∙_}
+use mathlib.Core.Path.{_≡_, refl, sym, ap, ap₂, _∙_}
 use mathlib.Core.Bool.{false}
 use mathlib.Core.List.{List, []}
 use mathlib.Core.Logic.{_⊎_, inl, inr}
 use lib.ListN.{length, getD, take}
 use Rattle.rules.specs.declared.Range.{Range}
+use Rattle.rules.specs.declared.Rest.{Rest}
 use Rattle.rules.specs.declared.Work.{Work}
 use Rattle.rules.specs.declared.Work.the-variants.{Nothing, ProgramPage}
 use Rattle.rules.specs.Words.{Lent}
@@ -15,16 +16,18 @@ use Rattle.rules.specs.Programs.{pageBuffer}
 use Rattle.rules.specs.Numbers.{State}
 use Rattle.rules.specs.Tears.{OfBytes}
 use Rattle.stations.specs.Slots.{Shown, slotCount, dataSize, found, freeSlot}
-use Rattle.stations.specs.Plans.{storingAt}
 use Rattle.stations.specs.Calls.{played, moments, storeCall}
 use Rattle.stations.specs.Given.{storeAccount}
 use Rattle.stations.specs.Keeping.{shownAt, afterWrites, Storable, Among, mayChange}
+use Rattle.stations.specs.Records.{SameRecord, storeFrames}
 use Rattle.stations.proofs.Same.{alike-found}
 use Rattle.stations.proofs.Midway.{livesOf}
 use Rattle.stations.proofs.Programmed.{programmedAll}
 use Rattle.stations.proofs.Shown.{listOf, shown-list, list-locks}
 use Rattle.stations.proofs.Stored.{none-written, stored-list}
 use Rattle.stations.proofs.Torn.{stored-stays}
+use Rattle.stations.proofs.Writes.{Runs}
+use Rattle.stations.proofs.Given.{held, store-came, Moment, early, late, store-moments}
 
 abbrev pub suspended : State → Work
 suspended s = s .chip .rest .works .suspended
@@ -32,39 +35,23 @@ suspended s = s .chip .rest .works .suspended
 abbrev pub running : State → Work
 running s = s .chip .rest .works .running
 
--- the frames of a store, by what its read shows
-abbrev pub framesOf : State → ℕ → List ℕ → List (List ℕ)
-framesOf s n bytes = storingAt (shownAt s) n bytes (freeSlot (shownAt s))
-
 -- ---- what the machine is to give
 
 -- t is s but for w writes
 pub record Written (s : State) (n : ℕ) (bytes : List ℕ) (w : ℕ) (t : State) : Type 0 where
-  pub array : t .array ≡ programmedAll (take w (framesOf s n bytes)) (s .array)
+  pub array : t .array ≡ programmedAll (take w (storeFrames s n bytes)) (s .array)
   pub security : t .security ≡ s .security
   pub waits : suspended t ≡ suspended s
   -- a write is made only where there is room
   pub room : (w ≡ 0) ⊎ ((freeSlot (shownAt s) < slotCount) × (length bytes ≡ dataSize))
 
--- where a store ends, done or refused
-abbrev pub StoreEnds : Type 0
-StoreEnds =
-    (s : State) (reply marks : Lent) (n : ℕ) (bytes : List ℕ) (allowance : ℕ) (list : List ℕ)
-    → Written s n bytes (storeAccount s reply marks n bytes allowance list .writes) (played s (storeCall reply marks n bytes allowance list) .state)
-
--- a done one made all its writes
-abbrev pub StoreDone : Type 0
-StoreDone =
-    (s : State) (reply marks : Lent) (n : ℕ) (bytes : List ℕ) (allowance : ℕ) (list : List ℕ)
-    → played s (storeCall reply marks n bytes allowance list) .number ≡ 0
-    → storeAccount s reply marks n bytes allowance list .writes ≡ 2 + length (livesOf (shownAt s) n)
-
 -- frame q runs
 pub record OnFrame (s : State) (n : ℕ) (bytes : List ℕ) (q : ℕ) (t : State) : Type 0 where
   pub room : freeSlot (shownAt s) < slotCount
-  pub more : q < length (framesOf s n bytes)
-  pub runs : running t ≡ ProgramPage (address (getD (framesOf s n bytes) q []) / 256)
-  pub buffer : t .chip .buffer ≡ pageBuffer (getD (framesOf s n bytes) q [])
+  pub long : length bytes ≡ dataSize
+  pub more : q < length (storeFrames s n bytes)
+  pub runs : running t ≡ ProgramPage (address (getD (storeFrames s n bytes) q []) / 256)
+  pub buffer : t .chip .buffer ≡ pageBuffer (getD (storeFrames s n bytes) q [])
 
 -- a state on the way: what ran at the start runs, or nothing, or the frame after those that are written
 pub record Passes (s : State) (n : ℕ) (bytes : List ℕ) (t : State) : Type 0 where
@@ -72,10 +59,39 @@ pub record Passes (s : State) (n : ℕ) (bytes : List ℕ) (t : State) : Type 0 
   pub written : Written s n bytes writes t
   pub work : (running t ≡ running s) ⊎ ((running t ≡ Nothing) ⊎ OnFrame s n bytes writes t)
 
-abbrev pub StorePasses : Type 0
-StorePasses =
-    (s t : State) (reply marks : Lent) (n : ℕ) (bytes : List ℕ) (allowance : ℕ) (list : List ℕ) → length bytes ≡ dataSize
-    → Among t (moments s (storeCall reply marks n bytes allowance list)) → Passes s n bytes t
+-- ---- the machine gives them
+
+same-waits : (s t : State) → SameRecord s t → suspended t ≡ suspended s
+same-waits s t k = ap (λ (r : Rest). r .works .suspended) (k .rest)
+
+module _ (s : State) (reply marks : Lent) (n : ℕ) (bytes : List ℕ) (allowance : ℕ) (list : List ℕ) where
+  -- where a store ends, done or refused
+  pub store-ends : Written s n bytes (storeAccount s reply marks n bytes allowance list .writes) (played s (storeCall reply marks n bytes allowance list) .state)
+  store-ends =
+      let k = store-came s reply marks n bytes allowance list in
+      record { array = k .array; security = k .same .security; waits = same-waits s _ (k .same); room = k .room }
+
+  -- a done one made all its writes
+  pub store-done : played s (storeCall reply marks n bytes allowance list) .number ≡ 0 → storeAccount s reply marks n bytes allowance list .writes ≡ 2 + length (livesOf (shownAt s) n)
+  store-done e = let k = store-came s reply marks n bytes allowance list in k .done (sym (k .number) ∙ e)
+
+  moment-passes : (t : State) → Moment s n bytes t → Passes s n bytes t
+  moment-passes t (early e) =
+      record {
+        writes = 0;
+        written = record { array = held (λ (u : State). u .array) s t refl e; security = held (λ (u : State). u .security) s t refl e; waits = held suspended s t refl e; room = inl refl };
+        work = inl (held running s t refl e);
+      }
+  moment-passes t (late ready size low k) =
+      record { writes = k .writes; written = record { array = k .array; security = k .kept .same .security; waits = same-waits s t (k .kept .same); room = inr (low, size) }; work = inr (go (k .doing)) }
+    where
+      go : (running t ≡ Nothing) ⊎ ((k .writes < length (storeFrames s n bytes)) × Runs (getD (storeFrames s n bytes) (k .writes) []) t)
+          → (running t ≡ Nothing) ⊎ OnFrame s n bytes (k .writes) t
+      go (inl i) = inl i
+      go (inr r) = inr (record { room = low; long = size; more = r .0; runs = r .1 .running; buffer = r .1 .buffer })
+
+  pub store-passes : (t : State) → Among t (moments s (storeCall reply marks n bytes allowance list)) → Passes s n bytes t
+  store-passes t m = moment-passes t (store-moments s reply marks n bytes allowance list t m)
 
 -- ---- the list then
 
@@ -89,12 +105,12 @@ module _ (s t : State) (n : ℕ) (bytes : List ℕ) (w : ℕ) (g : Written s n b
   pub written-list : Storable n bytes → (p : ℕ) → p < 65536 → shownAt t p ≡ afterWrites (shownAt s) n bytes w p
   unfolding shownAt listOf
   written-list right p h =
-      shown-as t (arrayRange (suspended s)) (programmedAll (take w (framesOf s n bytes)) (s .array)) (s .chip .rest .locks .protection) (ap arrayRange (g .waits)) (g .array) p h ∙ go (g .room)
+      shown-as t (arrayRange (suspended s)) (programmedAll (take w (storeFrames s n bytes)) (s .array)) (s .chip .rest .locks .protection) (ap arrayRange (g .waits)) (g .array) p h ∙ go (g .room)
     where
       go : (w ≡ 0) ⊎ ((freeSlot (shownAt s) < slotCount) × (length bytes ≡ dataSize))
-          → listOf (s .chip .rest .locks .protection) (arrayRange (suspended s)) (programmedAll (take w (framesOf s n bytes)) (s .array)) p ≡ afterWrites (shownAt s) n bytes w p
+          → listOf (s .chip .rest .locks .protection) (arrayRange (suspended s)) (programmedAll (take w (storeFrames s n bytes)) (s .array)) p ≡ afterWrites (shownAt s) n bytes w p
       go (inl z) =
-          ap (λ (w : ℕ). listOf (s .chip .rest .locks .protection) (arrayRange (suspended s)) (programmedAll (take w (framesOf s n bytes)) (s .array)) p) z
+          ap (λ (w : ℕ). listOf (s .chip .rest .locks .protection) (arrayRange (suspended s)) (programmedAll (take w (storeFrames s n bytes)) (s .array)) p) z
           ∙ sym (none-written (shownAt s) n bytes p) ∙ ap (λ (w : ℕ). afterWrites (shownAt s) n bytes w p) (sym z)
       go (inr e) = stored-list (s .chip .rest .locks .protection) (arrayRange (suspended s)) (s .array) small n bytes (e .1) (e .0) right w p h
 
@@ -105,6 +121,6 @@ module _ (s t : State) (n : ℕ) (bytes : List ℕ) (w : ℕ) (g : Written s n b
   unfolding shownAt listOf
   written-stays a out = ap (λ (l : Lent). l .byte a) (g .array) ∙ go (g .room)
     where
-      go : (w ≡ 0) ⊎ ((freeSlot (shownAt s) < slotCount) × (length bytes ≡ dataSize)) → programmedAll (take w (framesOf s n bytes)) (s .array) .byte a ≡ s .array .byte a
-      go (inl z) = ap (λ (w : ℕ). programmedAll (take w (framesOf s n bytes)) (s .array) .byte a) z
+      go : (w ≡ 0) ⊎ ((freeSlot (shownAt s) < slotCount) × (length bytes ≡ dataSize)) → programmedAll (take w (storeFrames s n bytes)) (s .array) .byte a ≡ s .array .byte a
+      go (inl z) = ap (λ (w : ℕ). programmedAll (take w (storeFrames s n bytes)) (s .array) .byte a) z
       go (inr e) = stored-stays (s .chip .rest .locks .protection) (arrayRange (suspended s)) (s .array) small n bytes (e .1) (e .0) w a out

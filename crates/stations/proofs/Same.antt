@@ -10,7 +10,7 @@ use borrow.Author.Tests.{ltb-true, ltb-false, eqb-true, eq-eqb, lt-ltb, le-ltb}
 use Rattle.rules.specs.declared.Cell.{Cell}
 use Rattle.rules.proofs.Bools.{and-split, and-both, never}
 use Rattle.stations.specs.Slots.{Shown, slotCount, dataSize, byteOf, empty, live, station, liveOf, slotOf, bytesOf, found, freeSlot}
-use Rattle.stations.proofs.First.{FirstIs, first-is, first-one, first-some, first-same, all-at, all-same}
+use Rattle.stations.proofs.First.{FirstIs, first-is, first-one, first-some, first-same, all-at}
 
 -- ---- tests
 
@@ -47,11 +47,6 @@ same-live v w i s =
 pub same-live-of : (v w : Shown) (n i : ℕ) → SameFrom 0 v w i → liveOf v n i ≡ liveOf w n i
 unfolding liveOf
 same-live-of v w n i s = ap₂ (λ (a : Bool) (b : ℕ). a && eqb b n) (same-live v w i s) (same-station v w i (same-tail v w i s))
-
-pub same-empty : (v w : Shown) (i : ℕ) → SameFrom 0 v w i → empty v i ≡ empty w i
-unfolding empty
-same-empty v w i s =
-    all-same 32 (λ j. eqb (byteOf v i j) 0xFF) (λ j. eqb (byteOf w i j) 0xFF) (λ j l. ap (λ (x : ℕ). eqb x 0xFF) (same-byte 0 v w i j s (omega arith) l))
 
 -- ---- classes
 
@@ -138,14 +133,18 @@ pub found-none : (v : Shown) (n : ℕ) → slotCount ≤ slotOf v n → found v 
 unfolding found
 found-none v n h = rw (le-ltb (slotOf v n) slotCount h)
 
--- the same slots are live of the number, with the same data
+-- the same slots are live of the number
+pub slot-same : (v w : Shown) (n : ℕ) → ((i : ℕ) → i < slotCount → liveOf w n i ≡ liveOf v n i) → slotOf w n ≡ slotOf v n
+unfolding slotOf
+slot-same v w n h = first-same (liveOf w n) (liveOf v n) 0 slotCount (λ i a b. h i b)
+
+-- with the same data
 pub found-same : (v w : Shown) (n : ℕ) → ((i : ℕ) → i < slotCount → liveOf w n i ≡ liveOf v n i) → ((i : ℕ) → i < slotCount → liveOf v n i ≡ true → SameFrom 2 v w i)
     → found w n ≡ found v n
-unfolding slotOf
 found-same v w n h same = go (ltb (slotOf v n) slotCount) refl
   where
     slots : slotOf w n ≡ slotOf v n
-    slots = first-same (liveOf w n) (liveOf v n) 0 slotCount (λ i a b. h i b)
+    slots = slot-same v w n h
 
     go : (b : Bool) → ltb (slotOf v n) slotCount ≡ b → found w n ≡ found v n
     go true e =
@@ -158,6 +157,9 @@ found-same v w n h same = go (ltb (slotOf v n) slotCount) refl
 pub alike-slot : (v w : Shown) → ((p : ℕ) → p < 65536 → v p ≡ w p) → (i : ℕ) → i < slotCount → SameFrom 0 v w i
 unfolding SameFrom
 alike-slot v w h i l j a b = h (i * 32 + j) (omega arith)
+
+pub alike-slot-of : (v w : Shown) (n : ℕ) → ((p : ℕ) → p < 65536 → v p ≡ w p) → slotOf w n ≡ slotOf v n
+alike-slot-of v w n h = slot-same v w n (λ i l. sym (same-live-of v w n i (alike-slot v w h i l)))
 
 pub alike-found : (v w : Shown) (n : ℕ) → ((p : ℕ) → p < 65536 → v p ≡ w p) → found w n ≡ found v n
 alike-found v w n h =

@@ -1,13 +1,13 @@
 -- What follows a write goes on from where it ends, if it is done. By induction over the polls. Assumes nothing.
 use Prim.Native.Nat.{ℕ, zero, suc, _+_}
-use mathlib.Core.Path.{_≡_, refl, sym, ap, _∙_}
+use mathlib.Core.Path.{_≡_, refl, sym, ap}
 use mathlib.Core.Bool.{Bool, true, false}
 use mathlib.Core.List.{List, [], _∷_}
 use lib.Dec.{eqb}
 use Rattle.rules.specs.Words.{bit, pick}
 use Rattle.rules.specs.Numbers.{State}
 use Rattle.rules.specs.Machine.{Outcome, completes, step, left}
-use Rattle.stations.specs.Calls.{Script, ends, does, Ended, endedOf, played, short, onDone, arriving, polling, write}
+use Rattle.stations.specs.Calls.{Script, ends, Ended, endedOf, played, short, onDone, arriving, polling, write}
 
 -- a call that goes on with next where x is done
 unfoldable pub continued : Ended → (ℕ → Script) → Ended

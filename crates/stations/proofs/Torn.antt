@@ -18,10 +18,10 @@ use Rattle.rules.proofs.Bools.{and-both, or-left, or-right}
 use Rattle.rules.proofs.Blocks.{holds-intro}
 use Rattle.stations.specs.Slots.{Shown, slotCount, dataSize, liveOf, found, freeSlot}
 use Rattle.stations.specs.Plans.{programAt, clearings, storingAt}
-use Rattle.stations.specs.Keeping.{Storable, named, mayChange}
+use Rattle.stations.specs.Keeping.{Storable, OneOfItsOwn, named, mayChange}
 use Rattle.stations.proofs.First.{one-of-place}
 use Rattle.stations.proofs.Midway.{livesOf, lives-in, inFrame, Underway, Midway, midway, turned}
-use Rattle.stations.proofs.Lookups.{midway-others, midway-either}
+use Rattle.stations.proofs.Lookups.{midway-others, midway-own}
 use Rattle.stations.proofs.Programmed.{stoppedBy, programmed, programmedAll, stopped-bytes, program-miss}
 use Rattle.stations.proofs.Shown.{listOf, list-same, list-locks}
 use Rattle.stations.proofs.Clears.{Below, below-first, below-rest, clear-miss-one, clearing-at, length-clearings}
@@ -138,7 +138,5 @@ module _ (protection : ℕ) (r : Range) (mem : Lent) (small : OfBytes mem) (n : 
     pub torn-others : (k : ℕ) → (k ≡ n → ⊥) → found (listOf locks r (stoppedBy t (getD fs q []) (programmedAll (take q fs) mem))) k ≡ found v k
     torn-others k ne = midway-others v n bytes room cut torn-midway k ne
 
-    pub torn-itself : length (livesOf v n) ≤ 1
-        → let x = listOf locks r (stoppedBy t (getD fs q []) (programmedAll (take q fs) mem)) in
-        (found x n ≡ found v n) ⊎ (found x n ≡ bytes)
-    torn-itself few = midway-either v n bytes room cut torn-midway few (turned v n room bytes right long q cut torn-underway below)
+    pub torn-own : OneOfItsOwn v (listOf locks r (stoppedBy t (getD fs q []) (programmedAll (take q fs) mem))) n bytes
+    torn-own = midway-own v n bytes room cut torn-midway (turned v n room bytes right long q cut torn-underway below)

@@ -7,6 +7,7 @@ use mathlib.Core.Logic.{_⊎_, inl, inr}
 use native.Mathlib.Omega.{arith}
 use lib.Dec.{eqb, eqb·zero-suc, eqb·suc-suc}
 use lib.ListN.{length, getD, take}
+use Rattle.rules.specs.declared.Chip.{Chip}
 use Rattle.rules.specs.declared.Range.{Range}
 use Rattle.rules.specs.declared.Work.the-variants.{Nothing}
 use Rattle.rules.specs.Words.{pick, Each, _next_}
@@ -20,6 +21,7 @@ use Rattle.stations.specs.Plans.{programAt}
 use Rattle.stations.specs.Calls.{Script, ends, Ended, endedOf, played, moments, short, onDone, polling, write, writes}
 use Rattle.stations.specs.Given.{inTime, completed, pollsFrom, Account, accountOf}
 use Rattle.stations.specs.Keeping.{Among}
+use Rattle.stations.specs.Records.{SameRecord, chipLeft}
 use Rattle.stations.proofs.Programmed.{programmedAll}
 use Rattle.stations.proofs.Frames.{step-right, Ready, latched, latch, latched-ready, Programs, programs, pageOf, begun, program-past-8, begins, ended, completes-page}
 use Rattle.stations.proofs.Polls.{Calm, polling-comes-to, Always, always-ends, always-does, always-polling}
@@ -27,16 +29,10 @@ use Rattle.stations.proofs.Polls.{Calm, polling-comes-to, Always, alway
 abbrev pub setAside : State → Range
 setAside s = arrayRange (s .chip .rest .works .suspended)
 
--- what no write changes
-pub record Same (s t : State) : Type 0 where
-  pub security : t .security ≡ s .security
-  pub locks : t .chip .rest .locks ≡ s .chip .rest .locks
-  pub suspended : t .chip .rest .works .suspended ≡ s .chip .rest .works .suspended
-
 pub record Kept (s t : State) : Type 0 where
   pub right : stateRight t ≡ true
   pub spi : t .chip .rest .flags .sqi ≡ false
-  pub same : Same s t
+  pub same : SameRecord s t
 
 -- a chip that takes every write: no page program is suspended, and the list's block is not write-locked
 pub record Open (s : State) : Type 0 where
@@ -116,22 +112,28 @@ module _ (s : State) (h : Open s) where
 
 -- ---- what the writes come to
 
--- by an account of them: its number, its polls, and the array with its completed writes
+-- the chip that writes leave; with none to make, as it was
+abbrev pub chipAfter : Chip → List (List ℕ) → Account → Chip
+chipAfter c [] x = c
+chipAfter c (f ∷ fs) x = chipLeft c (x .number) (getD (f ∷ fs) (x .writes) [])
+
+-- by an account of them: its number, its polls, the array with its completed writes, and the chip
 pub record Came (s : State) (fs : List (List ℕ)) (x : Account) (e : Ended) : Type 0 where
   pub number : e .number ≡ x .number
   pub polls : e .polls ≡ x .polls
   pub array : e .state .array ≡ programmedAll (take (x .writes) fs) (s .array)
   pub kept : Kept s (e .state)
+  pub chip : e .state .chip ≡ chipAfter (s .chip) fs x
 
 pub kept-self : (s : State) → Ready s → Kept s s
-kept-self s h = record { right = h .right; spi = h .spi; same = record { security = refl; locks = refl; suspended = refl } }
+kept-self s h = record { right = h .right; spi = h .spi; same = record { security = refl; rest = refl } }
 
 -- after one more write
 kept-later : (s t : State) (f : List ℕ) → Kept (ended f s) t → Kept s t
-kept-later s t f k = record { right = k .right; spi = k .spi; same = record { security = k .same .security; locks = k .same .locks; suspended = k .same .suspended } }
+kept-later s t f k = record { right = k .right; spi = k .spi; same = record { security = k .same .security; rest = k .same .rest } }
 
 begun-kept : (s : State) (h : Open s) (f : List ℕ) → Programs (setAside s) f → Kept s (begun f (latched s))
-begun-kept s h f p = record { right = begun-right s h f p; spi = h .ready .spi; same = record { security = refl; locks = refl; suspended = refl } }
+begun-kept s h f p = record { right = begun-right s h f p; spi = h .ready .spi; same = record { security = refl; rest = refl } }
 
 module _ (a : ℕ) (list : List ℕ) where
   -- of c writes from entry j on, n polls before them
@@ -140,7 +142,7 @@ module _ (a : ℕ) (list : List ℕ) where
 
   pub writes-come-to : (fs : List (List ℕ)) (j n : ℕ) (s : State) → Open s → Each (Programs (setAside s)) fs → Came s fs (openAccount j n (length fs)) (played s (writes a list j fs n))
   unfolding writes played completed pollsFrom
-  writes-come-to [] j n s h ps = let z : n ≡ n + 0 = omega arith in record { number = refl; polls = z; array = refl; kept = kept-self s (h .ready) }
+  writes-come-to [] j n s h ps = let z : n ≡ n + 0 = omega arith in record { number = refl; polls = z; array = refl; kept = kept-self s (h .ready); chip = refl }
   writes-come-to (f ∷ gs) j n s h ps =
       subst (Came s (f ∷ gs) (openAccount j n (suc (length gs)))) (sym (played-write s h f (each-first ps) a (getD list j 0) n (writes a list (suc j) gs)))
       (go (inTime a (getD list j 0)) (writes-come-to gs (suc j) (n + getD list j 0) (ended f s) (ended-open s h f (each-first ps)) (each-rest ps)))
@@ -154,13 +156,22 @@ module _ (a : ℕ) (list : List ℕ) where
       q : ℕ
       q = pollsFrom a list (suc j) (length gs)
 
+      -- the writes after this one leave what they would on the chip before it
+      later : (ks : List (List ℕ)) → chipAfter (ended f s .chip) ks (openAccount (suc j) (n + e) (length ks)) ≡ chipLeft (s .chip) (openAccount (suc j) (n + e) (length ks) .number) (getD ks (completed a list (suc j) (length ks)) [])
+      later [] = refl
+      later (k ∷ ks) = by (eqb (completed a list (suc j) (suc (length ks))) (suc (length ks)))
+        where
+          by : (b : Bool) → let x = getD (k ∷ ks) (completed a list (suc j) (suc (length ks))) [] in chipLeft (ended f s .chip) (pick b 0 18) x ≡ chipLeft (s .chip) (pick b 0 18) x
+          by true = refl
+          by false = refl
+
       go : (b : Bool) → Came (ended f s) gs (openAccount (suc j) (n + e) (length gs)) (played (ended f s) (writes a list (suc j) gs (n + e)))
           → Came s (f ∷ gs) (accountOf (pick (eqb (pick b (suc w) 0) (suc (length gs))) 0 18) (n + pick b (e + q) a) (pick b (suc w) 0))
           (pick b (played (ended f s) (writes a list (suc j) gs (n + e))) (endedOf 18 (n + a) (begun f (latched s))))
       go true k =
           let z : n + e + q ≡ n + (e + q) = omega arith in
-          record { number = k .number ∙ ap (λ (b : Bool). pick b 0 18) (sym (eqb·suc-suc w (length gs))); polls = k .polls ∙ z; array = k .array; kept = kept-later s _ f (k .kept) }
-      go false k = record { number = ap (λ (b : Bool). pick b 0 18) (sym (eqb·zero-suc (length gs))); polls = refl; array = refl; kept = begun-kept s h f (each-first ps) }
+          record { number = k .number ∙ ap (λ (b : Bool). pick b 0 18) (sym (eqb·suc-suc w (length gs))); polls = k .polls ∙ z; array = k .array; kept = kept-later s _ f (k .kept); chip = k .chip ∙ later gs ∙ ap (λ (b : Bool). chipLeft (s .chip) (pick b 0 18) (getD gs w [])) (sym (eqb·suc-suc w (length gs))) }
+      go false k = record { number = ap (λ (b : Bool). pick b 0 18) (sym (eqb·zero-suc (length gs))); polls = refl; array = refl; kept = begun-kept s h f (each-first ps); chip = ap (λ (b : Bool). chipLeft (s .chip) (pick b 0 18) f) (sym (eqb·zero-suc (length gs))) }
 
 -- ---- each moment of the writes
 
@@ -195,7 +206,7 @@ pub some-written : (s t : State) (fs : List (List ℕ)) → Written s [] t → W
 some-written s t fs k = let u = unwritten s t k in none-written s t fs (u .0) (u .1) (k .kept)
 
 pub latched-kept : (s : State) → Ready s → Kept s (latched s)
-latched-kept s h = record { right = latched-ready s h .right; spi = h .spi; same = record { security = refl; locks = refl; suspended = refl } }
+latched-kept s h = record { right = latched-ready s h .right; spi = h .spi; same = record { security = refl; rest = refl } }
 
 written-later : (s t : State) (f : List ℕ) (fs : List (List ℕ)) → Written (ended f s) fs t → Written s (f ∷ fs) t
 written-later s t f fs k =

@@ -1,27 +1,25 @@
--- 02, W-206, "Refusals, in this order": which number a call gets, with how many polls, and how many of its writes are completed. Proved in proofs/Given.
-use Prim.Native.Nat.{ℕ, zero, suc, _+_}
+-- 02, W-206, "Refusals, in this order": which number a call gets, with how many polls, and how many of its writes are completed. Proved in proofs/Given, Polls and Exactly.
+use Prim.Native.Nat.{ℕ, zero, suc, _+_, _<_}
 use mathlib.Core.Path.{_≡_}
 use mathlib.Core.Bool.{Bool, true, false, not, _&&_}
 use mathlib.Core.List.{List}
+use mathlib.Core.Logic.{_↔_}
 use lib.Dec.{eqb, ltb, leb}
 use lib.ListN.{length, getD}
 use Rattle.rules.specs.declared.Rest.{Rest}
-use Rattle.rules.specs.Words.{pick, Lent}
+use Rattle.rules.specs.Words.{pick, oneOf, Lent}
 use Rattle.rules.specs.Blocks.{writeLocked}
 use Rattle.rules.specs.Registers.{busy, wsp}
 use Rattle.rules.specs.Numbers.{State, stateRight}
 use Rattle.rules.specs.Machine.{completion, left, step}
-use Rattle.stations.specs.Slots.{Shown, slotCount, thoseFrom, liveOf, slotOf, freeSlot}
-use Rattle.stations.specs.Calls.{Script, ends, endedOf, played, polling, reading, shownBy, storeRight, lookupRight, storeCall, lookupCall}
+use Rattle.stations.specs.Slots.{Shown, slotCount, thoseFrom, empty, liveOf, slotOf, freeSlot}
+use Rattle.stations.specs.Calls.{Script, endedOf, played, polling, reading, shownBy, storeRight, lookupRight, storeCall, lookupCall}
 
 -- ---- polls: "the place of the first poll that reads BUSY 0, or the allowance"
 
 -- a write whose entry is e is completed within the allowance a
 abbrev pub inTime : ℕ → ℕ → Bool
 inTime a e = leb 1 e && leb e a
-
-abbrev pub pollsOf : ℕ → ℕ → ℕ
-pollsOf a e = pick (inTime a e) e a
 
 -- the closed form of polling, on a busy chip in SPI after a frame: it goes on from the completed chip, or ends with the write still running
 abbrev pub PollingComesTo : Type 0
@@ -83,6 +81,19 @@ lookupNumber s reply marks n buffer =
     pick (not (lookupRight reply marks buffer)) 1
     (pick (not (eqb (o .number) 0)) (o .number)
     (pick (not (ltb (slotOf (shownBy o) n) slotCount)) 17 0))
+
+-- ---- the words of the slots: "the first empty slot", "no empty slot", "the first live slot of that number", "no such live slot", "each other live slot of that number, lowest first"
+
+pub record SlotsExactly (v : Shown) (n : ℕ) : Type 0 where
+  pub no-empty : (freeSlot v ≡ slotCount) ↔ ((i : ℕ) → i < slotCount → empty v i ≡ false)
+  pub first-empty : freeSlot v < slotCount → (empty v (freeSlot v) ≡ true) × ((i : ℕ) → i < freeSlot v → empty v i ≡ false)
+  pub no-live : (slotOf v n ≡ slotCount) ↔ ((i : ℕ) → i < slotCount → liveOf v n i ≡ false)
+  pub first-live : slotOf v n < slotCount → (liveOf v n (slotOf v n) ≡ true) × ((i : ℕ) → i < slotOf v n → liveOf v n i ≡ false)
+  pub each-live : (i : ℕ) → (oneOf i (thoseFrom (liveOf v n) 0 slotCount) ≡ true) ↔ ((i < slotCount) × (liveOf v n i ≡ true))
+  pub lowest-first : (j k : ℕ) → j < k → k < length (thoseFrom (liveOf v n) 0 slotCount) → getD (thoseFrom (liveOf v n) 0 slotCount) j 0 < getD (thoseFrom (liveOf v n) 0 slotCount) k 0
+
+abbrev pub SlotsGiven : Type 0
+SlotsGiven = (v : Shown) (n : ℕ) → SlotsExactly v n
 
 -- ---- the statements
 

@@ -1,4 +1,4 @@
--- 02, W-206: what a call leaves of the list: done, refused, or cut at any moment. Proved in proofs/Keeping and proofs/Cuts.
+-- 02, W-206: what a call leaves of the list: done, refused, or cut at any moment. Proved in proofs/Keeping, Cuts and Events.
 use Prim.Native.Nat.{ℕ, _+_, _-_, _/_, _%_, _≤_, _<_}
 use mathlib.Core.Path.{_≡_}
 use mathlib.Core.Bool.{Bool, true, false, _&&_, _||_}
@@ -11,12 +11,12 @@ use Rattle.rules.specs.Words.{pick, oneOf, range, holds, Lent, Each}
 use Rattle.rules.specs.Works.{arrayRange, tearOf}
 use Rattle.rules.specs.Reading.{known, unknown, placeCell}
 use Rattle.rules.specs.Numbers.{State}
-use Rattle.rules.specs.Machine.{Event, sends, completes, cuts, step, left, powerCut, run}
+use Rattle.rules.specs.Machine.{Event, completes, step, left, powerCut}
 use Rattle.rules.specs.Tears.{OfBytes}
-use Rattle.stations.specs.Slots.{Shown, slotSize, slotCount, dataSize, thoseFrom, liveOf, bytesOf, found, freeSlot}
+use Rattle.stations.specs.Slots.{Shown, slotSize, slotCount, dataSize, thoseFrom, liveOf, slotOf, bytesOf, found, freeSlot}
 use Rattle.stations.specs.Plans.{programAt}
 use Rattle.stations.specs.Calls.{Script, played, moments, made, short, reading, listSize, storeCall, lookupCall}
-use Rattle.stations.specs.Given.{Account, storeAccount}
+use Rattle.stations.specs.Given.{storeAccount}
 
 abbrev pub listStart : ℕ
 listStart = 0x10000
@@ -95,15 +95,25 @@ pub record AtRest (s : State) : Type 0 where
   pub none-suspended : s .chip .rest .works .suspended ≡ Nothing
   pub of-bytes : OfBytes (s .array)
 
+-- what lookup gives of the station itself, where v was shown before and x is shown now: the new data, or that of a slot that was live of its number; or it had none and has none
+pub data OneOfItsOwn (v x : Shown) (n : ℕ) (bytes : List ℕ) : Type 0 where
+  its-new : slotOf x n < slotCount → found x n ≡ bytes → OneOfItsOwn v x n bytes
+  its-earlier : (i : ℕ) → i < slotCount → liveOf v n i ≡ true → slotOf x n < slotCount → found x n ≡ bytesOf v i 4 dataSize → OneOfItsOwn v x n bytes
+  still-none : slotOf v n ≡ slotCount → slotOf x n ≡ slotCount → OneOfItsOwn v x n bytes
+
 pub record CutKeeps (s t : State) (n : ℕ) (bytes : List ℕ) : Type 0 where
   pub others : (q : ℕ) → (q ≡ n → ⊥) → found (shownAt t) q ≡ found (shownAt s) q
+  pub one-of-its-own : OneOfItsOwn (shownAt s) (shownAt t) n bytes
+  pub never-lost : slotOf (shownAt s) n < slotCount → slotOf (shownAt t) n < slotCount
+  -- old or new, where it had at most one live slot
   pub itself : length (thoseFrom (liveOf (shownAt s) n) 0 slotCount) ≤ 1
       → (found (shownAt t) n ≡ found (shownAt s) n) ⊎ (found (shownAt t) n ≡ bytes)
 
+-- of any m, below 256 or not: a torn byte of a program is the old one AND something, so the bytes that are not sent stay, and no more is asked of those that are
 abbrev pub StoreCut : Type 0
 StoreCut =
-    (s t : State) (reply marks : Lent) (n : ℕ) (bytes : List ℕ) (allowance : ℕ) (list : List ℕ) (k m : ℕ) → Storable n bytes → length bytes ≡ 28 → AtRest s
-    → Among t (moments s (storeCall reply marks n bytes allowance list)) → m < 256
+    (s t : State) (reply marks : Lent) (n : ℕ) (bytes : List ℕ) (allowance : ℕ) (list : List ℕ) (k m : ℕ) → Storable n bytes → AtRest s
+    → Among t (moments s (storeCall reply marks n bytes allowance list))
     → CutKeeps s (left (powerCut t (tearOf k m))) n bytes
 
 -- ---- "The store never writes outside 010000 to 01FFFF, and never more than the slots it names": the first empty one and the live ones of the number
@@ -121,14 +131,14 @@ pub record Stays (v : Shown) (n : ℕ) (s t : State) : Type 0 where
 -- at each moment
 abbrev pub StoreStays : Type 0
 StoreStays =
-    (s t : State) (reply marks : Lent) (n : ℕ) (bytes : List ℕ) (allowance : ℕ) (list : List ℕ) → OfBytes (s .array) → length bytes ≡ 28
+    (s t : State) (reply marks : Lent) (n : ℕ) (bytes : List ℕ) (allowance : ℕ) (list : List ℕ) → OfBytes (s .array)
     → Among t (moments s (storeCall reply marks n bytes allowance list)) → Stays (shownAt s) n s t
 
 -- and after a power cut there, where nothing ran or was suspended at the start
 abbrev pub CutStays : Type 0
 CutStays =
-    (s t : State) (reply marks : Lent) (n : ℕ) (bytes : List ℕ) (allowance : ℕ) (list : List ℕ) (k m : ℕ) → length bytes ≡ 28 → AtRest s
-    → Among t (moments s (storeCall reply marks n bytes allowance list)) → m < 256
+    (s t : State) (reply marks : Lent) (n : ℕ) (bytes : List ℕ) (allowance : ℕ) (list : List ℕ) (k m : ℕ) → AtRest s
+    → Among t (moments s (storeCall reply marks n bytes allowance list))
     → Stays (shownAt s) n s (left (powerCut t (tearOf k m)))
 
 -- ---- "sends only frames (03, 06, 02, 05, of SPI length)": those of the read, of a write and of a poll, and completions between them
@@ -155,3 +165,11 @@ lastOf s (e ∷ es) = lastOf (left (step s e)) es
 
 abbrev pub CallsAreRuns : Type 0
 CallsAreRuns = (s : State) (call : Script) → played s call .state ≡ lastOf s (made s call)
+
+-- and its moments are the states before, between and after them
+abbrev pub along : State → List Event → List State
+along s [] = s ∷ []
+along s (e ∷ es) = s ∷ along (left (step s e)) es
+
+abbrev pub MomentsAreRuns : Type 0
+MomentsAreRuns = (s : State) (call : Script) → moments s call ≡ along s (made s call)

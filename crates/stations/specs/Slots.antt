@@ -15,6 +15,10 @@ Shown = ℕ → Cell
 abbrev pub shownIn : List ℕ → List ℕ → Shown
 shownIn reply marks p = record { byte = getD reply p 0; mark = getD marks p 0 }
 
+-- a list that begins with these bytes and is FF behind them
+abbrev pub shownFrom : List ℕ → Shown
+shownFrom bytes p = record { byte = getD bytes p 0xFF; mark = 1 }
+
 abbrev pub slotSize : ℕ
 slotSize = 32
 

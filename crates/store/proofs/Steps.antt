@@ -94,7 +94,10 @@ module _ (b : Bench) (allowance made e n : ℕ) (more : made < allowance) where
       one-more : suc made ≡ made + 1
       one-more = omega arith
 
-  module _ {r : Polled} {b′ : Bench} (told : PolledPromise (eqb (made + 1) e) b r b′) where
+  module _ {arrives : Bool} (is : arrives ≡ eqb (made + 1) e) {r : Polled} {b′ : Bench} (polled : PolledPromise arrives b r b′) where
+    told : PolledPromise (eqb (made + 1) e) b r b′
+    told = subst (λ (x : Bool). PolledPromise x b r b′) is polled
+
     pub poll-refused : {x : ℕ} → x ≡ answerNumber (r .answer) → eqb (answerNumber (r .answer)) 0 ≡ false → endedOf x n (stateOf b′) ≡ before
     unfolding played
     poll-refused {x} e f =

@@ -10,9 +10,9 @@ ghost use mathlib.Core.Path.{_≡_};
 ghost use mathlib.Core.Bool.{_&&_};
 ghost use lib.Dec.{eqb};
 ghost use lib.ListN.{length};
-ghost use Prim.Native.Nat.{_<_};
+ghost use Prim.Native.Nat.{_<_, _≤_};
 ghost use Rattle.rules.specs.Promises.{zeroed, benchOf, carriedOf, returnedOf, FramePromise};
-ghost use Rattle.stations.specs.Slots.{dataSize, shownIn, bytesOf};
+ghost use Rattle.stations.specs.Slots.{dataSize, shownIn, bytesOf, freeSlot};
 ghost use Rattle.stations.specs.Calls.{listSize};
 ghost use Rattle.stations.specs.Promises.{deskOf, LookupPromise, StorePromise};
 ghost use Rattle.store.specs.Steps.{readFrame};
@@ -92,6 +92,15 @@ pub fn lookup(
     }
 }
 
+// The slot that a store writes into: the first empty one, 2048 where there is none. Never its own.
+fn slot_for(reply: &[u8], marks: &[u8], station: u16) -> usize
+    requires { ⌜ length (now reply) ≡ listSize ⌝ }
+    ensures { λ r. ⌜ r ≡ freeSlot (shownIn (now (reply .entry)) (now (marks .entry))) ⌝ }
+    ensures within { λ r. ⌜ r ≤ 2048 ⌝ }
+{
+    slots::first_empty(reply, marks)
+}
+
 // Number and data into the first empty slot, its mark, and the marks of the other live slots of that number.
 pub fn store(
     s: StoreRecord,
@@ -124,7 +133,7 @@ pub fn store(
             polls: 0,
         };
     };
-    let i = slots::first_empty(reply, marks);
+    let i = slot_for(reply, marks, station);
     if i == 2048 {
         return StoreRecord {
             chip: next,

@@ -7,6 +7,7 @@ use rules::Tear;
 use stations::StoreRecord;
 ghost use mathlib.Core.Path.{_≡_};
 ghost use Prim.Native.Nat.{_+_, _%_, _<_, _≤_};
+ghost use lib.Dec.{eqb};
 ghost use lib.ListN.{getD, length};
 ghost use Rattle.rules.specs.Promises.{zeroed, benchOf, stateOf};
 ghost use Rattle.stations.specs.Slots.{slotCount, thoseFrom, shownIn, liveOf};
@@ -69,6 +70,22 @@ fn poll_once(c: Chip, array: &mut [u8], security: &mut [u8], arrives: bool) -> P
     }
 }
 
+// Whether the completion arrives before the next poll of a write, of which `made` are made.
+fn arrives_next(made: u64, entry: u64) -> bool
+    requires { ⌜ made < 65535 ⌝ }
+    ensures { λ r. ⌜ r ≡ eqb (made + 1) entry ⌝ }
+{
+    made + 1 == entry
+}
+
+// The polls of a call whose last write used up what it was allowed.
+fn used_up(polls: u64, made: u64) -> u64
+    requires { ⌜ (polls ≤ mostPolls) × (made ≤ 65535) ⌝ }
+    ensures { λ r. ⌜ r ≡ polls + made ⌝ }
+{
+    polls + made
+}
+
 // Polls of one write, of whose completion `entry` says before which poll it arrives; `polls` were made before it.
 fn poll(
     c: Chip,
@@ -85,8 +102,9 @@ fn poll(
     let mut at = c;
     let mut made: u64 = 0;
     while made < allowance {
+        let arrives = arrives_next(made, entry);
         made += 1;
-        let t = poll_once(at, array, security, made == entry);
+        let t = poll_once(at, array, security, arrives);
         let answer = t.answer;
         at = t.chip;
         let Answer::Done = answer else {
@@ -107,7 +125,7 @@ fn poll(
     StoreRecord {
         chip: at,
         number: 18,
-        polls: polls + made,
+        polls: used_up(polls, made),
     }
 }
 

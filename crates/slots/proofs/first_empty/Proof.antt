@@ -1,16 +1,12 @@
+-- The first empty slot from i on is the first of all while none before i is empty. Assumes nothing.
 use Prim.Native.Nat.{_≤_, _-_}
 use mathlib.Core.Path.{_≡_, sym, _∙_}
-use mathlib.Core.Bool.{true, false}
-use lib.Dec.{eqb}
-use Rattle.stations.specs.Slots.{shownIn, allBelow, firstFrom, byteOf, empty, live, station, liveOf, slotOf, freeSlot}
-use borrow.Author.Needs.{needs}
-use Rattle.stations.proofs.Next.{first-hit, first-miss, first-end}
 use native.Mathlib.Omega.{arith}
+use borrow.Author.Needs.{needs}
+use Rattle.stations.specs.Slots.{shownIn, firstFrom, empty, freeSlot}
+use Rattle.stations.proofs.Next.{first-hit, first-miss, first-end}
 use Rattle.slots.proofs.first_empty.Statement.{statement}
 use Rattle.slots.proofs.first_empty.Tie as tie
-use Rattle.slots.proofs.first_empty.Reads as reads
-use Rattle.slots.proofs.first_empty.Lts as lts
-use Rattle.slots.proofs.is_empty.Reads as is-empty-reads
 
 abbrev Inv-loop : tie.InvT-loop
 Inv-loop reply marks i₀ i = (i ≤ 2048) × (freeSlot (shownIn reply marks) ≡ firstFrom (empty (shownIn reply marks)) i (2048 - i))
@@ -18,32 +14,25 @@ Inv-loop reply marks i₀ i = (i ≤ 2048) × (freeSlot (shownIn reply marks) �
 abbrev μ-loop : tie.MeasureT-loop
 μ-loop reply marks i₀ i = 2048 - i
 
--- src/lib.rt:77:5
 loop-holds : tie.Need-loop-holds Inv-loop μ-loop
 unfolding freeSlot firstFrom
 loop-holds c = search needs
 
--- src/lib.rt:78:12
 is-empty-requires : tie.Need-is-empty-requires Inv-loop μ-loop
 is-empty-requires c κs = search needs
 
--- src/lib.rt:79:13
 returns : tie.Need-returns Inv-loop μ-loop
 returns c = let l = c .before .before .before .loop in (sym (l .inv .1 ∙ first-hit _ 2048 (l .i) (omega arith) (sym (c .before .is-empty .ensures) ∙ c .if1 .taken)), omega arith)
 
--- src/lib.rt:81:9
 add-i : tie.Need-add-i Inv-loop μ-loop
 add-i c = search needs
 
--- src/lib.rt:77:5
 loop-less : tie.Need-loop-less Inv-loop μ-loop
 loop-less c = search needs
 
--- src/lib.rt:77:5
 loop-again : tie.Need-loop-again Inv-loop μ-loop
 loop-again c = let l = c .before .before .before .loop in (omega arith, l .inv .1 ∙ first-miss _ 2048 (l .i) (omega arith) (sym (c .before .is-empty .ensures) ∙ c .if1 .left))
 
--- src/lib.rt:72:1
 returns-2 : tie.Need-returns-2 Inv-loop μ-loop
 returns-2 c = let l = c .before .loop in let e : l .i ≡ 2048 = omega arith in (e ∙ sym (l .inv .1 ∙ first-end _ 2048 (l .i) e), omega arith)
 

@@ -1,15 +1,13 @@
+-- Each byte before j is FF; the first that is not ends the loop. Assumes nothing.
 use Prim.Native.Nat.{_≤_, _-_}
 use mathlib.Core.Path.{_≡_}
-use mathlib.Core.Bool.{true, false}
-use lib.Dec.{eqb}
-use Rattle.stations.specs.Slots.{shownIn, allBelow, firstFrom, byteOf, empty, live, station, liveOf, slotOf, freeSlot}
-use borrow.Author.Needs.{needs}
-use Rattle.slots.proofs.Slots.{isFF, empty-not, empty-next, empty-whole}
+use mathlib.Core.Bool.{true}
 use native.Mathlib.Omega.{arith}
+use borrow.Author.Needs.{needs}
+use Rattle.stations.specs.Slots.{allBelow}
+use Rattle.slots.proofs.Slots.{isFF, empty-not, empty-next, empty-whole}
 use Rattle.slots.proofs.is_empty.Statement.{statement}
 use Rattle.slots.proofs.is_empty.Tie as tie
-use Rattle.slots.proofs.is_empty.Reads as reads
-use Rattle.slots.proofs.is_empty.Lts as lts
 
 abbrev Inv-loop : tie.InvT-loop
 Inv-loop reply marks i j₀ j = (j ≤ 32) × (allBelow j (isFF reply marks i) ≡ true)
@@ -17,40 +15,31 @@ Inv-loop reply marks i j₀ j = (j ≤ 32) × (allBelow j (isFF reply marks i) �
 abbrev μ-loop : tie.MeasureT-loop
 μ-loop reply marks i j₀ j = 32 - j
 
--- src/lib.rt:14:5
 loop-holds : tie.Need-loop-holds Inv-loop μ-loop
 unfolding allBelow
 loop-holds c = search needs
 
--- src/lib.rt:15:18
 mul-if1 : tie.Need-mul-if1 Inv-loop μ-loop
 mul-if1 c = search needs
 
--- src/lib.rt:15:18
 add-if1 : tie.Need-add-if1 Inv-loop μ-loop
 add-if1 c = search needs
 
--- src/lib.rt:15:12
 shared-slice-read-if1 : tie.Need-shared-slice-read-if1 Inv-loop μ-loop
 shared-slice-read-if1 c = search needs
 
--- src/lib.rt:16:13
 returns : tie.Need-returns Inv-loop μ-loop
 returns c = let a = c .before .before .before .before .args in empty-not (a .reply .now) (a .marks .now) (a .i) (c .before .before .before .loop .j) (omega arith) (c .if1 .taken)
 
--- src/lib.rt:18:9
 add-j : tie.Need-add-j Inv-loop μ-loop
 add-j c = search needs
 
--- src/lib.rt:14:5
 loop-less : tie.Need-loop-less Inv-loop μ-loop
 loop-less c = search needs
 
--- src/lib.rt:14:5
 loop-again : tie.Need-loop-again Inv-loop μ-loop
 loop-again c = let a = c .before .before .before .before .args in let l = c .before .before .before .loop in (omega arith, empty-next (a .reply .now) (a .marks .now) (a .i) (l .j) (l .inv .1) (c .if1 .left))
 
--- src/lib.rt:9:1
 returns-2 : tie.Need-returns-2 Inv-loop μ-loop
 returns-2 c = let a = c .before .before .args in let l = c .before .loop in empty-whole (a .reply .now) (a .marks .now) (a .i) (l .j) (omega arith) (omega arith) (l .inv .1)
 

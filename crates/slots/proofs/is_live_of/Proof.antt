@@ -1,26 +1,18 @@
-use native.Mathlib.Omega.{arith}
+-- A live slot, and its number. Assumes nothing.
 use borrow.Author.Needs.{needs}
 use Rattle.slots.proofs.Slots.{live-numbered, not-live}
 use Rattle.slots.proofs.is_live_of.Statement.{statement}
 use Rattle.slots.proofs.is_live_of.Tie as tie
-use Rattle.slots.proofs.is_live_of.Reads as reads
-use Rattle.slots.proofs.is_live_of.Lts as lts
-use Rattle.slots.proofs.is_live.Reads as is-live-reads
-use Rattle.slots.proofs.station_of.Reads as station-of-reads
 
--- src/lib.rt:50:8
 is-live-requires : tie.Need-is-live-requires
 is-live-requires c κs = search needs
 
--- src/lib.rt:51:16
 station-of-requires : tie.Need-station-of-requires
 station-of-requires c κs = search needs
 
--- src/lib.rt:51:9
 returns : tie.Need-returns
 returns c = let a = c .before .before .before .before .before .args in live-numbered (a .reply .now) (a .marks .now) (a .number) (a .i) (c .before .before .is-live .ensures) (c .before .if1 .taken) (c .station-of .ensures)
 
--- src/lib.rt:46:1
 returns-2 : tie.Need-returns-2
 returns-2 c = let a = c .before .before .before .before .args in not-live (a .reply .now) (a .marks .now) (a .number) (a .i) (c .before .is-live .ensures) (c .if1 .left)
 

@@ -1,54 +1,41 @@
-use native.Mathlib.Omega.{arith}
+-- Two bytes, the high one first. Assumes nothing.
 use Prim.Native.Nat.{_+_, _*_}
+use native.Mathlib.Omega.{arith}
 use borrow.Author.Needs.{needs}
 use Rattle.stations.specs.Slots.{byteOf, station}
 use Rattle.slots.proofs.station_of.Statement.{statement}
 use Rattle.slots.proofs.station_of.Tie as tie
-use Rattle.slots.proofs.station_of.Reads as reads
-use Rattle.slots.proofs.station_of.Lts as lts
-use Rattle.slots.proofs.wide.Reads as wide-reads
 
--- src/lib.rt:42:16
 mul-wide : tie.Need-mul-wide
 mul-wide c = search needs
 
--- src/lib.rt:42:16
 add-wide : tie.Need-add-wide
 add-wide c = search needs
 
--- src/lib.rt:42:10
 shared-slice-read-wide : tie.Need-shared-slice-read-wide
 shared-slice-read-wide c = search needs
 
--- src/lib.rt:42:5
 wide-requires : tie.Need-wide-requires
 wide-requires c κs = search needs
 
--- src/lib.rt:42:5
 mul-result : tie.Need-mul-result
-mul-result c = let i = c .before .before .before .before .args .i in omega (arith, c .wide .ensures, c .before .shared-slice-known3 .given (i * 32 + 2))
+mul-result c = let i = c .before .before .before .before .args .i in omega (arith, c .wide .ensures, c .before .shared-slice-known3 .given (i * 32 + 2), c .before .shared-slice-known3 .given (i * 32 + 3))
 
--- src/lib.rt:42:48
 mul-wide-2 : tie.Need-mul-wide-2
 mul-wide-2 c = search needs
 
--- src/lib.rt:42:48
 add-wide-2 : tie.Need-add-wide-2
 add-wide-2 c = search needs
 
--- src/lib.rt:42:42
 shared-slice-read-wide-2 : tie.Need-shared-slice-read-wide-2
 shared-slice-read-wide-2 c = search needs
 
--- src/lib.rt:42:37
 wide-requires-2 : tie.Need-wide-requires-2
 wide-requires-2 c κs = search needs
 
--- src/lib.rt:42:5
 add-result : tie.Need-add-result
-add-result c = let i = c .before .before .before .before .before .before .args .i in omega (arith, c .wide2 .ensures, c .before .before .wide .ensures, c .before .before .before .shared-slice-known3 .given (i * 32 + 2), c .before .shared-slice-known4 .given (i * 32 + 3))
+add-result c = let i = c .before .before .before .before .before .before .args .i in omega (arith, c .wide2 .ensures, c .before .before .wide .ensures, c .before .shared-slice-known4 .given (i * 32 + 2), c .before .shared-slice-known4 .given (i * 32 + 3))
 
--- src/lib.rt:38:1
 returns : tie.Need-returns
 unfolding station byteOf
 returns c = search needs

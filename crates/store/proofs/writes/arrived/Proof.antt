@@ -1,29 +1,21 @@
-use native.Mathlib.Omega.{arith}
+-- The chip's completion, or nothing. Assumes nothing.
 use borrow.Author.Needs.{needs}
 use Rattle.store.proofs.Steps.{arrives-now, arrives-not}
 use Rattle.store.proofs.writes.arrived.Statement.{statement}
 use Rattle.store.proofs.writes.arrived.Tie as tie
-use Rattle.store.proofs.writes.arrived.Reads as reads
-use Rattle.store.proofs.writes.arrived.Lts as lts
-use Rattle.chip.proofs.completion.Reads as completion-reads
 
--- src/writes.rt:40:13
 completion-requires : tie.Need-completion-requires
 completion-requires c κs = search needs
 
--- src/writes.rt:42:9
 same-length : tie.Need-same-length
 same-length c = search needs
 
--- src/writes.rt:42:9
 same-length-2 : tie.Need-same-length-2
 same-length-2 c = search needs
 
--- src/writes.rt:42:9
 returns : tie.Need-returns
 returns c = arrives-now (c .before .before .before .before .before .before .before .before .if1 .taken) (c .before .before .before .before .before .completion .ensures)
 
--- src/writes.rt:36:1
 returns-2 : tie.Need-returns-2
 returns-2 c = arrives-not (c .if1 .left)
 

@@ -1,21 +1,17 @@
+-- The clears from the first live slot on come, from where the chip is now, to what all of them come to from the start. Assumes nothing.
 use Prim.Native.Nat.{ℕ, _+_, _-_, _*_, _≤_}
 use mathlib.Core.Path.{_≡_, refl, sym, ap, _∙_}
 use mathlib.Core.List.{List}
+use native.Mathlib.Omega.{arith}
 use lib.ListN.{length}
+use borrow.Author.Needs.{needs}
 use Rattle.rules.specs.Promises.{benchOf, stateOf}
 use Rattle.stations.specs.Slots.{shownIn, thoseFrom, liveOf}
 use Rattle.stations.specs.Plans.{clearings}
 use Rattle.stations.specs.Calls.{endedOf, played, writes}
 use Rattle.store.proofs.Clears.{clearsAt, clears-first, clears-here, clears-end, ends-there, goes-on-from}
-use borrow.Author.Needs.{needs}
-use native.Mathlib.Omega.{arith}
 use Rattle.store.proofs.writes.clear_others.Statement.{statement}
 use Rattle.store.proofs.writes.clear_others.Tie as tie
-use Rattle.store.proofs.writes.clear_others.Reads as reads
-use Rattle.store.proofs.writes.clear_others.Lts as lts
-use Rattle.slots.proofs.live_from.Reads as live-from-reads
-use Rattle.store.proofs.writes.entry_of.Reads as entry-of-reads
-use Rattle.store.proofs.writes.write_mark.Reads as write-mark-reads
 
 abbrev Inv-loop : tie.InvT-loop
 Inv-loop array₀ security₀ reply marks station allowance list at₀ turn₀ i₀ array security at turn i =
@@ -33,31 +29,24 @@ Inv-loop array₀ security₀ reply marks station allowance list at₀ turn₀ i
 abbrev μ-loop : tie.MeasureT-loop
 μ-loop array₀ security₀ reply marks station allowance list at₀ turn₀ i₀ array security at turn i = 2048 - i
 
--- src/writes.rt:234:9
 live-from-requires : tie.Need-live-from-requires Inv-loop μ-loop
 live-from-requires c κs = search needs
 
--- src/writes.rt:235:5
 loop-holds : tie.Need-loop-holds Inv-loop μ-loop
 loop-holds c = let p = c .before .before .before .before .before .before .pre in record { low = c .live-from .ensures .1 .1; going = p .0; turns = omega arith; few = omega (arith, p .3); same-array = refl; same-security = refl; is = refl }
 
--- src/writes.rt:236:72
 entry-of-requires : tie.Need-entry-of-requires Inv-loop μ-loop
 entry-of-requires c κs = search needs
 
--- src/writes.rt:236:9
 write-mark-requires : tie.Need-write-mark-requires Inv-loop μ-loop
 write-mark-requires c κs = let l = c .before .before .before .before .loop in let p = c .before .before .before .before .before .before .before .before .before .before .before .pre in (omega arith, p .2, omega (arith, l .inv .few, l .inv .low, c .before .before .before .loop-test .taken))
 
--- src/writes.rt:238:13
 same-length : tie.Need-same-length Inv-loop μ-loop
 same-length c = c .before .before .before .before .before .before .write-mark .kept .1 .0 ∙ c .before .before .before .before .before .before .before .before .before .before .before .loop .inv .same-array
 
--- src/writes.rt:238:13
 same-length-2 : tie.Need-same-length-2 Inv-loop μ-loop
 same-length-2 c = c .before .before .before .before .before .before .write-mark .kept .1 .1 .0 ∙ c .before .before .before .before .before .before .before .before .before .before .before .loop .inv .same-security
 
--- src/writes.rt:238:13
 returns : tie.Need-returns Inv-loop μ-loop
 returns c = let l = c .before .before .before .before .before .before .before .before .before .before .before .loop in let a = c .before .before .before .before .before .before .before .before .before .before .before .before .before .before .before .before .before .before .args in let w = c .before .before .before .before .before .before .write-mark in let e = c .before .before .before .before .before .before .before .entry-of in
     let t = liveOf (shownIn (a .reply .now) (a .marks .now)) (a .station) in let s = stateOf (benchOf (l .at .chip) (l .array) (l .security)) in
@@ -66,23 +55,18 @@ returns c = let l = c .before .before .before .before .before .before .before .b
     ∙ l .inv .is
     ∙ ap (λ (fs : List (List ℕ)). played (stateOf (benchOf (a .s .chip) (a .array .now) (a .security .now))) (writes (a .allowance) (a .list .now) 2 fs (a .s .polls))) (sym (clears-first t 0 _ (omega arith) (c .before .before .before .before .before .before .before .before .before .before .before .before .live-from .ensures .0)))
 
--- src/writes.rt:240:9
 add-turn : tie.Need-add-turn Inv-loop μ-loop
 add-turn c = search needs
 
--- src/writes.rt:241:53
 add-live-from : tie.Need-add-live-from Inv-loop μ-loop
 add-live-from c = search needs
 
--- src/writes.rt:241:9
 live-from-requires-2 : tie.Need-live-from-requires-2 Inv-loop μ-loop
 live-from-requires-2 c κs = (c .before .before .before .before .before .before .before .before .before .before .before .before .before .before .before .before .before .before .pre .1, omega (arith, c .before .before .before .before .before .before .before .before .before .before .loop-test .taken))
 
--- src/writes.rt:235:5
 loop-less : tie.Need-loop-less Inv-loop μ-loop
 loop-less c = search needs
 
--- src/writes.rt:235:5
 loop-again : tie.Need-loop-again Inv-loop μ-loop
 loop-again c = let l = c .before .before .before .before .before .before .before .before .before .before .before .before .loop in let a = c .before .before .before .before .before .before .before .before .before .before .before .before .before .before .before .before .before .before .before .args in let w = c .before .before .before .before .before .before .before .write-mark in let e = c .before .before .before .before .before .before .before .before .entry-of in
     let t = liveOf (shownIn (a .reply .now) (a .marks .now)) (a .station) in let s = stateOf (benchOf (l .at .chip) (l .array) (l .security)) in
@@ -100,15 +84,12 @@ loop-again c = let l = c .before .before .before .before .before .before .before
           ∙ l .inv .is;
     }
 
--- src/writes.rt:219:1
 same-length-3 : tie.Need-same-length-3 Inv-loop μ-loop
 same-length-3 c = c .before .loop .inv .same-array
 
--- src/writes.rt:219:1
 same-length-4 : tie.Need-same-length-4 Inv-loop μ-loop
 same-length-4 c = c .before .loop .inv .same-security
 
--- src/writes.rt:219:1
 returns-2 : tie.Need-returns-2 Inv-loop μ-loop
 returns-2 c = let l = c .before .loop in let a = c .before .before .before .before .before .before .before .before .args in let t = liveOf (shownIn (a .reply .now) (a .marks .now)) (a .station) in
     (λ i. endedOf (l .inv .going i) (l .at .polls) (stateOf (benchOf (l .at .chip) (l .array) (l .security))))

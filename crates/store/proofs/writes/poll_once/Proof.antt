@@ -1,51 +1,36 @@
-use native.Mathlib.Omega.{arith}
+-- The completion where it arrives, then a status frame. Assumes nothing.
 use borrow.Author.Needs.{needs}
 use Rattle.store.proofs.Steps.{calmly, polls-once}
 use Rattle.store.proofs.writes.poll_once.Statement.{statement}
 use Rattle.store.proofs.writes.poll_once.Tie as tie
-use Rattle.store.proofs.writes.poll_once.Reads as reads
-use Rattle.store.proofs.writes.poll_once.Lts as lts
-use Rattle.chip.proofs.frame.Reads as frame-reads
-use Rattle.store.proofs.writes.arrived.Reads as arrived-reads
-use Rattle.store.proofs.writes.calm.Reads as calm-reads
 
--- src/writes.rt:57:9
 arrived-requires : tie.Need-arrived-requires
 arrived-requires c κs = search needs
 
--- src/writes.rt:60:9
 calm-requires : tie.Need-calm-requires
 calm-requires c κs = search needs
 
--- src/writes.rt:61:53
 slice-aggregate-frame : tie.Need-slice-aggregate-frame
 slice-aggregate-frame c = search needs
 
--- src/writes.rt:61:62
 slice-aggregate-frame-2 : tie.Need-slice-aggregate-frame-2
 slice-aggregate-frame-2 c = search needs
 
--- src/writes.rt:61:74
 slice-aggregate-frame-3 : tie.Need-slice-aggregate-frame-3
 slice-aggregate-frame-3 c = search needs
 
--- src/writes.rt:61:9
 frame-requires : tie.Need-frame-requires
 frame-requires c κs = search needs
 
--- src/writes.rt:67:15
 array-read-t29 : tie.Need-array-read-t29
 array-read-t29 c = search needs
 
--- src/writes.rt:54:1
 same-length : tie.Need-same-length
 same-length c = search needs
 
--- src/writes.rt:54:1
 same-length-2 : tie.Need-same-length-2
 same-length-2 c = search needs
 
--- src/writes.rt:54:1
 returns : tie.Need-returns
 returns c = polls-once (c .before .before .before .before .before .before .before .before .before .before .before .before .before .before .before .before .before .before .arrived .ensures) (calmly (c .before .before .before .before .before .before .before .before .before .before .before .before .before .calm .ensures) (c .before .before .before .before .before .before .before .frame .ensures))
 

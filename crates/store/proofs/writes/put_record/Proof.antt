@@ -1,52 +1,39 @@
+-- The frame in two parts: six bytes in front, and the data. Assumes nothing.
 use mathlib.Core.Path.{_∙_, refl}
 use mathlib.Core.List.{[], _∷_}
-use Rattle.store.proofs.Steps.{two-parts}
 use native.Mathlib.Omega.{arith}
 use borrow.Author.Needs.{needs}
+use Rattle.store.proofs.Steps.{two-parts}
 use Rattle.store.proofs.writes.put_record.Statement.{statement}
 use Rattle.store.proofs.writes.put_record.Tie as tie
-use Rattle.store.proofs.writes.put_record.Reads as reads
-use Rattle.store.proofs.writes.put_record.Lts as lts
-use Rattle.memory.proofs.copy.Reads as copy-reads
-use Rattle.store.proofs.writes.byte_of.Reads as byte-of-reads
 
--- src/writes.rt:191:13
 mul-p : tie.Need-mul-p
 mul-p c = search needs
 
--- src/writes.rt:191:13
 add-p : tie.Need-add-p
 add-p c = search needs
 
--- src/writes.rt:193:29
 byte-of-requires : tie.Need-byte-of-requires
 byte-of-requires c κs = search needs
 
--- src/writes.rt:193:47
 byte-of-requires-2 : tie.Need-byte-of-requires-2
 byte-of-requires-2 c κs = search needs
 
--- src/writes.rt:193:59
 byte-of-requires-3 : tie.Need-byte-of-requires-3
 byte-of-requires-3 c κs = search needs
 
--- src/writes.rt:193:77
 byte-of-requires-4 : tie.Need-byte-of-requires-4
 byte-of-requires-4 c κs = search needs
 
--- src/writes.rt:194:31
 slice-aggregate-copy : tie.Need-slice-aggregate-copy
 slice-aggregate-copy c = search needs
 
--- src/writes.rt:194:5
 copy-requires : tie.Need-copy-requires
 copy-requires c κs = search needs
 
--- src/writes.rt:195:5
 copy-requires-2 : tie.Need-copy-requires-2
 copy-requires-2 c κs = search needs
 
--- src/writes.rt:187:1
 returns : tie.Need-returns
 returns c = let a = c .before .before .before .before .before .before .before .before .before .before .args in let u = c .before .before .before .before .before .before .before .before .byte-of in let v = c .before .before .before .before .before .before .before .byte-of2 in let x = c .before .before .before .before .before .before .byte-of3 in let y = c .before .before .before .before .before .byte-of4 in
     two-parts _ (c .before .before .copy .last .0) (a .frame .now) (0x02 ∷ 0x01 ∷ u .result ∷ v .result ∷ x .result ∷ y .result ∷ []) (a .«data» .now) (c .copy2 .ensures) (c .before .before .copy .ensures) (omega arith) refl (c .before .before .before .before .before .before .before .before .before .before .pre .1)

@@ -1,59 +1,44 @@
+-- The first write, the second, the clears: each goes on from a done one. Assumes nothing.
 use mathlib.Core.Path.{_∙_}
 use mathlib.Core.List.{_∷_}
+use native.Mathlib.Omega.{arith}
+use borrow.Author.Needs.{needs}
 use Rattle.rules.specs.Promises.{benchOf, stateOf}
 use Rattle.stations.specs.Slots.{shownIn, thoseFrom, liveOf}
 use Rattle.stations.specs.Plans.{recordFrame, markFrame, clearings}
 use Rattle.store.proofs.Clears.{ends-there, goes-on-from}
-use native.Mathlib.Omega.{arith}
-use borrow.Author.Needs.{needs}
 use Rattle.store.proofs.writes.write_all.Statement.{statement}
 use Rattle.store.proofs.writes.write_all.Tie as tie
-use Rattle.store.proofs.writes.write_all.Reads as reads
-use Rattle.store.proofs.writes.write_all.Lts as lts
-use Rattle.store.proofs.writes.clear_others.Reads as clear-others-reads
-use Rattle.store.proofs.writes.entry_of.Reads as entry-of-reads
-use Rattle.store.proofs.writes.write_mark.Reads as write-mark-reads
-use Rattle.store.proofs.writes.write_record.Reads as write-record-reads
 
--- src/writes.rt:272:82
 entry-of-requires : tie.Need-entry-of-requires
 entry-of-requires c κs = search needs
 
--- src/writes.rt:272:9
 write-record-requires : tie.Need-write-record-requires
 write-record-requires c κs = search needs
 
--- src/writes.rt:274:9
 same-length : tie.Need-same-length
 same-length c = search needs
 
--- src/writes.rt:274:9
 same-length-2 : tie.Need-same-length-2
 same-length-2 c = search needs
 
--- src/writes.rt:274:9
 returns : tie.Need-returns
 returns c = let a = c .before .before .before .before .before .before .before .before .before .before .before .before .before .before .before .before .args in let w = c .before .before .before .before .before .before .write-record in let e = c .before .before .before .before .before .before .before .entry-of in let v = shownIn (a .reply .now) (a .marks .now) in
     let clears = clearings (thoseFrom (liveOf v (a .station)) 0 2048) in let s = stateOf (benchOf (a .c) (a .array .now) (a .security .now)) in
     ends-there s (a .allowance) (e .result) 0 (a .list .now) 0 (recordFrame (a .i) (a .station) (a .«data» .now)) (markFrame (a .i) 0x53 0x54 ∷ clears) (w .result) (w .last .1 .0) (w .last .1 .1 .0) (e .ensures) (w .ensures .0) (c .if1 .taken)
 
--- src/writes.rt:276:82
 entry-of-requires-2 : tie.Need-entry-of-requires-2
 entry-of-requires-2 c κs = search needs
 
--- src/writes.rt:276:9
 write-mark-requires : tie.Need-write-mark-requires
 write-mark-requires c κs = let p = c .before .before .before .before .before .before .before .before .before .before .before .before .before .before .before .before .before .before .before .pre in (p .0, p .3, omega (arith, p .3, c .before .before .before .before .before .before .before .before .before .write-record .ensures .1))
 
--- src/writes.rt:278:9
 same-length-3 : tie.Need-same-length-3
 same-length-3 c = search needs
 
--- src/writes.rt:278:9
 same-length-4 : tie.Need-same-length-4
 same-length-4 c = search needs
 
--- src/writes.rt:278:9
 returns-2 : tie.Need-returns-2
 returns-2 c = let a = c .before .before .before .before .before .before .before .before .before .before .before .before .before .before .before .before .before .before .before .before .before .before .before .before .before .before .args in let w = c .before .before .before .before .before .before .before .before .before .before .before .before .before .before .before .before .write-record in let e = c .before .before .before .before .before .before .before .before .before .before .before .before .before .before .before .before .before .entry-of in let v = shownIn (a .reply .now) (a .marks .now) in
     let clears = clearings (thoseFrom (liveOf v (a .station)) 0 2048) in let s = stateOf (benchOf (a .c) (a .array .now) (a .security .now)) in
@@ -61,19 +46,15 @@ returns-2 c = let a = c .before .before .before .before .before .before .before 
     ends-there t (a .allowance) (d .result) (w .result .polls) (a .list .now) 1 (markFrame (a .i) 0x53 0x54) clears (m .result) (m .last .1 .0) (m .last .1 .1 .0) (d .ensures) (m .ensures .0) (c .if2 .taken)
     ∙ goes-on-from s (a .allowance) (e .result) 0 (a .list .now) 0 (recordFrame (a .i) (a .station) (a .«data» .now)) (markFrame (a .i) 0x53 0x54 ∷ clears) (w .result) (w .last .1 .0) (w .last .1 .1 .0) (e .ensures) (w .ensures .0) (c .before .before .before .before .before .before .before .before .before .before .if1 .left)
 
--- src/writes.rt:280:5
 clear-others-requires : tie.Need-clear-others-requires
 clear-others-requires c κs = let p = c .before .before .before .before .before .before .before .before .before .before .before .before .before .before .before .before .before .before .before .before .before .before .before .before .before .before .before .before .pre in (c .before .before .if2 .left, p .1, p .3, omega (arith, p .3, c .before .before .before .before .before .before .before .before .write-mark .ensures .1, c .before .before .before .before .before .before .before .before .before .before .before .before .before .before .before .before .before .before .write-record .ensures .1))
 
--- src/writes.rt:252:1
 same-length-5 : tie.Need-same-length-5
 same-length-5 c = c .before .before .before .before .clear-others .kept .1 .0 ∙ c .before .before .before .before .before .before .before .before .before .before .before .before .before .write-mark .kept .1 .0 ∙ c .before .before .before .before .before .before .before .before .before .before .before .before .before .before .before .before .before .before .before .before .before .before .before .write-record .kept .1 .0
 
--- src/writes.rt:252:1
 same-length-6 : tie.Need-same-length-6
 same-length-6 c = c .before .before .before .before .clear-others .kept .1 .1 .0 ∙ c .before .before .before .before .before .before .before .before .before .before .before .before .before .write-mark .kept .1 .1 .0 ∙ c .before .before .before .before .before .before .before .before .before .before .before .before .before .before .before .before .before .before .before .before .before .before .before .write-record .kept .1 .1 .0
 
--- src/writes.rt:252:1
 returns-3 : tie.Need-returns-3
 returns-3 c = let a = c .before .before .before .before .before .before .before .before .before .before .before .before .before .before .before .before .before .before .before .before .before .before .before .before .before .before .before .before .before .before .before .before .before .args in let w = c .before .before .before .before .before .before .before .before .before .before .before .before .before .before .before .before .before .before .before .before .before .before .before .write-record in let e = c .before .before .before .before .before .before .before .before .before .before .before .before .before .before .before .before .before .before .before .before .before .before .before .before .entry-of in let v = shownIn (a .reply .now) (a .marks .now) in
     let clears = clearings (thoseFrom (liveOf v (a .station)) 0 2048) in let s = stateOf (benchOf (a .c) (a .array .now) (a .security .now)) in

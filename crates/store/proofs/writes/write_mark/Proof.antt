@@ -1,45 +1,33 @@
+-- The frame of a mark is that of its six bytes. Assumes nothing.
 use mathlib.Core.Path.{_∙_}
 use mathlib.Core.List.{[], _∷_}
+use borrow.Author.Needs.{needs}
 use Rattle.rules.specs.Promises.{benchOf, stateOf}
 use Rattle.stations.specs.Calls.{ends, played, write}
-use native.Mathlib.Omega.{arith}
-use borrow.Author.Needs.{needs}
 use Rattle.store.proofs.writes.write_mark.Statement.{statement}
 use Rattle.store.proofs.writes.write_mark.Tie as tie
-use Rattle.store.proofs.writes.write_mark.Reads as reads
-use Rattle.store.proofs.writes.write_mark.Lts as lts
-use Rattle.store.proofs.writes.byte_of.Reads as byte-of-reads
-use Rattle.store.proofs.writes.write.Reads as write-reads
 
--- src/writes.rt:181:13
 mul-p : tie.Need-mul-p
 mul-p c = search needs
 
--- src/writes.rt:182:30
 byte-of-requires : tie.Need-byte-of-requires
 byte-of-requires c κs = search needs
 
--- src/writes.rt:182:48
 byte-of-requires-2 : tie.Need-byte-of-requires-2
 byte-of-requires-2 c κs = search needs
 
--- src/writes.rt:183:31
 slice-aggregate-write : tie.Need-slice-aggregate-write
 slice-aggregate-write c = search needs
 
--- src/writes.rt:183:5
 write-requires : tie.Need-write-requires
 write-requires c κs = search needs
 
--- src/writes.rt:167:1
 same-length : tie.Need-same-length
 same-length c = search needs
 
--- src/writes.rt:167:1
 same-length-2 : tie.Need-same-length-2
 same-length-2 c = search needs
 
--- src/writes.rt:167:1
 returns : tie.Need-returns
 returns c = let a = c .before .before .before .before .before .before .before .before .before .before .before .before .args in let w = c .before .before .before .before .write .ensures in
     (w .0 ∙ (λ j. played (stateOf (benchOf (a .s .chip) (a .array .now) (a .security .now))) (write (a .allowance) (a .entry) (0x02 ∷ 0x01 ∷ c .before .before .before .before .before .before .before .before .before .byte-of .ensures j ∷ c .before .before .before .before .before .before .before .before .byte-of2 .ensures j ∷ a .first ∷ a .second ∷ []) (a .s .polls) (ends 0))), w .1)

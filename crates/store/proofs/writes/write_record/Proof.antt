@@ -1,39 +1,29 @@
+-- One write with the frame of number and data. Assumes nothing.
 use Prim.Native.Nat.{ℕ, suc}
 use mathlib.Core.Path.{sym, ap, _∙_}
 use mathlib.Core.List.{List}
 use lib.ListN.{length}
+use borrow.Author.Needs.{needs}
 use Rattle.rules.specs.Promises.{benchOf, stateOf}
 use Rattle.stations.specs.Calls.{ends, played, write}
-use native.Mathlib.Omega.{arith}
-use borrow.Author.Needs.{needs}
 use Rattle.store.proofs.writes.write_record.Statement.{statement}
 use Rattle.store.proofs.writes.write_record.Tie as tie
-use Rattle.store.proofs.writes.write_record.Reads as reads
-use Rattle.store.proofs.writes.write_record.Lts as lts
-use Rattle.store.proofs.writes.put_record.Reads as put-record-reads
-use Rattle.store.proofs.writes.write.Reads as write-reads
 
--- src/writes.rt:217:5
 put-record-requires : tie.Need-put-record-requires
 put-record-requires c κs = search needs
 
--- src/writes.rt:218:31
 slice-aggregate-write : tie.Need-slice-aggregate-write
 slice-aggregate-write c = let a = c .before .before .before .before .before .before .before .before .args in let e = ap length (c .before .before .before .put-record .ensures) in let l = c .before .before .before .before .before .before .before .before .pre .1 in sym (e ∙ ap (λ (x : ℕ). suc (suc (suc (suc (suc (suc x)))))) l)
 
--- src/writes.rt:218:5
 write-requires : tie.Need-write-requires
 write-requires c κs = search needs
 
--- src/writes.rt:202:1
 same-length : tie.Need-same-length
 same-length c = search needs
 
--- src/writes.rt:202:1
 same-length-2 : tie.Need-same-length-2
 same-length-2 c = search needs
 
--- src/writes.rt:202:1
 returns : tie.Need-returns
 returns c = let a = c .before .before .before .before .before .before .before .before .before .before .before .before .before .args in let w = c .before .before .before .before .write .ensures in
     (w .0 ∙ ap (λ (f : List ℕ). played (stateOf (benchOf (a .s .chip) (a .array .now) (a .security .now))) (write (a .allowance) (a .entry) f (a .s .polls) (ends 0))) (c .before .before .before .before .before .before .before .before .put-record .ensures), w .1)

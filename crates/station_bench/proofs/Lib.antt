@@ -1,0 +1,3 @@
+-- The exported functions of the station list.
+pub mod Calls
+pub mod Unique

@@ -1,0 +1,2 @@
+-- What the exported functions of the station list promise.
+pub mod Boundary
