@@ -14,8 +14,8 @@ use Rattle.standing.specs.declared.Playing.{Playing}
 use Rattle.standing.specs.Benches.{front}
 use Rattle.calling.specs.declared.Account.{Account}
 use Rattle.calling.specs.declared.Called.{Called}
-use Rattle.calling.specs.Lists.{stationOf, dataOf, allowanceOf, listOf, writesEnded}
-use Rattle.calling.specs.Calls.{Stored, Found, Shown}
+use Rattle.calls.specs.Lists.{stationOf, dataOf, allowanceOf, listOf, writesEnded}
+use Rattle.calls.specs.Calls.{Stored, Found, Shown}
 use Rattle.calling.specs.Lines.{noCounts, noBytes, noAccount, accountOf, calledOf, ended, answered, accountShown, foundBytes, StoreJudged, FindJudged, StorePlayed, FindPlayed, StationsPlayed}
 
 module _ (p : Playing) (l : Line) (A S E K R M A′ S′ R′ M′ : List ℕ) (q : StoreRecord) (v : Verdict) {k : ℕ} (ek : k ≡ stationOf (l .slots)) {P : Playing} {a : Account} (is : P ≡ ended p (q .number) (q .chip) v) where

@@ -1,5 +1,3 @@
 -- Laws that the proofs cite, and no second outcome.
-pub mod Entries
-pub mod Desks
-pub mod Copies
 pub mod Ends
+pub mod Unique

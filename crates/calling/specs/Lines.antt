@@ -27,8 +27,8 @@ use Rattle.standing.specs.Benches.{front, benchOf, unjudged}
 use Rattle.calling.specs.declared.Account.{Account}
 use Rattle.calling.specs.declared.Called.{Called}
 use Rattle.calling.specs.declared.Errand.{Errand}
-use Rattle.calling.specs.Lists.{stationOf, dataOf, allowanceOf, listOf, writesEnded}
-use Rattle.calling.specs.Calls.{Stored, Found, Shown}
+use Rattle.calls.specs.Lists.{stationOf, dataOf, allowanceOf, listOf, writesEnded}
+use Rattle.calls.specs.Calls.{Stored, Found, Shown}
 
 -- ---- what a line asks for
 

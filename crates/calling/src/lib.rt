@@ -1,11 +1,6 @@
 // What becomes of the bench where a line stores a station, finds one or asks for the list. specs/Lines.antt.
-mod calls;
-mod lists;
-
 use census::Counts;
 use expecting::Verdict;
-pub use lists::allowance_of;
-pub use lists::station_of;
 use rules::Chip;
 use rules::plain::smaller;
 use script::Line;
@@ -176,9 +171,9 @@ fn store(
 {
     let b = p.bench;
     let slots = l.slots;
-    let station = lists::station_of(slots);
-    let allowance = lists::allowance_of(slots);
-    let list = lists::list_of(slots, expected, known);
+    let station = calls::station_of(slots);
+    let allowance = calls::allowance_of(slots);
+    let list = calls::list_of(slots, expected, known);
     let r = calls::sent(
         b,
         station,
@@ -191,7 +186,7 @@ fn store(
         reply,
         marks,
     );
-    let writes = lists::writes_ended(allowance, &list);
+    let writes = calls::writes_ended(allowance, &list);
     let chip = r.chip;
     let v = store_judged(p, l, r.number);
     let playing = ended(p, r.number, chip, v);
@@ -267,7 +262,7 @@ fn find(
 {
     let b = p.bench;
     let slots = l.slots;
-    let station = lists::station_of(slots);
+    let station = calls::station_of(slots);
     let mut bytes = [0u8; 28];
     let r = calls::found(b, station, &mut bytes, array, security, reply, marks);
     let chip = r.chip;

@@ -30,7 +30,7 @@ use Rattle.ordering.specs.declared.Part.{Part}
 use Rattle.ordering.specs.declared.Place.{Place}
 use Rattle.calling.specs.declared.Account.{Account}
 use Rattle.calling.specs.declared.Errand.{Errand}
-use Rattle.calling.specs.Lists.{stationOf, allowanceOf}
+use Rattle.calls.specs.Lists.{stationOf, allowanceOf}
 use Rattle.calling.specs.Lines.{errandOf}
 
 -- ---- the first row: the line's words, and the answer in its column (form 7)

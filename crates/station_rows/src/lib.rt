@@ -46,7 +46,7 @@ fn part_row(
     let v = a.verdict;
     let bytes = a.bytes;
     let slots = l.slots;
-    let n = calling::station_of(slots);
+    let n = calls::station_of(slots);
     match part {
         Part::Remark => rows::empty(),
         Part::Head => heads::row(k, bench.line, n, p.number, a, reply, marks),
@@ -62,7 +62,7 @@ fn part_row(
             p.number,
             n,
             whys::size_of(slots, l.sent),
-            calling::allowance_of(slots),
+            calls::allowance_of(slots),
             a.writes,
             bench.array,
             bench.security,

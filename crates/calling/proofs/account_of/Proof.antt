@@ -3,9 +3,6 @@ use native.Mathlib.Omega.{arith}
 use borrow.Author.Needs.{needs}
 use Rattle.calling.proofs.account_of.Statement.{statement}
 use Rattle.calling.proofs.account_of.Tie as tie
-use Rattle.calling.proofs.account_of.Reads as reads
-use Rattle.calling.proofs.account_of.Lts as lts
-use Rattle.calling.proofs.no_counts.Reads as no-counts-reads
 
 no-counts-requires : tie.Need-no-counts-requires
 no-counts-requires c κs = search needs

@@ -3,11 +3,6 @@ use native.Mathlib.Omega.{arith}
 use borrow.Author.Needs.{needs}
 use Rattle.calling.proofs.account_shown.Statement.{statement}
 use Rattle.calling.proofs.account_shown.Tie as tie
-use Rattle.calling.proofs.account_shown.Reads as reads
-use Rattle.calling.proofs.account_shown.Lts as lts
-use Rattle.calling.proofs.cut_of.Reads as cut-of-reads
-use Rattle.calling.proofs.no_verdict.Reads as no-verdict-reads
-use Rattle.census.proofs.counted.Reads as counted-reads
 
 counted-requires : tie.Need-counted-requires
 counted-requires c κs = search needs

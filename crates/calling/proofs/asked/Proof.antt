@@ -3,10 +3,6 @@ use native.Mathlib.Omega.{arith}
 use borrow.Author.Needs.{needs}
 use Rattle.calling.proofs.asked.Statement.{statement}
 use Rattle.calling.proofs.asked.Tie as tie
-use Rattle.calling.proofs.asked.Reads as reads
-use Rattle.calling.proofs.asked.Lts as lts
-use Rattle.script.proofs.line_of.Reads as line-of-reads
-use Rattle.standing.proofs.deed_of.Reads as deed-of-reads
 
 returns : tie.Need-returns
 returns c = search needs

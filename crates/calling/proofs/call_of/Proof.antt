@@ -3,11 +3,6 @@ use native.Mathlib.Omega.{arith}
 use borrow.Author.Needs.{needs}
 use Rattle.calling.proofs.call_of.Statement.{statement}
 use Rattle.calling.proofs.call_of.Tie as tie
-use Rattle.calling.proofs.call_of.Reads as reads
-use Rattle.calling.proofs.call_of.Lts as lts
-use Rattle.calling.proofs.find.Reads as find-reads
-use Rattle.calling.proofs.stations.Reads as stations-reads
-use Rattle.calling.proofs.store.Reads as store-reads
 
 enum-told : tie.Need-enum-told
 enum-told c = search needs

@@ -5,13 +5,6 @@ use native.Mathlib.Omega.{arith}
 use borrow.Author.Needs.{needs}
 use Rattle.calling.proofs.carry.Statement.{statement}
 use Rattle.calling.proofs.carry.Tie as tie
-use Rattle.calling.proofs.carry.Reads as reads
-use Rattle.calling.proofs.carry.Lts as lts
-use Rattle.calling.proofs.asked.Reads as asked-reads
-use Rattle.calling.proofs.call_of.Reads as call-of-reads
-use Rattle.calling.proofs.nothing.Reads as nothing-reads
-use Rattle.rules.proofs.plain.smaller.Reads as smaller-reads
-use Rattle.script.proofs.line_of.Reads as line-of-reads
 
 line-of-requires : tie.Need-line-of-requires
 line-of-requires c κs = search needs

@@ -6,11 +6,6 @@ use native.Mathlib.Omega.{arith}
 use borrow.Author.Needs.{needs}
 use Rattle.calling.proofs.compared.Statement.{statement}
 use Rattle.calling.proofs.compared.Tie as tie
-use Rattle.calling.proofs.compared.Reads as reads
-use Rattle.calling.proofs.compared.Lts as lts
-use Rattle.calling.proofs.found_count.Reads as found-count-reads
-use Rattle.expecting.proofs.judge.Reads as judge-reads
-use Rattle.rules.proofs.plain.smaller.Reads as smaller-reads
 
 found-count-requires : tie.Need-found-count-requires
 found-count-requires c κs = search needs

@@ -3,9 +3,6 @@ use native.Mathlib.Omega.{arith}
 use borrow.Author.Needs.{needs}
 use Rattle.calling.proofs.cut_of.Statement.{statement}
 use Rattle.calling.proofs.cut_of.Tie as tie
-use Rattle.calling.proofs.cut_of.Reads as reads
-use Rattle.calling.proofs.cut_of.Lts as lts
-use Rattle.census.proofs.cut_after.Reads as cut-after-reads
 
 returns : tie.Need-returns
 returns c = rw (c .if1 .taken)

@@ -3,11 +3,6 @@ use native.Mathlib.Omega.{arith}
 use borrow.Author.Needs.{needs}
 use Rattle.calling.proofs.ended.Statement.{statement}
 use Rattle.calling.proofs.ended.Tie as tie
-use Rattle.calling.proofs.ended.Reads as reads
-use Rattle.calling.proofs.ended.Lts as lts
-use Rattle.calling.proofs.number_of.Reads as number-of-reads
-use Rattle.expecting.proofs.unmet.Reads as unmet-reads
-use Rattle.tallies.proofs.with_event.Reads as with-event-reads
 
 unmet-requires : tie.Need-unmet-requires
 unmet-requires c κs = search needs

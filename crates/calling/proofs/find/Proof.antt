@@ -4,13 +4,6 @@ use native.Mathlib.Omega.{arith}
 use borrow.Author.Needs.{needs}
 use Rattle.calling.proofs.find.Statement.{statement}
 use Rattle.calling.proofs.find.Tie as tie
-use Rattle.calling.proofs.find.Reads as reads
-use Rattle.calling.proofs.find.Lts as lts
-use Rattle.calling.proofs.account_of.Reads as account-of-reads
-use Rattle.calling.proofs.calls.found.Reads as found-reads
-use Rattle.calling.proofs.ended.Reads as ended-reads
-use Rattle.calling.proofs.find_judged.Reads as find-judged-reads
-use Rattle.calling.proofs.lists.station_of.Reads as station-of-reads
 
 station-of-requires : tie.Need-station-of-requires
 station-of-requires c κs = search needs

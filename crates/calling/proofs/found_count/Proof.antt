@@ -4,8 +4,6 @@ use borrow.Author.Needs.{needs}
 use native.Mathlib.Omega.{arith}
 use Rattle.calling.proofs.found_count.Statement.{statement}
 use Rattle.calling.proofs.found_count.Tie as tie
-use Rattle.calling.proofs.found_count.Reads as reads
-use Rattle.calling.proofs.found_count.Lts as lts
 
 returns : tie.Need-returns
 returns c = rw (eq-eqb _ _ (c .if1 .taken))

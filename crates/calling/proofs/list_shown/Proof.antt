@@ -5,10 +5,6 @@ use native.Mathlib.Omega.{arith}
 use borrow.Author.Needs.{needs}
 use Rattle.calling.proofs.list_shown.Statement.{statement}
 use Rattle.calling.proofs.list_shown.Tie as tie
-use Rattle.calling.proofs.list_shown.Reads as reads
-use Rattle.calling.proofs.list_shown.Lts as lts
-use Rattle.calling.proofs.account_shown.Reads as account-shown-reads
-use Rattle.rules.proofs.plain.smaller.Reads as smaller-reads
 
 smaller-requires : tie.Need-smaller-requires
 smaller-requires c κs = search needs

@@ -3,10 +3,6 @@ use native.Mathlib.Omega.{arith}
 use borrow.Author.Needs.{needs}
 use Rattle.calling.proofs.nothing.Statement.{statement}
 use Rattle.calling.proofs.nothing.Tie as tie
-use Rattle.calling.proofs.nothing.Reads as reads
-use Rattle.calling.proofs.nothing.Lts as lts
-use Rattle.calling.proofs.account_of.Reads as account-of-reads
-use Rattle.calling.proofs.no_verdict.Reads as no-verdict-reads
 
 no-verdict-requires : tie.Need-no-verdict-requires
 no-verdict-requires c κs = search needs

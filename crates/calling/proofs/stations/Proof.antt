@@ -5,13 +5,6 @@ use native.Mathlib.Omega.{arith}
 use borrow.Author.Needs.{needs}
 use Rattle.calling.proofs.stations.Statement.{statement}
 use Rattle.calling.proofs.stations.Tie as tie
-use Rattle.calling.proofs.stations.Reads as reads
-use Rattle.calling.proofs.stations.Lts as lts
-use Rattle.calling.proofs.account_of.Reads as account-of-reads
-use Rattle.calling.proofs.answered.Reads as answered-reads
-use Rattle.calling.proofs.calls.shown.Reads as shown-reads
-use Rattle.calling.proofs.list_shown.Reads as list-shown-reads
-use Rattle.calling.proofs.no_verdict.Reads as no-verdict-reads
 
 shown-requires : tie.Need-shown-requires
 shown-requires c κs = search needs

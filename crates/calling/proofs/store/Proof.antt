@@ -4,16 +4,6 @@ use native.Mathlib.Omega.{arith}
 use borrow.Author.Needs.{needs}
 use Rattle.calling.proofs.store.Statement.{statement}
 use Rattle.calling.proofs.store.Tie as tie
-use Rattle.calling.proofs.store.Reads as reads
-use Rattle.calling.proofs.store.Lts as lts
-use Rattle.calling.proofs.account_of.Reads as account-of-reads
-use Rattle.calling.proofs.calls.sent.Reads as sent-reads
-use Rattle.calling.proofs.ended.Reads as ended-reads
-use Rattle.calling.proofs.lists.allowance_of.Reads as allowance-of-reads
-use Rattle.calling.proofs.lists.list_of.Reads as list-of-reads
-use Rattle.calling.proofs.lists.station_of.Reads as station-of-reads
-use Rattle.calling.proofs.lists.writes_ended.Reads as writes-ended-reads
-use Rattle.calling.proofs.store_judged.Reads as store-judged-reads
 
 station-of-requires : tie.Need-station-of-requires
 station-of-requires c κs = search needs

@@ -7,9 +7,6 @@ use borrow.Author.Needs.{needs}
 use native.Mathlib.Omega.{arith}
 use Rattle.census.proofs.counted.Statement.{statement}
 use Rattle.census.proofs.counted.Tie as tie
-use Rattle.census.proofs.counted.Reads as reads
-use Rattle.census.proofs.counted.Lts as lts
-use Rattle.census.proofs.with_slot.Reads as with-slot-reads
 
 abbrev Inv-loop : tie.InvT-loop
 Inv-loop reply marks c₀ i₀ c i = (i ≤ 2048) × (c ≡ countsBelow (shownIn reply marks) i)

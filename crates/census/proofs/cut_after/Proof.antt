@@ -12,9 +12,6 @@ use borrow.Author.Needs.{needs}
 use native.Mathlib.Omega.{arith}
 use Rattle.census.proofs.cut_after.Statement.{statement}
 use Rattle.census.proofs.cut_after.Tie as tie
-use Rattle.census.proofs.cut_after.Reads as reads
-use Rattle.census.proofs.cut_after.Lts as lts
-use Rattle.census.proofs.is_found.Reads as is-found-reads
 
 abbrev Inv-loop : tie.InvT-loop
 Inv-loop reply marks k n₀ i₀ n i =

@@ -5,10 +5,6 @@ use native.Mathlib.Omega.{arith}
 use borrow.Author.Needs.{needs}
 use Rattle.census.proofs.is_found.Statement.{statement}
 use Rattle.census.proofs.is_found.Tie as tie
-use Rattle.census.proofs.is_found.Reads as reads
-use Rattle.census.proofs.is_found.Lts as lts
-use Rattle.census.proofs.is_passed_over.Reads as is-passed-over-reads
-use Rattle.slots.proofs.is_live.Reads as is-live-reads
 
 is-live-requires : tie.Need-is-live-requires
 is-live-requires c κs = search needs

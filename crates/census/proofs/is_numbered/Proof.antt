@@ -4,10 +4,6 @@ use native.Mathlib.Omega.{arith}
 use borrow.Author.Needs.{needs}
 use Rattle.census.proofs.is_numbered.Statement.{statement}
 use Rattle.census.proofs.is_numbered.Tie as tie
-use Rattle.census.proofs.is_numbered.Reads as reads
-use Rattle.census.proofs.is_numbered.Lts as lts
-use Rattle.slots.proofs.is_live.Reads as is-live-reads
-use Rattle.slots.proofs.station_of.Reads as station-of-reads
 
 is-live-requires : tie.Need-is-live-requires
 is-live-requires c κs = search needs

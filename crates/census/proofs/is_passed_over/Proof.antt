@@ -8,11 +8,6 @@ use borrow.Author.Needs.{needs}
 use native.Mathlib.Omega.{arith}
 use Rattle.census.proofs.is_passed_over.Statement.{statement}
 use Rattle.census.proofs.is_passed_over.Tie as tie
-use Rattle.census.proofs.is_passed_over.Reads as reads
-use Rattle.census.proofs.is_passed_over.Lts as lts
-use Rattle.census.proofs.is_numbered.Reads as is-numbered-reads
-use Rattle.slots.proofs.is_live.Reads as is-live-reads
-use Rattle.slots.proofs.station_of.Reads as station-of-reads
 
 abbrev Inv-loop : tie.InvT-loop
 Inv-loop reply marks i number j₀ j = (j ≤ i) × (someBelow j (liveOf (shownIn reply marks) number) ≡ false)

@@ -9,9 +9,6 @@ use borrow.Author.Needs.{needs}
 use native.Mathlib.Omega.{arith}
 use Rattle.census.proofs.live_at.Statement.{statement}
 use Rattle.census.proofs.live_at.Tie as tie
-use Rattle.census.proofs.live_at.Reads as reads
-use Rattle.census.proofs.live_at.Lts as lts
-use Rattle.slots.proofs.is_live_of.Reads as is-live-of-reads
 
 abbrev Inv-loop : tie.InvT-loop
 Inv-loop reply marks number k left₀ i₀ left i =

@@ -4,12 +4,6 @@ use Rattle.census.proofs.Numbers.{at-most, counts-next}
 use borrow.Author.Needs.{needs}
 use Rattle.census.proofs.with_slot.Statement.{statement}
 use Rattle.census.proofs.with_slot.Tie as tie
-use Rattle.census.proofs.with_slot.Reads as reads
-use Rattle.census.proofs.with_slot.Lts as lts
-use Rattle.census.proofs.is_passed_over.Reads as is-passed-over-reads
-use Rattle.census.proofs.one.Reads as one-reads
-use Rattle.slots.proofs.is_empty.Reads as is-empty-reads
-use Rattle.slots.proofs.is_live.Reads as is-live-reads
 
 is-empty-requires : tie.Need-is-empty-requires
 is-empty-requires c κs = search needs

@@ -5,11 +5,6 @@ use native.Mathlib.Omega.{arith}
 use borrow.Author.Needs.{needs}
 use Rattle.station_rows.proofs.cut_row.Statement.{statement}
 use Rattle.station_rows.proofs.cut_row.Tie as tie
-use Rattle.station_rows.proofs.cut_row.Reads as reads
-use Rattle.station_rows.proofs.cut_row.Lts as lts
-use Rattle.rules.proofs.plain.smaller.Reads as smaller-reads
-use Rattle.script.proofs.line_of.Reads as line-of-reads
-use Rattle.station_rows.proofs.part_row.Reads as part-row-reads
 
 line-of-requires : tie.Need-line-of-requires
 line-of-requires c κs = search needs

@@ -3,20 +3,6 @@ use native.Mathlib.Omega.{arith}
 use borrow.Author.Needs.{needs}
 use Rattle.station_rows.proofs.part_row.Statement.{statement}
 use Rattle.station_rows.proofs.part_row.Tie as tie
-use Rattle.station_rows.proofs.part_row.Reads as reads
-use Rattle.station_rows.proofs.part_row.Lts as lts
-use Rattle.calling.proofs.allowance_of.Reads as allowance-of-reads
-use Rattle.calling.proofs.station_of.Reads as station-of-reads
-use Rattle.reasons.proofs.expected.Reads as expected-reads
-use Rattle.station_rows.proofs.came.Reads as came-reads
-use Rattle.station_rows.proofs.heads.row.Reads as row-reads
-use Rattle.station_rows.proofs.listings.bytes.Reads as bytes-reads
-use Rattle.station_rows.proofs.listings.more.Reads as more-reads
-use Rattle.station_rows.proofs.whys.length_unmet.Reads as length-unmet-reads
-use Rattle.station_rows.proofs.whys.number.Reads as number-reads
-use Rattle.station_rows.proofs.whys.size_of.Reads as size-of-reads
-use Rattle.station_rows.proofs.whys.why.Reads as why-reads
-use Rattle.writing.proofs.empty.Reads as empty-reads
 
 station-of-requires : tie.Need-station-of-requires
 station-of-requires c κs = search needs

@@ -3,11 +3,6 @@ use native.Mathlib.Omega.{arith}
 use borrow.Author.Needs.{needs}
 use Rattle.station_rows.proofs.row.Statement.{statement}
 use Rattle.station_rows.proofs.row.Tie as tie
-use Rattle.station_rows.proofs.row.Reads as reads
-use Rattle.station_rows.proofs.row.Lts as lts
-use Rattle.calling.proofs.asked.Reads as asked-reads
-use Rattle.station_rows.proofs.cut_row.Reads as cut-row-reads
-use Rattle.writing.proofs.empty.Reads as empty-reads
 
 asked-requires : tie.Need-asked-requires
 asked-requires c κs = search needs

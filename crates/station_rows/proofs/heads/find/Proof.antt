@@ -6,12 +6,6 @@ use native.Mathlib.Omega.{arith}
 use borrow.Author.Needs.{needs}
 use Rattle.station_rows.proofs.heads.find.Statement.{statement}
 use Rattle.station_rows.proofs.heads.find.Tie as tie
-use Rattle.station_rows.proofs.heads.find.Reads as reads
-use Rattle.station_rows.proofs.heads.find.Lts as lts
-use Rattle.byte_text.proofs.printed_bytes.Reads as printed-bytes-reads
-use Rattle.page.proofs.form.Reads as form-reads
-use Rattle.slots.proofs.live_from.Reads as live-from-reads
-use Rattle.station_rows.proofs.heads.headed.Reads as headed-reads
 
 headed-requires : tie.Need-headed-requires
 headed-requires c κs = search needs

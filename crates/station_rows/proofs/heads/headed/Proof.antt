@@ -3,10 +3,6 @@ use native.Mathlib.Omega.{arith}
 use borrow.Author.Needs.{needs}
 use Rattle.station_rows.proofs.heads.headed.Statement.{statement}
 use Rattle.station_rows.proofs.heads.headed.Tie as tie
-use Rattle.station_rows.proofs.heads.headed.Reads as reads
-use Rattle.station_rows.proofs.heads.headed.Lts as lts
-use Rattle.page.proofs.form.Reads as form-reads
-use Rattle.rows.proofs.numbered.Reads as numbered-reads
 
 numbered-requires : tie.Need-numbered-requires
 numbered-requires c κs = search needs

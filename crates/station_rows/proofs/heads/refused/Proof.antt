@@ -5,9 +5,6 @@ use native.Mathlib.Omega.{arith}
 use borrow.Author.Needs.{needs}
 use Rattle.station_rows.proofs.heads.refused.Statement.{statement}
 use Rattle.station_rows.proofs.heads.refused.Tie as tie
-use Rattle.station_rows.proofs.heads.refused.Reads as reads
-use Rattle.station_rows.proofs.heads.refused.Lts as lts
-use Rattle.page.proofs.form.Reads as form-reads
 
 form-requires : tie.Need-form-requires
 form-requires c κs = search needs

@@ -4,11 +4,6 @@ use native.Mathlib.Omega.{arith}
 use borrow.Author.Needs.{needs}
 use Rattle.station_rows.proofs.heads.row.Statement.{statement}
 use Rattle.station_rows.proofs.heads.row.Tie as tie
-use Rattle.station_rows.proofs.heads.row.Reads as reads
-use Rattle.station_rows.proofs.heads.row.Lts as lts
-use Rattle.station_rows.proofs.heads.find.Reads as find-reads
-use Rattle.station_rows.proofs.heads.stations.Reads as stations-reads
-use Rattle.station_rows.proofs.heads.store.Reads as store-reads
 
 enum-told : tie.Need-enum-told
 enum-told c = search needs

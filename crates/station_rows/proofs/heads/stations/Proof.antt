@@ -5,11 +5,6 @@ use native.Mathlib.Omega.{arith}
 use borrow.Author.Needs.{needs}
 use Rattle.station_rows.proofs.heads.stations.Statement.{statement}
 use Rattle.station_rows.proofs.heads.stations.Tie as tie
-use Rattle.station_rows.proofs.heads.stations.Reads as reads
-use Rattle.station_rows.proofs.heads.stations.Lts as lts
-use Rattle.page.proofs.form.Reads as form-reads
-use Rattle.station_rows.proofs.heads.headed.Reads as headed-reads
-use Rattle.station_rows.proofs.heads.station_count.Reads as station-count-reads
 
 headed-requires : tie.Need-headed-requires
 headed-requires c κs = search needs

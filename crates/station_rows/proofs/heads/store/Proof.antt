@@ -5,12 +5,6 @@ use native.Mathlib.Omega.{arith}
 use borrow.Author.Needs.{needs}
 use Rattle.station_rows.proofs.heads.store.Statement.{statement}
 use Rattle.station_rows.proofs.heads.store.Tie as tie
-use Rattle.station_rows.proofs.heads.store.Reads as reads
-use Rattle.station_rows.proofs.heads.store.Lts as lts
-use Rattle.page.proofs.form.Reads as form-reads
-use Rattle.slots.proofs.first_empty.Reads as first-empty-reads
-use Rattle.station_rows.proofs.heads.headed.Reads as headed-reads
-use Rattle.station_rows.proofs.heads.refused.Reads as refused-reads
 
 headed-requires : tie.Need-headed-requires
 headed-requires c κs = search needs

@@ -4,11 +4,6 @@ use native.Mathlib.Omega.{arith}
 use borrow.Author.Needs.{needs}
 use Rattle.station_rows.proofs.listings.bytes.Statement.{statement}
 use Rattle.station_rows.proofs.listings.bytes.Tie as tie
-use Rattle.station_rows.proofs.listings.bytes.Reads as reads
-use Rattle.station_rows.proofs.listings.bytes.Lts as lts
-use Rattle.station_rows.proofs.listings.found_row.Reads as found-row-reads
-use Rattle.station_rows.proofs.listings.list_row.Reads as list-row-reads
-use Rattle.writing.proofs.empty.Reads as empty-reads
 
 enum-told : tie.Need-enum-told
 enum-told c = search needs

@@ -4,10 +4,6 @@ use native.Mathlib.Omega.{arith}
 use borrow.Author.Needs.{needs}
 use Rattle.station_rows.proofs.listings.counts_row.Statement.{statement}
 use Rattle.station_rows.proofs.listings.counts_row.Tie as tie
-use Rattle.station_rows.proofs.listings.counts_row.Reads as reads
-use Rattle.station_rows.proofs.listings.counts_row.Lts as lts
-use Rattle.page.proofs.form.Reads as form-reads
-use Rattle.rows.proofs.below.Reads as below-reads
 
 below-requires : tie.Need-below-requires
 below-requires c κs = search needs

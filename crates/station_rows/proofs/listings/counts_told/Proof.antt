@@ -4,10 +4,6 @@ use native.Mathlib.Omega.{arith}
 use borrow.Author.Needs.{needs}
 use Rattle.station_rows.proofs.listings.counts_told.Statement.{statement}
 use Rattle.station_rows.proofs.listings.counts_told.Tie as tie
-use Rattle.station_rows.proofs.listings.counts_told.Reads as reads
-use Rattle.station_rows.proofs.listings.counts_told.Lts as lts
-use Rattle.station_rows.proofs.listings.counts_row.Reads as counts-row-reads
-use Rattle.writing.proofs.empty.Reads as empty-reads
 
 counts-row-requires : tie.Need-counts-row-requires
 counts-row-requires c κs = search needs

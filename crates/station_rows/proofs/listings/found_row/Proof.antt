@@ -5,11 +5,6 @@ use native.Mathlib.Omega.{arith}
 use borrow.Author.Needs.{needs}
 use Rattle.station_rows.proofs.listings.found_row.Statement.{statement}
 use Rattle.station_rows.proofs.listings.found_row.Tie as tie
-use Rattle.station_rows.proofs.listings.found_row.Reads as reads
-use Rattle.station_rows.proofs.listings.found_row.Lts as lts
-use Rattle.rows.proofs.reply.Reads as reply-reads
-use Rattle.rules.proofs.plain.smaller.Reads as smaller-reads
-use Rattle.writing.proofs.empty.Reads as empty-reads
 
 smaller-requires : tie.Need-smaller-requires
 smaller-requires c κs = search needs

@@ -4,11 +4,6 @@ use native.Mathlib.Omega.{arith}
 use borrow.Author.Needs.{needs}
 use Rattle.station_rows.proofs.listings.found_slot_row.Statement.{statement}
 use Rattle.station_rows.proofs.listings.found_slot_row.Tie as tie
-use Rattle.station_rows.proofs.listings.found_slot_row.Reads as reads
-use Rattle.station_rows.proofs.listings.found_slot_row.Lts as lts
-use Rattle.census.proofs.is_found.Reads as is-found-reads
-use Rattle.station_rows.proofs.listings.slot_row.Reads as slot-row-reads
-use Rattle.writing.proofs.empty.Reads as empty-reads
 
 is-found-requires : tie.Need-is-found-requires
 is-found-requires c κs = search needs

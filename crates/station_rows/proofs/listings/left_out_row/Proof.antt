@@ -8,11 +8,6 @@ use native.Mathlib.Omega.{arith}
 use borrow.Author.Needs.{needs}
 use Rattle.station_rows.proofs.listings.left_out_row.Statement.{statement}
 use Rattle.station_rows.proofs.listings.left_out_row.Tie as tie
-use Rattle.station_rows.proofs.listings.left_out_row.Reads as reads
-use Rattle.station_rows.proofs.listings.left_out_row.Lts as lts
-use Rattle.rows.proofs.below.Reads as below-reads
-use Rattle.station_rows.proofs.heads.station_count.Reads as station-count-reads
-use Rattle.writing.proofs.empty.Reads as empty-reads
 
 station-count-requires : tie.Need-station-count-requires
 station-count-requires c κs = search needs

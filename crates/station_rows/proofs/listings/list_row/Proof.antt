@@ -5,10 +5,6 @@ use native.Mathlib.Omega.{arith}
 use borrow.Author.Needs.{needs}
 use Rattle.station_rows.proofs.listings.list_row.Statement.{statement}
 use Rattle.station_rows.proofs.listings.list_row.Tie as tie
-use Rattle.station_rows.proofs.listings.list_row.Reads as reads
-use Rattle.station_rows.proofs.listings.list_row.Lts as lts
-use Rattle.station_rows.proofs.listings.left_out_row.Reads as left-out-row-reads
-use Rattle.station_rows.proofs.listings.station_row.Reads as station-row-reads
 
 station-row-requires : tie.Need-station-row-requires
 station-row-requires c κs = search needs

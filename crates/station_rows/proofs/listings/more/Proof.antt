@@ -4,10 +4,6 @@ use native.Mathlib.Omega.{arith}
 use borrow.Author.Needs.{needs}
 use Rattle.station_rows.proofs.listings.more.Statement.{statement}
 use Rattle.station_rows.proofs.listings.more.Tie as tie
-use Rattle.station_rows.proofs.listings.more.Reads as reads
-use Rattle.station_rows.proofs.listings.more.Lts as lts
-use Rattle.station_rows.proofs.listings.counts_told.Reads as counts-told-reads
-use Rattle.writing.proofs.empty.Reads as empty-reads
 
 enum-told : tie.Need-enum-told
 enum-told c = search needs

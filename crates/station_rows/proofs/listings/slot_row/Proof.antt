@@ -4,12 +4,6 @@ use native.Mathlib.Omega.{arith}
 use borrow.Author.Needs.{needs}
 use Rattle.station_rows.proofs.listings.slot_row.Statement.{statement}
 use Rattle.station_rows.proofs.listings.slot_row.Tie as tie
-use Rattle.station_rows.proofs.listings.slot_row.Reads as reads
-use Rattle.station_rows.proofs.listings.slot_row.Lts as lts
-use Rattle.byte_text.proofs.printed_bytes.Reads as printed-bytes-reads
-use Rattle.page.proofs.form.Reads as form-reads
-use Rattle.rows.proofs.below.Reads as below-reads
-use Rattle.slots.proofs.station_of.Reads as station-of-reads
 
 station-of-requires : tie.Need-station-of-requires
 station-of-requires c κs = search needs

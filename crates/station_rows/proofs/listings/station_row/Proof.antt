@@ -8,10 +8,6 @@ use native.Mathlib.Omega.{arith}
 use borrow.Author.Needs.{needs}
 use Rattle.station_rows.proofs.listings.station_row.Statement.{statement}
 use Rattle.station_rows.proofs.listings.station_row.Tie as tie
-use Rattle.station_rows.proofs.listings.station_row.Reads as reads
-use Rattle.station_rows.proofs.listings.station_row.Lts as lts
-use Rattle.station_rows.proofs.listings.found_slot_row.Reads as found-slot-row-reads
-use Rattle.writing.proofs.empty.Reads as empty-reads
 
 found-slot-row-requires : tie.Need-found-slot-row-requires
 found-slot-row-requires c κs = ((c .before .before .before .pre), ltb-true ((c .before .before .before .args .i)) 2048 (and-split (eqb ((c .before .before .before .args .number)) 0 && ltb ((c .before .before .before .args .i)) ((c .before .before .before .args .cut))) (ltb ((c .before .before .before .args .i)) 2048) (c .if1 .taken) .1))

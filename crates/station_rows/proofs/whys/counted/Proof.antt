@@ -3,10 +3,6 @@ use native.Mathlib.Omega.{arith}
 use borrow.Author.Needs.{needs}
 use Rattle.station_rows.proofs.whys.counted.Statement.{statement}
 use Rattle.station_rows.proofs.whys.counted.Tie as tie
-use Rattle.station_rows.proofs.whys.counted.Reads as reads
-use Rattle.station_rows.proofs.whys.counted.Lts as lts
-use Rattle.census.proofs.counted.Reads as counted-reads
-use Rattle.station_rows.proofs.listings.counts_row.Reads as counts-row-reads
 
 counted-requires : tie.Need-counted-requires
 counted-requires c κs = search needs

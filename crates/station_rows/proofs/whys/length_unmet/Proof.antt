@@ -4,11 +4,6 @@ use native.Mathlib.Omega.{arith}
 use borrow.Author.Needs.{needs}
 use Rattle.station_rows.proofs.whys.length_unmet.Statement.{statement}
 use Rattle.station_rows.proofs.whys.length_unmet.Tie as tie
-use Rattle.station_rows.proofs.whys.length_unmet.Reads as reads
-use Rattle.station_rows.proofs.whys.length_unmet.Lts as lts
-use Rattle.rows.proofs.below.Reads as below-reads
-use Rattle.station_rows.proofs.whys.found_count.Reads as found-count-reads
-use Rattle.writing.proofs.empty.Reads as empty-reads
 
 found-count-requires : tie.Need-found-count-requires
 found-count-requires c κs = search needs

@@ -4,10 +4,6 @@ use native.Mathlib.Omega.{arith}
 use borrow.Author.Needs.{needs}
 use Rattle.station_rows.proofs.whys.malformed.Statement.{statement}
 use Rattle.station_rows.proofs.whys.malformed.Tie as tie
-use Rattle.station_rows.proofs.whys.malformed.Reads as reads
-use Rattle.station_rows.proofs.whys.malformed.Lts as lts
-use Rattle.rows.proofs.plain.Reads as plain-reads
-use Rattle.why.proofs.malformed.Reads as malformed-reads
 
 plain-requires : tie.Need-plain-requires
 plain-requires c κs = search needs

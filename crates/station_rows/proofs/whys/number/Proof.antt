@@ -5,11 +5,6 @@ use native.Mathlib.Omega.{arith}
 use borrow.Author.Needs.{needs}
 use Rattle.station_rows.proofs.whys.number.Statement.{statement}
 use Rattle.station_rows.proofs.whys.number.Tie as tie
-use Rattle.station_rows.proofs.whys.number.Reads as reads
-use Rattle.station_rows.proofs.whys.number.Lts as lts
-use Rattle.rows.proofs.below.Reads as below-reads
-use Rattle.station_rows.proofs.whys.number_form.Reads as number-form-reads
-use Rattle.writing.proofs.empty.Reads as empty-reads
 
 empty-requires : tie.Need-empty-requires
 empty-requires c κs = search needs

@@ -5,9 +5,6 @@ use native.Mathlib.Omega.{arith}
 use borrow.Author.Needs.{needs}
 use Rattle.station_rows.proofs.whys.number_form.Statement.{statement}
 use Rattle.station_rows.proofs.whys.number_form.Tie as tie
-use Rattle.station_rows.proofs.whys.number_form.Reads as reads
-use Rattle.station_rows.proofs.whys.number_form.Lts as lts
-use Rattle.rules.proofs.plain.smaller.Reads as smaller-reads
 
 add-result : tie.Need-add-result
 add-result c = search needs

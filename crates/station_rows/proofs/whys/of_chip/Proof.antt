@@ -4,10 +4,6 @@ use native.Mathlib.Omega.{arith}
 use borrow.Author.Needs.{needs}
 use Rattle.station_rows.proofs.whys.of_chip.Statement.{statement}
 use Rattle.station_rows.proofs.whys.of_chip.Tie as tie
-use Rattle.station_rows.proofs.whys.of_chip.Reads as reads
-use Rattle.station_rows.proofs.whys.of_chip.Lts as lts
-use Rattle.rows.proofs.plain.Reads as plain-reads
-use Rattle.why.proofs.reason.Reads as reason-reads
 
 plain-requires : tie.Need-plain-requires
 plain-requires c κs = search needs

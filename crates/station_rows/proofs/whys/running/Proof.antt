@@ -5,11 +5,6 @@ use native.Mathlib.Omega.{arith}
 use borrow.Author.Needs.{needs}
 use Rattle.station_rows.proofs.whys.running.Statement.{statement}
 use Rattle.station_rows.proofs.whys.running.Tie as tie
-use Rattle.station_rows.proofs.whys.running.Reads as reads
-use Rattle.station_rows.proofs.whys.running.Lts as lts
-use Rattle.census.proofs.live_at.Reads as live-at-reads
-use Rattle.rows.proofs.below.Reads as below-reads
-use Rattle.slots.proofs.first_empty.Reads as first-empty-reads
 
 first-empty-requires : tie.Need-first-empty-requires
 first-empty-requires c κs = search needs

@@ -4,8 +4,6 @@ use native.Mathlib.Omega.{arith}
 use borrow.Author.Needs.{needs}
 use Rattle.station_rows.proofs.whys.size_of.Statement.{statement}
 use Rattle.station_rows.proofs.whys.size_of.Tie as tie
-use Rattle.station_rows.proofs.whys.size_of.Reads as reads
-use Rattle.station_rows.proofs.whys.size_of.Lts as lts
 
 array-read-if1 : tie.Need-array-read-if1
 array-read-if1 c = search needs

@@ -5,10 +5,6 @@ use native.Mathlib.Omega.{arith}
 use borrow.Author.Needs.{needs}
 use Rattle.station_rows.proofs.whys.store_length.Statement.{statement}
 use Rattle.station_rows.proofs.whys.store_length.Tie as tie
-use Rattle.station_rows.proofs.whys.store_length.Reads as reads
-use Rattle.station_rows.proofs.whys.store_length.Lts as lts
-use Rattle.rows.proofs.below.Reads as below-reads
-use Rattle.station_rows.proofs.whys.malformed.Reads as malformed-reads
 
 below-requires : tie.Need-below-requires
 below-requires c κs = search needs

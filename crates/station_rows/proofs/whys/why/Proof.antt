@@ -5,13 +5,6 @@ use native.Mathlib.Omega.{arith}
 use borrow.Author.Needs.{needs}
 use Rattle.station_rows.proofs.whys.why.Statement.{statement}
 use Rattle.station_rows.proofs.whys.why.Tie as tie
-use Rattle.station_rows.proofs.whys.why.Reads as reads
-use Rattle.station_rows.proofs.whys.why.Lts as lts
-use Rattle.station_rows.proofs.whys.counted.Reads as counted-reads
-use Rattle.station_rows.proofs.whys.of_chip.Reads as of-chip-reads
-use Rattle.station_rows.proofs.whys.running.Reads as running-reads
-use Rattle.station_rows.proofs.whys.wrong_length.Reads as wrong-length-reads
-use Rattle.writing.proofs.empty.Reads as empty-reads
 
 empty-requires : tie.Need-empty-requires
 empty-requires c κs = search needs

@@ -4,10 +4,6 @@ use native.Mathlib.Omega.{arith}
 use borrow.Author.Needs.{needs}
 use Rattle.station_rows.proofs.whys.wrong_length.Statement.{statement}
 use Rattle.station_rows.proofs.whys.wrong_length.Tie as tie
-use Rattle.station_rows.proofs.whys.wrong_length.Reads as reads
-use Rattle.station_rows.proofs.whys.wrong_length.Lts as lts
-use Rattle.station_rows.proofs.whys.malformed.Reads as malformed-reads
-use Rattle.station_rows.proofs.whys.store_length.Reads as store-length-reads
 
 enum-told : tie.Need-enum-told
 enum-told c = search needs

@@ -1,12 +1,10 @@
 -- By whether polls stands. Assumes nothing.
 use borrow.Author.Tests.{eq-eqb, ne-eqb}
-use Rattle.calling.specs.Lists.{allowanceOf}
+use Rattle.calls.specs.Lists.{allowanceOf}
 use native.Mathlib.Omega.{arith}
 use borrow.Author.Needs.{needs}
-use Rattle.calling.proofs.lists.allowance_of.Statement.{statement}
-use Rattle.calling.proofs.lists.allowance_of.Tie as tie
-use Rattle.calling.proofs.lists.allowance_of.Reads as reads
-use Rattle.calling.proofs.lists.allowance_of.Lts as lts
+use Rattle.calls.proofs.lists.allowance_of.Statement.{statement}
+use Rattle.calls.proofs.lists.allowance_of.Tie as tie
 
 array-read-if1 : tie.Need-array-read-if1
 array-read-if1 c = search needs

@@ -6,14 +6,12 @@ use lib.ListN.{getD}
 use Rattle.stations.specs.Slots.{firstFrom}
 use Rattle.stations.specs.Given.{inTime}
 use Rattle.stations.proofs.Next.{first-hit, first-miss, first-end}
-use Rattle.calling.specs.Lists.{writesEnded}
-use Rattle.calling.proofs.Entries.{late, timely}
+use Rattle.calls.specs.Lists.{writesEnded}
+use Rattle.calls.proofs.Entries.{late, timely}
 use borrow.Author.Needs.{needs}
 use native.Mathlib.Omega.{arith}
-use Rattle.calling.proofs.lists.writes_ended.Statement.{statement}
-use Rattle.calling.proofs.lists.writes_ended.Tie as tie
-use Rattle.calling.proofs.lists.writes_ended.Reads as reads
-use Rattle.calling.proofs.lists.writes_ended.Lts as lts
+use Rattle.calls.proofs.lists.writes_ended.Statement.{statement}
+use Rattle.calls.proofs.lists.writes_ended.Tie as tie
 
 abbrev Inv-loop : tie.InvT-loop
 Inv-loop allowance list j₀ j = (j ≤ 2050) × (writesEnded allowance list ≡ firstFrom (λ i. not (inTime allowance (getD list i 0))) j (2050 - j))

@@ -23,8 +23,8 @@ use Rattle.standing.specs.Benches.{front}
 use Rattle.lending.specs.Lending.{stateLent, outcome, Happened}
 use Rattle.lending.specs.Lending as lending
 use Rattle.lending.proofs.Parts.{part-over}
-use Rattle.calling.specs.Lists.{dataOf}
-use Rattle.calling.specs.Calls.{readLine, readBytes, Shown}
+use Rattle.calls.specs.Lists.{dataOf}
+use Rattle.calls.specs.Calls.{readLine, readBytes, Shown}
 
 neither : (b : Bool) → (b && false) ≡ false
 neither true = refl

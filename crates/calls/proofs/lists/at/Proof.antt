@@ -3,10 +3,8 @@ use mathlib.Core.Path.{sym}
 use lib.ListN.{List·getD-eq-default}
 use native.Mathlib.Omega.{arith}
 use borrow.Author.Needs.{needs}
-use Rattle.calling.proofs.lists.at.Statement.{statement}
-use Rattle.calling.proofs.lists.at.Tie as tie
-use Rattle.calling.proofs.lists.at.Reads as reads
-use Rattle.calling.proofs.lists.at.Lts as lts
+use Rattle.calls.proofs.lists.at.Statement.{statement}
+use Rattle.calls.proofs.lists.at.Tie as tie
 
 shared-slice-read-result : tie.Need-shared-slice-read-result
 shared-slice-read-result c = search needs

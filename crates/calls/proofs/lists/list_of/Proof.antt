@@ -2,15 +2,12 @@
 use Prim.Native.Nat.{ℕ, _≤_, _<_, _-_}
 use mathlib.Core.Path.{_≡_, refl, _∙_}
 use lib.ListN.{length, getD, length-set}
-use Rattle.calling.specs.Lists.{entryAt, listOf}
-use Rattle.calling.proofs.Entries.{entries-are, entry-next}
+use Rattle.calls.specs.Lists.{entryAt, listOf}
+use Rattle.calls.proofs.Entries.{entries-are, entry-next}
 use borrow.Author.Needs.{needs}
 use native.Mathlib.Omega.{arith}
-use Rattle.calling.proofs.lists.list_of.Statement.{statement}
-use Rattle.calling.proofs.lists.list_of.Tie as tie
-use Rattle.calling.proofs.lists.list_of.Reads as reads
-use Rattle.calling.proofs.lists.list_of.Lts as lts
-use Rattle.calling.proofs.lists.entry_at.Reads as entry-at-reads
+use Rattle.calls.proofs.lists.list_of.Statement.{statement}
+use Rattle.calls.proofs.lists.list_of.Tie as tie
 
 abbrev Inv-loop : tie.InvT-loop
 Inv-loop high low given list₀ j₀ list j = (j ≤ 2050) × (length list ≡ 2050) × ((k : ℕ) → k < j → getD list k 0 ≡ entryAt given high low k)

@@ -2,7 +2,7 @@
 ghost use mathlib.Core.Path.{_≡_};
 ghost use lib.ListN.{length, getD};
 ghost use Rattle.rules.specs.Words.{pick};
-ghost use Rattle.calling.specs.Lists.{stationOf, allowanceOf, entryAt, listOf, listLength, writesEnded};
+ghost use Rattle.calls.specs.Lists.{stationOf, allowanceOf, entryAt, listOf, listLength, writesEnded};
 
 pub fn station_of(slots: [u64; 24]) -> u16
     ensures { λ r. ⌜ r ≡ stationOf slots ⌝ }

@@ -10,7 +10,7 @@ use lib.ListN.{length, getD, set}
 use lib.Seq.{ext-getD, getD-set-same, getD-set-other}
 use borrow.Author.Tests.{lt-ltb, le-ltb, le-leb, lt-leb, ltb-true, ltb-false}
 use Rattle.stations.specs.Given.{inTime}
-use Rattle.calling.specs.Lists.{entriesFrom}
+use Rattle.calls.specs.Lists.{entriesFrom}
 
 entries-length : (f : ℕ → ℕ) (j n : ℕ) → length (entriesFrom f j n) ≡ n
 unfolding entriesFrom

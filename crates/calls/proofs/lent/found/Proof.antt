@@ -1,15 +1,11 @@
 -- The store's promise, with the parts lent. Assumes nothing.
 use mathlib.Core.Path.{sym}
 use lib.Seq.{length-take-le}
-use Rattle.calling.proofs.Desks.{found-is}
+use Rattle.calls.proofs.Desks.{found-is}
 use native.Mathlib.Omega.{arith}
 use borrow.Author.Needs.{needs}
-use Rattle.calling.proofs.calls.found.Statement.{statement}
-use Rattle.calling.proofs.calls.found.Tie as tie
-use Rattle.calling.proofs.calls.found.Reads as reads
-use Rattle.calling.proofs.calls.found.Lts as lts
-use Rattle.calling.proofs.calls.opened.Reads as opened-reads
-use Rattle.rules.proofs.plain.smaller.Reads as smaller-reads
+use Rattle.calls.proofs.lent.found.Statement.{statement}
+use Rattle.calls.proofs.lent.found.Tie as tie
 
 smaller-requires : tie.Need-smaller-requires
 smaller-requires c κs = search needs

@@ -7,8 +7,8 @@ use standing::Event;
 use stations::StoreRecord;
 ghost use mathlib.Core.Path.{_≡_};
 ghost use Prim.Native.Nat.{_%_};
-ghost use Rattle.calling.specs.Lists.{dataOf};
-ghost use Rattle.calling.specs.Calls.{opened, readLine, Stored, Found, Shown};
+ghost use Rattle.calls.specs.Lists.{dataOf};
+ghost use Rattle.calls.specs.Calls.{opened, readLine, Stored, Found, Shown};
 
 fn opened(b: Bench) -> StoreRecord
     ensures { λ r. ⌜ r ≡ opened b ⌝ }

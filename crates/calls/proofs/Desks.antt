@@ -7,7 +7,7 @@ use lib.ListN.{length, take, drop}
 use Rattle.stations.specs.declared.StoreRecord.{StoreRecord}
 use Rattle.stations.specs.Promises.{Desk, deskOf, StorePromise, LookupPromise}
 use Rattle.standing.specs.declared.Bench.{Bench}
-use Rattle.calling.specs.Calls.{opened, lentDesk, Left, Stored, Found}
+use Rattle.calls.specs.Calls.{opened, lentDesk, Left, Stored, Found}
 
 module _ (b : Bench) (A S R M : List ℕ) {a s n m : ℕ} (ea : a ≡ min (b .array) (length A)) (es : s ≡ min (b .security) (length S)) (en : n ≡ min 65536 (length R)) (em : m ≡ min 65536 (length M)) {q : StoreRecord} (eq : q ≡ opened b) where
   desk-is : deskOf (take a A) (take s S) (take n R) (take m M) ≡ lentDesk b A S R M

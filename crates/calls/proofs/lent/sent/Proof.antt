@@ -1,13 +1,9 @@
 -- A word is filled up, other data are sent as they are. Assumes nothing.
-use Rattle.calling.proofs.Copies.{data-text, data-plain}
+use Rattle.calls.proofs.Copies.{data-text, data-plain}
 use native.Mathlib.Omega.{arith}
 use borrow.Author.Needs.{needs}
-use Rattle.calling.proofs.calls.sent.Statement.{statement}
-use Rattle.calling.proofs.calls.sent.Tie as tie
-use Rattle.calling.proofs.calls.sent.Reads as reads
-use Rattle.calling.proofs.calls.sent.Lts as lts
-use Rattle.calling.proofs.calls.stored.Reads as stored-reads
-use Rattle.meanings.proofs.put_text.Reads as put-text-reads
+use Rattle.calls.proofs.lent.sent.Statement.{statement}
+use Rattle.calls.proofs.lent.sent.Tie as tie
 
 array-read-if1 : tie.Need-array-read-if1
 array-read-if1 c = search needs

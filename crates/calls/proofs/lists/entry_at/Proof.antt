@@ -1,12 +1,9 @@
 -- Its two bytes, or 1. Assumes nothing.
-use Rattle.calling.specs.Lists.{entryAt}
+use Rattle.calls.specs.Lists.{entryAt}
 use native.Mathlib.Omega.{arith}
 use borrow.Author.Needs.{needs}
-use Rattle.calling.proofs.lists.entry_at.Statement.{statement}
-use Rattle.calling.proofs.lists.entry_at.Tie as tie
-use Rattle.calling.proofs.lists.entry_at.Reads as reads
-use Rattle.calling.proofs.lists.entry_at.Lts as lts
-use Rattle.calling.proofs.lists.at.Reads as at-reads
+use Rattle.calls.proofs.lists.entry_at.Statement.{statement}
+use Rattle.calls.proofs.lists.entry_at.Tie as tie
 
 at-requires : tie.Need-at-requires
 at-requires c κs = search needs

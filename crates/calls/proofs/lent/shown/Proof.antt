@@ -1,14 +1,9 @@
 -- The event of the line that reads the list. Assumes nothing.
-use Rattle.calling.proofs.Copies.{shown-is}
+use Rattle.calls.proofs.Copies.{shown-is}
 use native.Mathlib.Omega.{arith}
 use borrow.Author.Needs.{needs}
-use Rattle.calling.proofs.calls.shown.Statement.{statement}
-use Rattle.calling.proofs.calls.shown.Tie as tie
-use Rattle.calling.proofs.calls.shown.Reads as reads
-use Rattle.calling.proofs.calls.shown.Lts as lts
-use Rattle.calling.proofs.calls.read_line.Reads as read-line-reads
-use Rattle.chip.proofs.answer_number.Reads as answer-number-reads
-use Rattle.lending.proofs.happened.Reads as happened-reads
+use Rattle.calls.proofs.lent.shown.Statement.{statement}
+use Rattle.calls.proofs.lent.shown.Tie as tie
 
 read-line-requires : tie.Need-read-line-requires
 read-line-requires c κs = search needs
