@@ -20,10 +20,10 @@ fn found_row(number: u8, i: usize, bytes: &[u8; 28]) -> Row
     ensures { λ q. ⌜ q ≡ foundRow number i (now (bytes .entry)) ⌝ }
 {
     let sure = [1u8; 28];
-    if number == 0 {
-        return rows::reply(smaller(i, 1) * 16, bytes, &sure);
+    if number != 0 {
+        return rows::empty();
     }
-    rows::empty()
+    rows::reply(smaller(i, 1) * 16, bytes, &sure)
 }
 
 fn slot_row(reply: &[u8], marks: &[u8], i: usize) -> Row
