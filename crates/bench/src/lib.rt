@@ -318,7 +318,7 @@ pub extern "C" fn fulkibono_image_read(
 
 // ---- what a number means
 
-// The text of a number; a number above 15 has none.
+// The text of a number; a number above 18 has none.
 #[no_mangle]
 pub extern "C" fn fulkibono_meaning(number: u8, text: &mut [u8]) -> usize
     ensures { λ r. ⌜ MeaningBytes number (now (text .entry)) r (now (text .exit)) ⌝ }

@@ -139,6 +139,11 @@ pub fn played(
             number: p.number,
             state: f,
         },
+        // Calls of the store are compared by a program of their own; here they are a difference, so that none passes in silence.
+        Deed::Call(_) => Step {
+            number: 255,
+            state: f,
+        },
         Deed::Wrong => Step {
             number: p.number,
             state: f,

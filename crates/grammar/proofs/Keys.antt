@@ -6,10 +6,10 @@ use native.Mathlib.Omega.{arith}
 use native.Mathlib.Nat.{pow-suc, pow-le-pow-right}
 use lib.Dec.{lit<}
 use lib.ListN.{length}
-use borrow.Author.Tests.{le-leb, lt-leb}
+use borrow.Author.Tests.{ne-eqb, le-leb, lt-leb}
 use Rattle.spelling.specs.declared.Word.{Word}
 use Rattle.spelling.specs.Words.{oneMore, noWord, wordWith, keyFrom, key}
-use Rattle.grammar.specs.Table.{keys, position, called}
+use Rattle.grammar.specs.Table.{keys, position, calledLong, called}
 use Rattle.grammar.proofs.Spelled.{spelled, length-is}
 
 -- each is a byte
@@ -74,10 +74,37 @@ called-is n c bs p h =
     let l = length-is n c bs in
     rw (le-leb (w .length) 7 (omega arith), key-is n c bs p h)
 
--- a longer word is none
-pub long-is : (n c : ℕ) (bs : List ℕ) → 7 < length bs → called (spelled (noWord n) c bs) ≡ 255
+-- a word of eight bytes is known by them too
+eight-from : (w : Word) (c v r : ℕ) (bs : List ℕ) → Bytes bs → w .key ≡ 256 ^ r + v → v < 256 ^ r → r + length bs ≡ 8 → r < 8 → spelled w c bs .key ≡ keyFrom v bs
+unfolding spelled wordWith
+eight-from w c v r [] none e lt le below = absurd (omega arith)
+eight-from w c v r (b ∷ []) (more h none) e lt le below =
+    let s : r ≡ 7 = omega arith in
+    let x : w .key ≡ 256 ^ 7 + v = e ∙ ap (λ (k : ℕ). 256 ^ k + v) s in
+    let y : v < 256 ^ 7 = rw s at lt in
+    omega arith
+eight-from w c v r (b ∷ d ∷ bs) (more h p) e lt le below =
+    let small : 256 ^ suc r ≤ 256 ^ 7 = pow-le-pow-right {n = 256} (lit< tt) {i = suc r} {j = 7} (omega arith) in
+    let q = pow-suc 256 r in
+    let s : w .key % 72057594037927936 * 256 + b ≡ 256 ^ suc r + (v * 256 + b) = omega arith in
+    let t : v * 256 + b < 256 ^ suc r = omega arith in
+    eight-from (wordWith w b c) (oneMore c) (v * 256 + b) (suc r) (d ∷ bs) p s t (omega arith) (omega arith)
+
+pub eight-is : (n c : ℕ) (bs : List ℕ) → Bytes bs → length bs ≡ 8 → spelled (noWord n) c bs .key ≡ keyFrom 0 bs
+eight-is n c bs p h = eight-from (noWord n) c 0 0 bs p refl (lit< tt) (omega arith) (omega arith)
+
+pub eight-called : (n c : ℕ) (bs : List ℕ) → Bytes bs → length bs ≡ 8 → called (spelled (noWord n) c bs) ≡ calledLong 8 (keyFrom 0 bs)
 unfolding called
+eight-called n c bs p h =
+    let w : Word = spelled (noWord n) c bs in
+    let l = length-is n c bs in
+    let e : w .length ≡ 8 = omega arith in
+    rw (lt-leb (w .length) 7 (omega arith), e, eight-is n c bs p h)
+
+-- a longer word is none
+pub long-is : (n c : ℕ) (bs : List ℕ) → 8 < length bs → called (spelled (noWord n) c bs) ≡ 255
+unfolding called calledLong
 long-is n c bs h =
     let w : Word = spelled (noWord n) c bs in
     let l = length-is n c bs in
-    rw (lt-leb (w .length) 7 (omega arith))
+    rw (lt-leb (w .length) 7 (omega arith), ne-eqb (w .length) 8 (λ z. omega arith))

@@ -1,7 +1,7 @@
 -- The places of a line: what the words so far leave to come.
 use Prim.Native.Nat.{ℕ}
-use mathlib.Core.Bool.{Bool, _&&_}
-use lib.Dec.{ltb}
+use mathlib.Core.Bool.{Bool, _&&_, _||_}
+use lib.Dec.{eqb, ltb}
 
 -- the line's first word
 abbrev pub lineStart : ℕ
@@ -217,10 +217,6 @@ afterCompare = 51
 abbrev pub afterCompareRaw : ℕ
 afterCompareRaw = 52
 
--- a word is a name there: only a blank or the line's end ends it
-abbrev pub takesName : ℕ → Bool
-takesName p = ltb afterBurst p && ltb p 53
-
 -- ---- the part
 
 -- after new
@@ -244,3 +240,74 @@ afterTornByte = 56
 -- after cut N
 abbrev pub afterCutCount : ℕ
 afterCutCount = 57
+
+-- ---- the station list
+
+-- after store
+abbrev pub afterStore : ℕ
+afterStore = 58
+
+-- after store N
+abbrev pub afterStation : ℕ
+afterStation = 59
+
+-- after a byte of the data
+abbrev pub afterData : ℕ
+afterData = 60
+
+-- after a byte of the data and *
+abbrev pub afterDataStar : ℕ
+afterDataStar = 61
+
+-- after a byte of the data, * and how often
+abbrev pub afterDataTimes : ℕ
+afterDataTimes = 62
+
+-- after text
+abbrev pub afterText : ℕ
+afterText = 63
+
+-- after text and a word
+abbrev pub afterTextWord : ℕ
+afterTextWord = 64
+
+-- after polls
+abbrev pub afterPolls : ℕ
+afterPolls = 65
+
+-- after polls N
+abbrev pub afterAllowance : ℕ
+afterAllowance = 66
+
+-- after list
+abbrev pub afterList : ℕ
+afterList = 67
+
+-- after an entry of the list
+abbrev pub afterEntry : ℕ
+afterEntry = 68
+
+-- after an entry of the list and *
+abbrev pub afterEntryStar : ℕ
+afterEntryStar = 69
+
+-- after an entry of the list, * and how often
+abbrev pub afterEntryTimes : ℕ
+afterEntryTimes = 70
+
+-- after find
+abbrev pub afterFind : ℕ
+afterFind = 71
+
+-- after find N
+abbrev pub afterSought : ℕ
+afterSought = 72
+
+-- after = of find
+abbrev pub afterSoughtEqual : ℕ
+afterSoughtEqual = 73
+
+-- ---- a word is a name there, of a file or for the list: only a blank or the line's end ends it
+
+abbrev pub takesName : ℕ → Bool
+takesName p = (ltb afterBurst p && ltb p afterNew) || eqb p afterText

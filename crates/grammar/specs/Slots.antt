@@ -13,6 +13,10 @@ wanted = 1
 abbrev pub marksGiven : ℕ
 marksGiven = 2
 
+-- 1 where polls N stands: the same slot, since no line has both
+abbrev pub pollsGiven : ℕ
+pollsGiven = marksGiven
+
 -- M after /
 abbrev pub marks : ℕ
 marks = 3
@@ -33,9 +37,17 @@ refused = 6
 abbrev pub from : ℕ
 from = 7
 
+-- the number of store and find: the same slot, since no line has both
+abbrev pub station : ℕ
+station = from
+
 -- N after A, or the second number of lend
 abbrev pub size : ℕ
 size = 8
+
+-- N after polls: the same slot, since no line has both
+abbrev pub polls : ℕ
+polls = size
 
 -- the byte of fill and buffer
 abbrev pub filling : ℕ
@@ -49,6 +61,10 @@ burst = filling
 abbrev pub tearing : ℕ
 tearing = filling
 
+-- 1 after text: the data is a word; the same slot again
+abbrev pub asText : ℕ
+asText = filling
+
 -- 1 after id: of the Security ID
 abbrev pub ofId : ℕ
 ofId = 10
@@ -56,6 +72,10 @@ ofId = 10
 -- 1 after new old: the same slot, since no line has both
 abbrev pub old : ℕ
 old = ofId
+
+-- 1 after list: the same slot, since no line has both
+abbrev pub listGiven : ℕ
+listGiven = ofId
 
 -- H after protect
 abbrev pub protection : ℕ

@@ -10,9 +10,10 @@ use Rattle.rules.specs.Words.{pick, oneOf}
 use Rattle.rules.specs.Texts.{ascii}
 use Rattle.spelling.specs.declared.Word.{Word}
 use Rattle.grammar.specs.declared.Entry.{Entry}
-use Rattle.spelling.specs.Words.{key, keyWith}
-use Rattle.grammar.specs.Places.{lineStart, afterByte, afterByteStar, afterBytes, afterReply, afterReplyCount, afterSlash, afterMarkCount, afterEqual, afterExpected, afterTilde, afterExpectedStar, afterExpectedTimes, afterRefuse, lineDone, afterEvent, afterCut, afterQuestion, afterAsked, afterAnswer, afterAnswerTilde, afterAnswerStar, afterAnswerTimes, afterDump, afterDumpId, afterDumpPlace, afterFill, afterFillId, afterFillPlace, afterFillCount, afterLend, afterLendArray, inFields, afterProtect, afterPerm, afterRun, afterAside, afterRunKind, afterAsideKind, afterNoReply, afterNoReplySlash, afterAny, afterAnyStar, afterAnyTimes, afterAnswerAny, afterAnswerAnyStar, afterAnswerAnyTimes, afterBurst, afterSave, afterLoad, afterRaw, afterCompare, afterCompareRaw, afterNew, afterTorn, afterTornCount, afterTornByte, afterCutCount}
-use Rattle.grammar.specs.Slots.{verb, wanted, marksGiven, marks, expecting, judged, refused, from, size, filling, burst, tearing, ofId, old, protection, permanent, runKind, runNumber, asideKind, asideNumber, sqi, wel, ioc, wpen, wpld, sec, enable, ba}
+use Rattle.spelling.specs.Words.{keyFrom, key, keyWith}
+use Rattle.grammar.specs.Places.{lineStart, afterByte, afterByteStar, afterBytes, afterReply, afterReplyCount, afterSlash, afterMarkCount, afterEqual, afterExpected, afterTilde, afterExpectedStar, afterExpectedTimes, afterRefuse, lineDone, afterEvent, afterCut, afterQuestion, afterAsked, afterAnswer, afterAnswerTilde, afterAnswerStar, afterAnswerTimes, afterDump, afterDumpId, afterDumpPlace, afterFill, afterFillId, afterFillPlace, afterFillCount, afterLend, afterLendArray, inFields, afterProtect, afterPerm, afterRun, afterAside, afterRunKind, afterAsideKind, afterNoReply, afterNoReplySlash, afterAny, afterAnyStar, afterAnyTimes, afterAnswerAny, afterAnswerAnyStar, afterAnswerAnyTimes, afterBurst, afterSave, afterLoad, afterRaw, afterCompare, afterCompareRaw, afterNew, afterTorn, afterTornCount, afterTornByte, afterCutCount, afterStore, afterStation, afterData, afterDataStar, afterDataTimes, afterText, afterTextWord, afterPolls, afterAllowance, afterList, afterEntry, afterEntryStar, afterEntryTimes, afterFind, afterSought, afterSoughtEqual}
+use Rattle.grammar.specs.Slots.{verb, wanted, marksGiven, pollsGiven, marks, expecting, judged, refused, from, size, polls, filling, burst, tearing, asText, ofId, old, listGiven, protection, permanent, runKind, runNumber, asideKind, asideNumber, sqi, wel, ioc, wpen, wpld, sec, enable, ba}
+use Rattle.grammar.specs.Slots as slots
 use Rattle.grammar.specs.Verbs as verbs
 
 -- ---- the words
@@ -23,7 +24,8 @@ wordList =
     ∷ "id" ∷ "new" ∷ "fill" ∷ "buffer" ∷ "pattern" ∷ "lend" ∷ "record" ∷ "is" ∷ "full" ∷ "short" ∷ "strict" ∷
     "protect" ∷ "perm" ∷ "run" ∷ "aside" ∷ "sqi" ∷ "wel" ∷ "ioc" ∷ "wpen" ∷ "wpld" ∷ "sec" ∷ "enable" ∷
     "sector" ∷ "block" ∷ "array" ∷ "page" ∷ "lock" ∷ "config" ∷ "bits" ∷ "burst" ∷ "8" ∷ "16" ∷ "32" ∷ "64" ∷
-    "save" ∷ "load" ∷ "compare" ∷ "raw" ∷ "old" ∷ "ba" ∷ "torn" ∷ []
+    "save" ∷ "load" ∷ "compare" ∷ "raw" ∷ "old" ∷ "ba" ∷ "torn" ∷
+    "store" ∷ "find" ∷ "text" ∷ "polls" ∷ "list" ∷ []
 
 unfoldable pub keys : List ℕ
 keys = map (λ (s : String). key (ascii s)) wordList
@@ -47,7 +49,7 @@ number = 1
 abbrev pub times : ℕ
 times = 2
 
--- a decimal number at most 15
+-- a decimal number at most 18
 abbrev pub refusal : ℕ
 refusal = 3
 
@@ -63,13 +65,24 @@ hex = 5
 abbrev pub name : ℕ
 name = 6
 
--- one of the words: the first has class 16
+-- a decimal number at most 65,535
+abbrev pub station : ℕ
+station = 7
+
+-- the one word of eight bytes, whose key has no room for a 1 in front of them
+abbrev pub stationsWord : ℕ
+stationsWord = 15
+
+-- one of the other words: the first has class 16
 abbrev pub word : String → ℕ
 word s = position (key (ascii s)) 16 keys
 
--- the class of a word of the list; 255 of any other
+-- the class of a word by its length and its key; 255 of any other
+unfoldable pub calledLong : ℕ → ℕ → ℕ
+calledLong n k = pick (eqb n 8 && eqb k (keyFrom 0 (ascii "stations"))) stationsWord 255
+
 unfoldable pub called : Word → ℕ
-called w = pick (leb (w .length) 7) (position (w .key) 16 keys) 255
+called w = pick (leb (w .length) 7) (position (w .key) 16 keys) (calledLong (w .length) (w .key))
 
 -- the word w, which is called n, has the class c
 unfoldable pub hasClass : ℕ → Word → ℕ → Bool
@@ -77,11 +90,12 @@ hasClass c w n =
     pick (eqb c byte) (w .hexadecimal && eqb (w .length) 2)
     (pick (eqb c number) (w .decimal)
     (pick (eqb c times) (w .decimal && ltb 0 (w .number))
-    (pick (eqb c refusal) (w .decimal && leb (w .number) 15)
+    (pick (eqb c refusal) (w .decimal && leb (w .number) 18)
     (pick (eqb c address) (w .hexadecimal && leb (w .length) 6)
     (pick (eqb c hex) (w .hexadecimal && leb (w .length) 16)
     (pick (eqb c name) true
-    (eqb c n)))))))
+    (pick (eqb c station) (w .decimal && leb (w .number) 65535)
+    (eqb c n))))))))
 
 -- ---- what a word stores
 
@@ -115,6 +129,10 @@ expectsAgain = 6
 -- what was stored of the frame is forgotten: the word was no name
 abbrev pub forgets : ℕ
 forgets = 7
+
+-- its decimal number is an entry of the list
+abbrev pub enters : ℕ
+enters = 8
 
 -- ---- what a word writes
 
@@ -321,6 +339,44 @@ table =
     ∷ row afterRaw name afterEvent no nothing
     ∷ row afterCompare (word "raw") afterCompareRaw forgets nothing
     ∷ row afterCompareRaw name lineDone no nothing
+    -- the station list
+    ∷ row lineStart (word "store") afterStore no (says verb verbs.store)
+    ∷ row lineStart (word "find") afterFind no (says verb verbs.find)
+    ∷ row lineStart stationsWord lineDone no (says verb verbs.stations)
+    -- a number, then bytes or a word, the polls that are allowed, and before which of them each write ends
+    ∷ row afterStore station afterStation no (keeps slots.station)
+    ∷ row afterStation byte afterData sends nothing
+    ∷ row afterStation (word "text") afterText no (says asText 1)
+    ∷ row afterData byte afterData sends nothing
+    ∷ row afterData (word "*") afterDataStar no nothing
+    ∷ row afterData (word "polls") afterPolls no (says pollsGiven 1)
+    ∷ row afterData (word "list") afterList no (says listGiven 1)
+    ∷ row afterData (word "!") afterRefuse no (says judged 1)
+    ∷ row afterDataStar times afterDataTimes sendsAgain nothing
+    ∷ row afterDataTimes byte afterData sends nothing
+    ∷ row afterDataTimes (word "polls") afterPolls no (says pollsGiven 1)
+    ∷ row afterDataTimes (word "list") afterList no (says listGiven 1)
+    ∷ row afterDataTimes (word "!") afterRefuse no (says judged 1)
+    ∷ row afterText name afterTextWord no nothing
+    ∷ row afterTextWord (word "polls") afterPolls no (says pollsGiven 1)
+    ∷ row afterTextWord (word "list") afterList no (says listGiven 1)
+    ∷ row afterTextWord (word "!") afterRefuse no (says judged 1)
+    ∷ row afterPolls number afterAllowance no (keeps polls)
+    ∷ row afterAllowance (word "list") afterList no (says listGiven 1)
+    ∷ row afterAllowance (word "!") afterRefuse no (says judged 1)
+    ∷ row afterList station afterEntry enters nothing
+    ∷ row afterEntry station afterEntry enters nothing
+    ∷ row afterEntry (word "*") afterEntryStar no nothing
+    ∷ row afterEntry (word "!") afterRefuse no (says judged 1)
+    ∷ row afterEntryStar times afterEntryTimes expectsAgain nothing
+    ∷ row afterEntryTimes station afterEntry enters nothing
+    ∷ row afterEntryTimes (word "!") afterRefuse no (says judged 1)
+    -- a number, and what is found
+    ∷ row afterFind station afterSought no (keeps slots.station)
+    ∷ row afterSought (word "=") afterSoughtEqual no (says expecting 1)
+    ∷ row afterSought (word "!") afterRefuse no (says judged 1)
+    ∷ row afterSoughtEqual byte afterExpected expects nothing
+    ∷ row afterSoughtEqual (word "??") afterAny expectsAny nothing
     ∷ []
 
 -- the places where a line may end
@@ -328,7 +384,8 @@ unfoldable pub ends : List ℕ
 ends =
     lineStart ∷ afterByte ∷ afterBytes ∷ afterReplyCount ∷ afterMarkCount ∷ afterExpected ∷ afterExpectedTimes
     ∷ lineDone ∷ afterEvent ∷ afterQuestion ∷ afterAnswer ∷ afterAnswerTimes ∷ inFields ∷ afterNoReply ∷ afterNew
-    ∷ afterTornCount ∷ afterTornByte ∷ afterCutCount ∷ []
+    ∷ afterTornCount ∷ afterTornByte ∷ afterCutCount
+    ∷ afterData ∷ afterDataTimes ∷ afterTextWord ∷ afterAllowance ∷ afterEntry ∷ afterEntryTimes ∷ afterSought ∷ []
 
 abbrev pub canEnd : ℕ → Bool
 canEnd p = oneOf p ends

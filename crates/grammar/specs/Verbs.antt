@@ -71,6 +71,15 @@ loadRaw = 21
 abbrev pub compareRaw : ℕ
 compareRaw = 22
 
+abbrev pub store : ℕ
+store = 23
+
+abbrev pub find : ℕ
+find = 24
+
+abbrev pub stations : ℕ
+stations = 25
+
 -- a mistake was met, or the line ended too early
 abbrev pub wrong : ℕ
 wrong = 31

@@ -9,7 +9,7 @@ ghost use lib.ListN.{getD};
 ghost use Rattle.rules.specs.Words.{pick, oneOf};
 ghost use Rattle.spelling.specs.Words.{keyWith};
 ghost use Rattle.grammar.specs.Places.{takesName};
-ghost use Rattle.grammar.specs.Table.{position, keysFrom, called, hasClass, firstOf, rowsIn, numbersIn, nextOf, canEnd, valueOf, slotsWith};
+ghost use Rattle.grammar.specs.Table.{position, keysFrom, called, calledLong, hasClass, firstOf, rowsIn, numbersIn, nextOf, canEnd, valueOf, slotsWith};
 
 // ---- the words
 
@@ -48,6 +48,16 @@ fn position(text: &[u8], key: u64) -> u8
     255
 }
 
+// The one word of eight bytes.
+fn called_long(length: usize, key: u64) -> u8
+    ensures { λ r. ⌜ r ≡ calledLong length key ⌝ }
+{
+    if (length == 8) & (key == 0x73746174696F6E73) {
+        return 15;
+    }
+    255
+}
+
 fn called(w: Word) -> u8
     ensures { λ r. ⌜ r ≡ called w ⌝ }
 {
@@ -56,11 +66,11 @@ fn called(w: Word) -> u8
             b"> = ! / * ~ ?? kept done cut status work locks dump id new fill buffer pattern \
             lend record is full short strict protect perm run aside sqi wel ioc wpen wpld \
             sec enable sector block array page lock config bits burst 8 16 32 64 \
-            save load compare raw old ba torn ",
+            save load compare raw old ba torn store find text polls list ",
             w.key,
         )
     } else {
-        255
+        called_long(w.length, w.key)
     }
 }
 
@@ -73,10 +83,11 @@ fn has_class(class: u8, w: Word, name: u8) -> bool
         0 => w.hexadecimal & (w.length == 2),
         1 => w.decimal,
         2 => w.decimal & (0 < w.number),
-        3 => w.decimal & (w.number <= 15),
+        3 => w.decimal & (w.number <= 18),
         4 => w.hexadecimal & (w.length <= 6),
         5 => w.hexadecimal & (w.length <= 16),
         6 => true,
+        7 => w.decimal & (w.number <= 65535),
         _ => class == name,
     }
 }
@@ -147,7 +158,10 @@ pub fn follows(place: u8, w: Word) -> Entry
         SdU0=4SeU0=5SfP0=6SgU0=7SNU0=8ShP0=9SiU0=:SjU0=;U5P0>2\
         TdV0?4TeV0?5TfP0?6TgV0?7TNV0?8ThP0?9TiV0?:TjV0?;V5P0@2\
         0V>00<0W>00=0X>00>\
-        0p`00E0qa00F0rc00I`sb70G`6?000asb70Ha6?000b6?000csd700d6>000",
+        0p`00E0qa00F0rc00I`sb70G`6?000asb70Ha6?000b6?000csd700d6>000\
+        0wj00J0xw00K0?>00Lj7k071k0l100kyo094l0l100lDm000lzq024l{s0:4lB=054m2n200n0l100nzq024n{s0:4\
+        nB=054o6p000pzq024p{s0:4pB=054q1r081r{s0:4rB=054s7t800t7t800tDu000tB=054u2v600v7t800vB=054\
+        w7x071xAy044xB=054y09300yFY400",
         place,
         w,
         name,
@@ -171,14 +185,14 @@ fn listed(text: &[u8], x: u8) -> bool
 pub fn takes_name(place: u8) -> bool
     ensures { λ r. ⌜ r ≡ takesName place ⌝ }
 {
-    (47 < place) & (place < 53)
+    ((47 < place) & (place < 53)) | (place == 63)
 }
 
 // The line may end here.
 pub fn can_end(place: u8) -> bool
     ensures { λ r. ⌜ r ≡ canEnd place ⌝ }
 {
-    listed(b"013579<>?ACFPWeghi", place)
+    listed(b"013579<>?ACFPWeghilnprtvx", place)
 }
 
 // ---- what a word says

@@ -70,13 +70,14 @@ questionRow Question.Is line s number rest = numbered line (217 + min number 1) 
 -- ---- the first row
 
 -- "a wrong line is answered with its number, the word that is wrong and its column"; a line of nothing, or of a remark alone, has none.
--- The rows of a file are told by crate post_rows
+-- The rows of a file are told by crate post_rows, those of the station list by crate station_rows
 abbrev pub headRow : Deed → ℕ → Line → ℕ → Work → Rest → List ℕ → List ℕ → List ℕ → Row
 headRow Deed.Nothing line l number ran rest sent reply marks = blank
 headRow (Deed.Event e) line l number ran rest sent reply marks = eventRow e line (l .slots) number ran sent reply marks
 headRow (Deed.Setting s) line l number ran rest sent reply marks = settingRow s line (l .slots)
 headRow (Deed.Question q) line l number ran rest sent reply marks = questionRow q line (l .slots) number rest
 headRow (Deed.Post f) line l number ran rest sent reply marks = blank
+headRow (Deed.Call k) line l number ran rest sent reply marks = blank
 headRow Deed.Wrong line l number ran rest sent reply marks = wordOn (l .word) (l .length) (l .column) (numbered line 172 0 0 0)
 
 -- ---- the row below it
@@ -89,9 +90,9 @@ answerBelow line wanted number sent reply marks = pick (fits (sentRow line sent 
 unfoldable pub suspendedRow : Work → Row
 suspendedRow aside = places (told aside) (work (told aside) (below 157 0 0 0))
 
--- "what is allowed there": a form for each place of the grammar, from 222 on, of the places from 54 on from 311 on
+-- "what is allowed there": a form for each place of the grammar, from 222 on, of the places from 54 on from 311 on, of those from 58 on from 322 on
 unfoldable pub allowedRow : ℕ → Row
-allowedRow place = form (pick (ltb place 54) (222 + place) (257 + min place 57)) 0 0 0 (below 177 0 0 0)
+allowedRow place = form (pick (ltb place 54) (222 + place) (pick (ltb place 58) (257 + place) (264 + min place 73))) 0 0 0 (below 177 0 0 0)
 
 unfoldable pub secondRow : ℕ → ℕ → ℕ → ℕ → Work → ℕ → List ℕ → List ℕ → List ℕ → Row
 secondRow verb line wanted number aside place sent reply marks =

@@ -41,6 +41,7 @@ pub fn first(
         Deed::Setting(s) => settings::row(line, s, slots),
         Deed::Question(q) => questions::row(line, q, slots, number, rest),
         Deed::Post(_) => rows::empty(),
+        Deed::Call(_) => rows::empty(),
         Deed::Wrong => rows::wrong(line, &word, l.length, l.column),
     }
 }

@@ -38,7 +38,10 @@ fn allowed_row(place: u8) -> Row
     if place < 54 {
         return rows::form(r, 222 + place as usize, 0, 0, 0);
     }
-    rows::form(r, 257 + smaller(place as usize, 57), 0, 0, 0)
+    if place < 58 {
+        return rows::form(r, 257 + place as usize, 0, 0, 0);
+    }
+    rows::form(r, 264 + smaller(place as usize, 73), 0, 0, 0)
 }
 
 pub fn second(

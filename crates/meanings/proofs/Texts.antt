@@ -46,7 +46,7 @@ put n k r t l l′ e m h =
     let q = ap meaning e ∙ m in
     record { size = h .0 ∙ ap length (sym q); text = h .1 ∙ ap (λ (t : List ℕ). over t l) (sym q) }
 
-no-text : (n : ℕ) → 15 < n → meaning n ≡ []
+no-text : (n : ℕ) → 18 < n → meaning n ≡ []
 unfolding meaning
 no-text n h =
     rw (
@@ -66,8 +66,11 @@ no-text n h =
       ne-eqb n 13 (λ z. omega arith),
       ne-eqb n 14 (λ z. omega arith),
       ne-eqb n 15 (λ z. omega arith),
+      ne-eqb n 16 (λ z. omega arith),
+      ne-eqb n 17 (λ z. omega arith),
+      ne-eqb n 18 (λ z. omega arith),
     )
 
-pub none : (n : ℕ) (l : List ℕ) → 15 < n → MeaningBytes n l 0 l
+pub none : (n : ℕ) (l : List ℕ) → 18 < n → MeaningBytes n l 0 l
 unfolding over
 none n l h = put n n 0 [] l l refl (no-text n h) (refl, ap (λ (xs : List ℕ). xs ++ l) (sym (take-nil (length l))))

@@ -26,7 +26,10 @@ meaning n =
     (pick (eqb n 13) (ascii "a C0 byte above 03")
     (pick (eqb n 14) (ascii "a busy or suspended chip")
     (pick (eqb n 15) (ascii "a wrong mark, sum, page number, code or register")
-    [])))))))))))))))
+    (pick (eqb n 16) (ascii "no empty slot")
+    (pick (eqb n 17) (ascii "no live slot of that number")
+    (pick (eqb n 18) (ascii "polls used up, the write still runs")
+    []))))))))))))))))))
 
 -- as many bytes of the text as fit, over the first of those lent; the others stay
 unfoldable pub over : List ℕ → List ℕ → List ℕ

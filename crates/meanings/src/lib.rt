@@ -5,7 +5,7 @@ ghost use lib.ListN.{length};
 ghost use Rattle.meanings.specs.Meanings.{over, MeaningBytes};
 
 // As many bytes of the text as fit; the text's length.
-fn put_text(lent: &mut [u8], text: &[u8]) -> usize
+pub fn put_text(lent: &mut [u8], text: &[u8]) -> usize
     ensures { λ r. ⌜ (r ≡ length (now (text .entry))) × (now (lent .exit) ≡ over (now (text .entry)) (now (lent .entry))) ⌝ }
 {
     let mut i: usize = 0;
@@ -64,7 +64,20 @@ fn text_below_12(number: u8, text: &mut [u8]) -> usize
     }
 }
 
-// The text of a number; a number above 15 has none.
+// The texts of 12 to 15.
+fn text_below_16(number: u8, text: &mut [u8]) -> usize
+    requires { ⌜ (11 < number) × (number < 16) ⌝ }
+    ensures { λ r. ⌜ MeaningBytes number (now (text .entry)) r (now (text .exit)) ⌝ }
+{
+    match number {
+        12 => put_text(text, b"completion with nothing running"),
+        13 => put_text(text, b"a C0 byte above 03"),
+        14 => put_text(text, b"a busy or suspended chip"),
+        _ => put_text(text, b"a wrong mark, sum, page number, code or register"),
+    }
+}
+
+// The text of a number; a number above 18 has none.
 pub fn meaning(number: u8, text: &mut [u8]) -> usize
     ensures { λ r. ⌜ MeaningBytes number (now (text .entry)) r (now (text .exit)) ⌝ }
 {
@@ -77,11 +90,13 @@ pub fn meaning(number: u8, text: &mut [u8]) -> usize
     if number < 12 {
         return text_below_12(number, text);
     }
+    if number < 16 {
+        return text_below_16(number, text);
+    }
     match number {
-        12 => put_text(text, b"completion with nothing running"),
-        13 => put_text(text, b"a C0 byte above 03"),
-        14 => put_text(text, b"a busy or suspended chip"),
-        15 => put_text(text, b"a wrong mark, sum, page number, code or register"),
+        16 => put_text(text, b"no empty slot"),
+        17 => put_text(text, b"no live slot of that number"),
+        18 => put_text(text, b"polls used up, the write still runs"),
         _ => 0,
     }
 }

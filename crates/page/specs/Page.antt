@@ -243,7 +243,7 @@ page =
     ++ ascii "a byte\n"  -- 232
     ++ ascii "how often, from 1\n"  -- 233
     ++ ascii "a byte, ??, ~ a byte, ! a number, # remark\n"  -- 234
-    ++ ascii "a number from 0 (done) to 15\n"  -- 235
+    ++ ascii "a number from 0 (done) to 18\n"  -- 235
     ++ ascii "nothing more, or # remark\n"  -- 236
     ++ ascii "! a number, # remark\n"  -- 237
     ++ ascii "a count of bytes, in decimal\n"  -- 238
@@ -327,6 +327,41 @@ page =
     ++ ascii "at %p of the Security ID, torn by %b: now %b\n"  -- 316
     ++ ascii "%b is not used: there is no byte %n\n"  -- 317
     ++ ascii "torn is not used: only a done 99 while something runs looks at it\n"  -- 318
+    ++ (meaning 16 ++ ascii "\n")  -- 319
+    ++ (meaning 17 ++ ascii "\n")  -- 320
+    ++ (meaning 18 ++ ascii "\n")  -- 321
+    ++ ascii "a station's number, 0 to 65535, in decimal\n"  -- 322
+    ++ ascii "a byte of the data, or text\n"  -- 323
+    ++ ascii "a byte, * how often, polls, list, ! a number, # remark\n"  -- 324
+    ++ ascii "how often, from 1\n"  -- 325
+    ++ ascii "a byte, polls, list, ! a number, # remark\n"  -- 326
+    ++ ascii "a word, without blanks\n"  -- 327
+    ++ ascii "polls, list, ! a number, # remark\n"  -- 328
+    ++ ascii "how many polls a write may have, in decimal\n"  -- 329
+    ++ ascii "list, ! a number, # remark\n"  -- 330
+    ++ ascii "before which poll the first write ends, 0 to 65535; 0: never\n"  -- 331
+    ++ ascii "the next write's poll, * how often, ! a number, # remark\n"  -- 332
+    ++ ascii "how often, from 1\n"  -- 333
+    ++ ascii "the next write's poll, ! a number, # remark\n"  -- 334
+    ++ ascii "a station's number, 0 to 65535, in decimal\n"  -- 335
+    ++ ascii "= expected bytes, ! a number, # remark\n"  -- 336
+    ++ ascii "a byte, ??\n"  -- 337
+    ++ ascii "store %n\n"  -- 338
+    ++ ascii "find %n\n"  -- 339
+    ++ ascii "stations\n"  -- 340
+    ++ ascii "done, slot %n, %n poll%s\n"  -- 341
+    ++ ascii "slot %n  |\n"  -- 342
+    ++ ascii "the data has %n byte%s, a slot takes 28\n"  -- 343
+    ++ ascii "%n polls are allowed, 65535 is the most\n"  -- 344
+    ++ ascii "the write of number and data to slot %n runs\n"  -- 345
+    ++ ascii "the write of the mark of slot %n runs\n"  -- 346
+    ++ ascii "the clearing of the mark of slot %n runs\n"  -- 347
+    ++ ascii "station %f, slot %f  |\n"  -- 348
+    ++ ascii ".. %n more station%s; the line \"full\" shows all\n"  -- 349
+    ++ ascii "%n slot%s empty, %n live, %n of these passed over\n"  -- 350
+    ++ ascii ", %n dead\n"  -- 351
+    ++ ascii ", %n poll%s\n"  -- 352
+    ++ ascii "%n station%s\n"  -- 353
 
 -- form n with three numbers, behind a row
 unfoldable pub form : ℕ → ℕ → ℕ → ℕ → Row → Row

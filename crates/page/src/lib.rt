@@ -244,7 +244,7 @@ a byte, ??, ~ a byte, * how often, ! a number, # remark\n\
 a byte\n\
 how often, from 1\n\
 a byte, ??, ~ a byte, ! a number, # remark\n\
-a number from 0 (done) to 15\n\
+a number from 0 (done) to 18\n\
 nothing more, or # remark\n\
 ! a number, # remark\n\
 a count of bytes, in decimal\n\
@@ -327,7 +327,42 @@ a byte, ! a number, # remark\n\
 at %a, torn by %b: now %b\n\
 at %p of the Security ID, torn by %b: now %b\n\
 %b is not used: there is no byte %n\n\
-torn is not used: only a done 99 while something runs looks at it\n",
+torn is not used: only a done 99 while something runs looks at it\n\
+no empty slot\n\
+no live slot of that number\n\
+polls used up, the write still runs\n\
+a station's number, 0 to 65535, in decimal\n\
+a byte of the data, or text\n\
+a byte, * how often, polls, list, ! a number, # remark\n\
+how often, from 1\n\
+a byte, polls, list, ! a number, # remark\n\
+a word, without blanks\n\
+polls, list, ! a number, # remark\n\
+how many polls a write may have, in decimal\n\
+list, ! a number, # remark\n\
+before which poll the first write ends, 0 to 65535; 0: never\n\
+the next write's poll, * how often, ! a number, # remark\n\
+how often, from 1\n\
+the next write's poll, ! a number, # remark\n\
+a station's number, 0 to 65535, in decimal\n\
+= expected bytes, ! a number, # remark\n\
+a byte, ??\n\
+store %n\n\
+find %n\n\
+stations\n\
+done, slot %n, %n poll%s\n\
+slot %n  |\n\
+the data has %n byte%s, a slot takes 28\n\
+%n polls are allowed, 65535 is the most\n\
+the write of number and data to slot %n runs\n\
+the write of the mark of slot %n runs\n\
+the clearing of the mark of slot %n runs\n\
+station %f, slot %f  |\n\
+.. %n more station%s; the line \"full\" shows all\n\
+%n slot%s empty, %n live, %n of these passed over\n\
+, %n dead\n\
+, %n poll%s\n\
+%n station%s\n",
         r,
         n,
         a,

@@ -1,6 +1,7 @@
 // Scripts from files and from standard input: each on a new chip, with counts of its own.
 use crate::parts::within;
 use crate::posts::carried;
+use calling::Account;
 use ordering::Place;
 use posting::Report;
 use standing::Playing;
@@ -62,10 +63,11 @@ fn byte_at(input: &[u8; 65536], i: usize) -> u8 {
     b'\n'
 }
 
-// A script half played: what came of it and of a file, what of that is told, and how much of the input is taken.
+// A script half played: what came of it, of a file and of a call, what of that is told, and how much of the input is taken.
 struct Desk {
     now: Playing,
     report: Report,
+    account: Account,
     at: Place,
     taken: usize,
     came: usize,
@@ -106,6 +108,7 @@ fn turn(
         );
         told(r);
         told(post_rows::row(now, d.report, at, frame));
+        told(station_rows::row(now, d.account, at, expected, known, reply, marks));
         next.at = ordering::next(now, at);
         return next;
     }
@@ -124,10 +127,22 @@ fn turn(
             marks,
         );
         let c = carried(now, array, security, frame);
-        let playing = c.playing;
         let report = c.report;
+        let called = calling::carry(
+            c.playing,
+            array,
+            security,
+            frame,
+            expected,
+            known,
+            reply,
+            marks,
+        );
+        let playing = called.playing;
+        let account = called.account;
         next.now = playing;
         next.report = report;
+        next.account = account;
         next.at = ordering::begun(playing);
         next.taken = std::num::wrapping_add_usize(d.taken, 1);
         return next;
@@ -145,12 +160,15 @@ fn turn(
 
 fn begun(strict: bool) -> Desk {
     let c = posting::nothing(standing::start(strict));
-    let now = c.playing;
     let report = c.report;
+    let called = calling::nothing(c.playing);
+    let now = called.playing;
+    let account = called.account;
     let at = ordering::nothing();
     Desk {
         now,
         report,
+        account,
         at,
         taken: 0,
         came: 0,

@@ -37,6 +37,7 @@ done-one (Deed.Setting s) p l A S F E K R M r r′ A₁ A₂ S₁ S₂ R₁ R₂
     }
 done-one (Deed.Question q) p l A S F E K R M r r′ A₁ A₂ S₁ S₂ R₁ R₂ M₁ M₂ h k = untouched-one (question-one q p l A S E K r r′ (h .0) (k .0)) (h .1) (k .1)
 done-one (Deed.Post f) p l A S F E K R M r r′ A₁ A₂ S₁ S₂ R₁ R₂ M₁ M₂ h k = untouched-one (one (h .0) (k .0)) (h .1) (k .1)
+done-one (Deed.Call f) p l A S F E K R M r r′ A₁ A₂ S₁ S₂ R₁ R₂ M₁ M₂ h k = untouched-one (one (h .0) (k .0)) (h .1) (k .1)
 done-one Deed.Wrong p l A S F E K R M r r′ A₁ A₂ S₁ S₂ R₁ R₂ M₁ M₂ h k = untouched-one (one (h .0) (k .0)) (h .1) (k .1)
 
 if-one : (b : Bool) (p : Playing) (A S F E K R M : List ℕ) (r r′ : Playing) (A₁ A₂ S₁ S₂ R₁ R₂ M₁ M₂ : List ℕ)

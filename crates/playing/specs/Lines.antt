@@ -21,7 +21,7 @@ pub record Untouched (array security reply marks array′ security′ reply′ m
   pub reply-is : reply′ ≡ reply
   pub marks-are : marks′ ≡ marks
 
--- a line by what it asks for. What is done with a file is left to whoever reads and writes it: crate posting
+-- a line by what it asks for. What is done with a file is left to whoever reads and writes it: crate posting; what is done with the station list to crate calling
 abbrev pub Done : Deed → Playing → Line → List ℕ → List ℕ → List ℕ → List ℕ → List ℕ → List ℕ → List ℕ → Playing → List ℕ → List ℕ → List ℕ → List ℕ → Type 0
 Done Deed.Nothing p l array security sent expected known reply marks p′ array′ security′ reply′ marks′ =
     (p′ ≡ p) × Untouched array security reply marks array′ security′ reply′ marks′
@@ -32,6 +32,8 @@ Done (Deed.Setting s) p l array security sent expected known reply marks p′ ar
 Done (Deed.Question q) p l array security sent expected known reply marks p′ array′ security′ reply′ marks′ =
     QuestionPlayed q p l array security expected known p′ × Untouched array security reply marks array′ security′ reply′ marks′
 Done (Deed.Post f) p l array security sent expected known reply marks p′ array′ security′ reply′ marks′ =
+    (p′ ≡ p) × Untouched array security reply marks array′ security′ reply′ marks′
+Done (Deed.Call k) p l array security sent expected known reply marks p′ array′ security′ reply′ marks′ =
     (p′ ≡ p) × Untouched array security reply marks array′ security′ reply′ marks′
 Done Deed.Wrong p l array security sent expected known reply marks p′ array′ security′ reply′ marks′ =
     (p′ ≡ wrongCounted p) × Untouched array security reply marks array′ security′ reply′ marks′

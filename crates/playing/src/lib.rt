@@ -42,6 +42,7 @@ fn play(
         Deed::Setting(s) => arranging::played(now, s, slots, array, security),
         Deed::Question(q) => asking::played(now, q, l, array, security, expected, known),
         Deed::Post(_) => now,
+        Deed::Call(_) => now,
         Deed::Wrong => wrong(now),
     }
 }

@@ -32,6 +32,7 @@ asks (Deed.Event e) = Errand.Nothing
 asks (Deed.Setting s) = Errand.Nothing
 asks (Deed.Question q) = Errand.Nothing
 asks (Deed.Post f) = Errand.Post f
+asks (Deed.Call k) = Errand.Nothing
 asks Deed.Wrong = Errand.Nothing
 
 -- the line that ended last

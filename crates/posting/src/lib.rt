@@ -70,6 +70,7 @@ pub fn asked(p: Playing) -> Errand
         Deed::Setting(_) => Errand::Nothing,
         Deed::Question(_) => Errand::Nothing,
         Deed::Post(f) => Errand::Post(f),
+        Deed::Call(_) => Errand::Nothing,
         Deed::Wrong => Errand::Nothing,
     }
 }

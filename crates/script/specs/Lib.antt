@@ -8,6 +8,7 @@
 --     an event     done [ ! R ]          cut N [ BYTE ] [ ! R ]
 --     a question   status [ = EXPECTED ]     work     locks     dump [id] A N [ = EXPECTED ]
 --     the chip     new [old]     fill [id] A N BYTE     buffer A N BYTE     pattern     lend N N     record FIELDS     is FIELDS
+--     stations     store N DATA [ polls A ] [ list ENTRIES ] [ ! R ]     find N [ = EXPECTED ] [ ! R ]     stations
 --     files        save FILE [ ! R ]     load FILE [ ! R ]     save raw FILE [ ! R ]     load raw FILE [ ! R ]     compare raw FILE
 --     showing      full     short     strict     or nothing but a remark
 --
@@ -15,10 +16,11 @@
 -- be followed by * N. FIELDS, in any order, are protect H, perm H, run KIND, aside KIND and the flags sqi wel ioc wpen wpld sec enable ba. KIND is sector H,
 -- block H, array, page H, id H, lock, config H or bits H.
 -- torn and cut say where what runs is stopped: the count k, and the byte m. Without m it is document 01's: FF where a program runs, 00 where an erase does.
--- BYTE is two hex digits; N and M are decimal numbers, from 1 after *; R is a decimal number from 0 to 15; A is one to six hex digits, H one to sixteen; hex
+-- BYTE is two hex digits; N and M are decimal numbers, from 1 after *; R is a decimal number from 0 to 18; A is one to six hex digits, H one to sixteen; hex
 -- digits are of either case, words of lower case only.
+-- Of the station list N is a decimal number from 0 to 65,535, DATA is BYTES or text and a word as FILE is one, A is a decimal number, ENTRIES is one or more of N or N * M.
 -- FILE is a word of any bytes: only a blank or the line's end ends it, and signs and # are part of it; it does not begin with #, and a file called raw is ./raw.
--- Its bytes are stored as a frame's are.
+-- Its bytes, and those of DATA, are stored as a frame's are; an entry of ENTRIES as an expected byte is, its high byte there and its low one as the kind.
 -- Nothing else is a remark: a word that cannot stand where it stands is a mistake, so that nothing that was to be sent or compared is lost.
 -- Counts of stored bytes stop at 65,537, numbers at 2^64 - 1.
 -- The first mistake makes the whole line wrong, and is kept: its place in the line's grammar, the word's first 24 bytes, its length (at most 25; 0 where

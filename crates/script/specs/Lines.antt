@@ -1,5 +1,5 @@
 -- The input as a fold over its bytes: what one byte does, what a word's end does, what is stored, and what a line says at its end.
-use Prim.Native.Nat.{ℕ, zero, suc, _+_, _-_, _%_, min}
+use Prim.Native.Nat.{ℕ, zero, suc, _+_, _-_, _/_, _%_, min}
 use mathlib.Core.Path.{_≡_}
 use mathlib.Core.Bool.{Bool, true, false, not, _&&_, _||_}
 use mathlib.Core.List.{List, [], _∷_}
@@ -12,7 +12,7 @@ use Rattle.spelling.specs.declared.Word.{Word}
 use Rattle.grammar.specs.Places.{lineStart, takesName}
 use Rattle.grammar.specs.Slots.{verb}
 use Rattle.grammar.specs.Verbs as verbs
-use Rattle.grammar.specs.Table.{sends, sendsAgain, expects, expectsAny, expectsUnknown, expectsAgain, forgets, nextOf, canEnd, slotsWith}
+use Rattle.grammar.specs.Table.{sends, sendsAgain, expects, expectsAny, expectsUnknown, expectsAgain, forgets, enters, nextOf, canEnd, slotsWith}
 use Rattle.script.specs.declared.Reading.{Reading}
 use Rattle.script.specs.declared.Line.{Line}
 
@@ -41,17 +41,18 @@ countAfter at one again n = pick (not one && not again) at (pick one (min (at + 
 unfoldable pub sentAfter : ℕ → ℕ → ℕ → ℕ
 sentAfter at s n = pick (eqb s forgets) 0 (countAfter at (eqb s sends) (eqb s sendsAgain) n)
 
--- the expected bytes after a word
+-- the expected bytes after a word; the entries of a list stand in their place, since no line has both
 abbrev pub expectedAfter : ℕ → ℕ → ℕ → ℕ
-expectedAfter at s n = countAfter at (ltb sendsAgain s && ltb s expectsAgain) (eqb s expectsAgain) n
+expectedAfter at s n = countAfter at ((ltb sendsAgain s && ltb s expectsAgain) || eqb s enters) (eqb s expectsAgain) n
 
--- the byte that is stored: the word's own, 0 for any, or the last one again
-unfoldable pub byteAfter : ℕ → ℕ → ℕ → ℕ
-byteAfter s own last = pick (eqb s sends || (eqb s expects || eqb s expectsUnknown)) own (pick (eqb s expectsAny) 0 last)
+-- the byte that is stored: the word's own, 0 for any, the high one of an entry n, or the last one again
+unfoldable pub byteAfter : ℕ → ℕ → ℕ → ℕ → ℕ
+byteAfter s own n last =
+    pick (eqb s sends || (eqb s expects || eqb s expectsUnknown)) own (pick (eqb s expectsAny) 0 (pick (eqb s enters) (n / 256 % 256) last))
 
--- an expected byte's kind: 1 where it is known, 2 where it is to be unknown, 0 where any byte will do
-unfoldable pub kindAfter : ℕ → ℕ → ℕ
-kindAfter s last = pick (eqb s expects) 1 (pick (eqb s expectsAny) 0 (pick (eqb s expectsUnknown) 2 last))
+-- an expected byte's kind: 1 where it is known, 2 where it is to be unknown, 0 where any byte will do; of an entry n its low byte
+unfoldable pub kindAfter : ℕ → ℕ → ℕ → ℕ
+kindAfter s n last = pick (eqb s expects) 1 (pick (eqb s expectsAny) 0 (pick (eqb s expectsUnknown) 2 (pick (eqb s enters) (n % 256) last)))
 
 -- ---- a byte of a line
 
@@ -112,7 +113,7 @@ mistaken r =
 -- the word may stand where it does: what its row says, and that row's place comes next
 abbrev pub wentTo : Reading → Entry → Reading
 wentTo r e =
-    record { mode = r .mode; place = e .next; read = r .read; shown = replicate 24 0; word = noWord 0; sent = sentAfter (r .sent) (e .store) (r .word .number); expected = expectedAfter (r .expected) (e .store) (r .word .number); last = byteAfter (e .store) (byteOf (r .word)) (r .last); kind = kindAfter (e .store) (r .kind); remark = r .remark; slots = slotsWith (r .slots) e (r .word); ended = r .ended; cr = r .cr; mark = r .mark }
+    record { mode = r .mode; place = e .next; read = r .read; shown = replicate 24 0; word = noWord 0; sent = sentAfter (r .sent) (e .store) (r .word .number); expected = expectedAfter (r .expected) (e .store) (r .word .number); last = byteAfter (e .store) (byteOf (r .word)) (r .word .number) (r .last); kind = kindAfter (e .store) (r .word .number) (r .kind); remark = r .remark; slots = slotsWith (r .slots) e (r .word); ended = r .ended; cr = r .cr; mark = r .mark }
 
 unfoldable pub went : Reading → Entry → Reading
 went r e = pick (eqb (e .class) 255) (mistaken r) (wentTo r e)

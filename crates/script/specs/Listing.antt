@@ -6,8 +6,8 @@ use mathlib.Core.List.{List, [], _∷_}
 use lib.ListN.{replicate, set, take}
 use Rattle.rules.specs.Words.{pick}
 use Rattle.rules.specs.Texts.{ascii}
-use Rattle.grammar.specs.Places.{lineStart, afterByte, afterByteStar, afterBytes, afterReply, afterReplyCount, afterSlash, afterMarkCount, afterEqual, afterExpected, afterTilde, afterExpectedStar, afterExpectedTimes, afterRefuse, lineDone, afterEvent, afterCut, afterQuestion, afterAsked, afterAnswer, afterAnswerTilde, afterAnswerStar, afterAnswerTimes, afterDump, afterDumpId, afterDumpPlace, afterFill, afterFillId, afterFillPlace, afterFillCount, afterLend, afterLendArray, inFields, afterProtect, afterPerm, afterRun, afterAside, afterRunKind, afterAsideKind, afterNoReply, afterNoReplySlash, afterAny, afterAnyStar, afterAnyTimes, afterAnswerAny, afterAnswerAnyStar, afterAnswerAnyTimes, afterBurst, afterSave, afterLoad, afterRaw, afterCompare, afterCompareRaw, afterNew, afterTorn, afterTornCount, afterTornByte, afterCutCount}
-use Rattle.grammar.specs.Slots.{verb, wanted, marksGiven, marks, expecting, judged, refused, from, size, filling, burst, tearing, ofId, old, protection, permanent, runKind, runNumber, asideKind, asideNumber, sqi, wel, ioc, wpen, wpld, sec, enable, ba}
+use Rattle.grammar.specs.Places.{lineStart, afterByte, afterByteStar, afterBytes, afterReply, afterReplyCount, afterSlash, afterMarkCount, afterEqual, afterExpected, afterTilde, afterExpectedStar, afterExpectedTimes, afterRefuse, lineDone, afterEvent, afterCut, afterQuestion, afterAsked, afterAnswer, afterAnswerTilde, afterAnswerStar, afterAnswerTimes, afterDump, afterDumpId, afterDumpPlace, afterFill, afterFillId, afterFillPlace, afterFillCount, afterLend, afterLendArray, inFields, afterProtect, afterPerm, afterRun, afterAside, afterRunKind, afterAsideKind, afterNoReply, afterNoReplySlash, afterAny, afterAnyStar, afterAnyTimes, afterAnswerAny, afterAnswerAnyStar, afterAnswerAnyTimes, afterBurst, afterSave, afterLoad, afterRaw, afterCompare, afterCompareRaw, afterNew, afterTorn, afterTornCount, afterTornByte, afterCutCount, afterStore, afterStation, afterData, afterDataStar, afterDataTimes, afterText, afterTextWord, afterPolls, afterAllowance, afterList, afterEntry, afterEntryStar, afterEntryTimes, afterFind, afterSought, afterSoughtEqual}
+use Rattle.grammar.specs.Slots.{verb, wanted, marksGiven, pollsGiven, marks, expecting, judged, refused, from, station, size, polls, filling, burst, tearing, asText, ofId, old, listGiven, protection, permanent, runKind, runNumber, asideKind, asideNumber, sqi, wel, ioc, wpen, wpld, sec, enable, ba}
 use Rattle.grammar.specs.Verbs as verbs
 use Rattle.script.specs.declared.Line.{Line}
 use Rattle.script.specs.declared.Reading.{Reading}
@@ -190,6 +190,16 @@ lines =
     ∷ row "load x.img ! 15" verbs.load (λ l. with judged 1 (with refused 15 l)) (ascii "x.img") [] []
     ∷ row "load raw >!0 !1" verbs.loadRaw (λ l. with judged 1 (with refused 1 l)) (ascii ">!0") [] []
     ∷ row "compare raw 06" verbs.compareRaw alone (ascii "06") [] []
+    ∷ row "store 7 41*2 42" verbs.store (with station 7) (0x41 ∷ 0x41 ∷ 0x42 ∷ []) [] []
+    ∷ row "store 65535 text A#b!=" verbs.store (λ l. with station 65535 (with asText 1 l)) (ascii "A#b!=") [] []
+    ∷ row "store 0 FF polls 3 list 3 65535 ! 18" verbs.store (λ l. with pollsGiven 1 (with polls 3 (with listGiven 1 (with judged 1 (with refused 18 l)))))
+    (0xFF ∷ []) (0x00 ∷ 0xFF ∷ []) (0x03 ∷ 0xFF ∷ [])
+    ∷ row "store 1 00*2 list 258*2 0" verbs.store (λ l. with station 1 (with listGiven 1 l)) (0x00 ∷ 0x00 ∷ []) (0x01 ∷ 0x01 ∷ 0x00 ∷ []) (0x02 ∷ 0x02 ∷ 0x00 ∷ [])
+    ∷ row "store 1 text x polls 99999999999999999999!1" verbs.store (λ l. with station 1 (with asText 1 (with pollsGiven 1 (with polls 0xFFFF_FFFF_FFFF_FFFF (with judged 1 (with refused 1 l)))))) (ascii "x") [] []
+    ∷ plain "find 7" verbs.find (with station 7)
+    ∷ row "find 007 = 41 ??*2 42!0" verbs.find (λ l. with station 7 (with expecting 1 (with judged 1 l))) [] (0x41 ∷ 0x00 ∷ 0x00 ∷ 0x42 ∷ []) (1 ∷ 0 ∷ 0 ∷ 1 ∷ [])
+    ∷ plain "find 8 ! 17" verbs.find (λ l. with station 8 (with judged 1 (with refused 17 l)))
+    ∷ plain "stations # the list" verbs.stations alone
     ∷ plain "cut 99999999999999999999" verbs.cut (with from 0xFFFF_FFFF_FFFF_FFFF)
     ∷ record { text = 0xEF ∷ 0xBB ∷ 0xBF ∷ ascii "full"; is = record { verbs = verbs.full; slots = says verbs.full; frame = []; expected = []; known = [] } }
     ∷ []
@@ -228,7 +238,7 @@ wrongLines =
     ∷ wrong "03 > 4 = ??*4" afterAnyTimes "" 0 14
     ∷ wrong "03 > 1 = 11*2*" afterExpectedTimes "*" 1 14
     ∷ wrong "05 > 1 != 00" afterRefuse "=" 1 9
-    ∷ wrong "02 ! 16" afterRefuse "16" 2 6
+    ∷ wrong "02 ! 19" afterRefuse "19" 2 6
     ∷ wrong "new  a chip" afterNew "a" 1 6
     ∷ wrong "new ! 0" afterNew "!" 1 5
     ∷ wrong "new ba" afterNew "ba" 2 5
@@ -284,6 +294,31 @@ wrongLines =
     ∷ wrong "compare x/y.bin" afterCompare "x/y.bin" 7 9
     ∷ wrong "compare raw" afterCompareRaw "" 0 12
     ∷ wrong "compare raw x ! 1" lineDone "!" 1 15
+    ∷ wrong "store" afterStore "" 0 6
+    ∷ wrong "store 65536 00" afterStore "65536" 5 7
+    ∷ wrong "store 7" afterStation "" 0 8
+    ∷ wrong "store 7 hello" afterStation "hello" 5 9
+    ∷ wrong "store 7 41 text x" afterData "text" 4 12
+    ∷ wrong "store 7 41*0" afterDataStar "0" 1 12
+    ∷ wrong "store 7 41*2*2" afterDataTimes "*" 1 13
+    ∷ wrong "store 7 text # x" afterText "" 0 14
+    ∷ wrong "store 7 text a b" afterTextWord "b" 1 16
+    ∷ wrong "store 7 41 polls" afterPolls "" 0 17
+    ∷ wrong "store 7 41 polls 3 polls 3" afterAllowance "polls" 5 20
+    ∷ wrong "store 7 41 list" afterList "" 0 16
+    ∷ wrong "store 7 41 list 65536" afterList "65536" 5 17
+    ∷ wrong "store 7 41 list 1 polls 3" afterEntry "polls" 5 19
+    ∷ wrong "store 7 41 list 1*" afterEntryStar "" 0 19
+    ∷ wrong "store 7 41 list 1*2 = 0" afterEntryTimes "=" 1 21
+    ∷ wrong "store 7 41 = 41" afterData "=" 1 12
+    ∷ wrong "find x" afterFind "x" 1 6
+    ∷ wrong "find 7 > 28" afterSought ">" 1 8
+    ∷ wrong "find 7 =" afterSoughtEqual "" 0 9
+    ∷ wrong "find 7 = kept" afterSoughtEqual "kept" 4 10
+    ∷ wrong "find 7 = ??" afterAny "" 0 12
+    ∷ wrong "stations 7" lineDone "7" 1 10
+    ∷ wrong "stationen" lineStart "stationen" 9 1
+    ∷ wrong "stationx" lineStart "stationx" 8 1
     ∷ wrong "??" lineStart "??" 2 1
     ∷ wrong "  a remark needs its # where a line begins" lineStart "a" 1 3
     ∷ wrong "a-word-of-more-than-24-bytes-is-shown-by-its-first" lineStart "a-word-of-more-than-24-b" 25 1
@@ -310,6 +345,9 @@ hints =
     ∷ hinted "99 Torn 5" lowerCase
     ∷ hinted "99 torn 5 0xF0" twoDigits
     ∷ hinted "cut 5 F" twoDigits
+    ∷ hinted "Stations" lowerCase
+    ∷ hinted "store 7 Text x" lowerCase
+    ∷ hinted "store 7 414243" apart
     ∷ hinted "Finish" noHint
     ∷ hinted "0G" noHint
     ∷ hinted "=" noHint

@@ -51,17 +51,24 @@ fn last_after(named: bool, b: u8, last: u8) -> u8
     if named { b } else { last }
 }
 
-fn byte_after(store: u8, own: u8, last: u8) -> u8
-    ensures { λ q. ⌜ q ≡ byteAfter store own last ⌝ }
+fn byte_after(store: u8, own: u8, n: u64, last: u8) -> u8
+    ensures { λ q. ⌜ q ≡ byteAfter store own n last ⌝ }
 {
     if (store == 1) | ((store == 3) | (store == 5)) {
         return own;
     }
-    if store == 4 { 0 } else { last }
+    if store == 4 {
+        return 0;
+    }
+    if store == 8 {
+        (n / 256 % 256) as u8
+    } else {
+        last
+    }
 }
 
-fn kind_after(store: u8, last: u8) -> u8
-    ensures { λ q. ⌜ q ≡ kindAfter store last ⌝ }
+fn kind_after(store: u8, n: u64, last: u8) -> u8
+    ensures { λ q. ⌜ q ≡ kindAfter store n last ⌝ }
 {
     if store == 3 {
         return 1;
@@ -69,7 +76,10 @@ fn kind_after(store: u8, last: u8) -> u8
     if store == 4 {
         return 0;
     }
-    if store == 5 { 2 } else { last }
+    if store == 5 {
+        return 2;
+    }
+    if store == 8 { (n % 256) as u8 } else { last }
 }
 
 // ---- one byte
@@ -172,12 +182,12 @@ fn went(r: Reading, e: Entry) -> Reading
     q.sent = sent_after(r.sent, e.store, word.number);
     q.expected = count_after(
         r.expected,
-        (2 < e.store) & (e.store < 6),
+        ((2 < e.store) & (e.store < 6)) | (e.store == 8),
         e.store == 6,
         word.number,
     );
-    q.last = byte_after(e.store, spelling::byte_of(word), r.last);
-    q.kind = kind_after(e.store, r.kind);
+    q.last = byte_after(e.store, spelling::byte_of(word), word.number, r.last);
+    q.kind = kind_after(e.store, word.number, r.kind);
     q.slots = heard;
     q
 }

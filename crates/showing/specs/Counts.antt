@@ -31,10 +31,13 @@ replyShown full wanted = shown full (min wanted 65537) 64
 unfoldable pub dumpShown : Bool → List ℕ → ℕ
 dumpShown full s = pick (eqb (slot s slots.expecting) 0) (shown full (dumped s) 4096) (shown full (dumped s) 64)
 
--- the rows of a line's bytes: of a reply, of the six bits of a status, of the 256 groups of 8 KB with their locks, of a dump
+-- the rows of a line's bytes: of a reply, of the six bits of a status, of the 256 groups of 8 KB with their locks, of a dump; of what is found two; of the stations one for
+-- each slot, and one for what is left out
 unfoldable pub countOf : ℕ → Bool → List ℕ → ℕ
 countOf verb full s =
     pick (eqb verb verbs.frame) (rowsOf (replyShown full (slot s slots.wanted)))
     (pick (eqb verb verbs.status) 6
     (pick (eqb verb verbs.locks) 256
-    (pick (eqb verb verbs.dump) (rowsOf (dumpShown full s)) 0)))
+    (pick (eqb verb verbs.dump) (rowsOf (dumpShown full s))
+    (pick (eqb verb verbs.find) 2
+    (pick (eqb verb verbs.stations) 2049 0)))))

@@ -63,6 +63,8 @@ pub fn count(verb: u8, full: bool, slots: [u64; 24]) -> usize
         5 => 6,
         7 => 256,
         8 => rows_of(dump_shown(full, slots)),
+        24 => 2,
+        25 => 2049,
         _ => 0,
     }
 }

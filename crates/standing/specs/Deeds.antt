@@ -3,6 +3,7 @@ use Prim.Native.Nat.{ℕ}
 use lib.Dec.{eqb}
 use Rattle.rules.specs.Words.{pick}
 use Rattle.grammar.specs.Verbs as verbs
+use Rattle.standing.specs.declared.Call.{Call}
 use Rattle.standing.specs.declared.Deed.{Deed}
 use Rattle.standing.specs.declared.Event.{Event}
 use Rattle.standing.specs.declared.Post.{Post}
@@ -34,4 +35,7 @@ deedOf v =
     (pick (eqb v verbs.saveRaw) (Deed.Post Post.SaveRaw)
     (pick (eqb v verbs.loadRaw) (Deed.Post Post.LoadRaw)
     (pick (eqb v verbs.compareRaw) (Deed.Post Post.CompareRaw)
-    Deed.Wrong))))))))))))))))))))))
+    (pick (eqb v verbs.store) (Deed.Call Call.Store)
+    (pick (eqb v verbs.find) (Deed.Call Call.Find)
+    (pick (eqb v verbs.stations) (Deed.Call Call.Stations)
+    Deed.Wrong)))))))))))))))))))))))))

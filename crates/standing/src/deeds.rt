@@ -1,4 +1,5 @@
 // What a line asks for, by its verb: crate grammar, specs/Verbs.
+use crate::Call;
 use crate::Deed;
 use crate::Event;
 use crate::Post;
@@ -34,6 +35,9 @@ pub fn deed_of(verb: u8) -> Deed
         20 => Deed::Post(Post::SaveRaw),
         21 => Deed::Post(Post::LoadRaw),
         22 => Deed::Post(Post::CompareRaw),
+        23 => Deed::Call(Call::Store),
+        24 => Deed::Call(Call::Find),
+        25 => Deed::Call(Call::Stations),
         _ => Deed::Wrong,
     }
 }

@@ -16,6 +16,7 @@ pub enum Deed {
     Setting(Setting),
     Question(Question),
     Post(Post),
+    Call(Call),
     Wrong,
 }
 
@@ -52,6 +53,13 @@ pub enum Post {
     SaveRaw,
     LoadRaw,
     CompareRaw,
+}
+
+// What is done with the station list.
+pub enum Call {
+    Store,
+    Find,
+    Stations,
 }
 
 // The bench between two lines.

@@ -39,6 +39,12 @@ empty-requires-2 c κs = search needs
 enum-told-3 : tie.Need-enum-told-3
 enum-told-3 c = search needs
 
+empty-requires-3 : tie.Need-empty-requires-3
+empty-requires-3 c κs = search needs
+
+enum-told-4 : tie.Need-enum-told-4
+enum-told-4 c = search needs
+
 wrong-requires : tie.Need-wrong-requires
 wrong-requires c κs = search needs
 
@@ -58,7 +64,10 @@ returns-5 : tie.Need-returns-5
 returns-5 c = rw (← c .before .before .before .deed-of .ensures, c .before .enum-told2 .given .1) (c .empty2 .ensures)
 
 returns-6 : tie.Need-returns-6
-returns-6 c = rw (← c .before .before .before .before .deed-of .ensures, c .before .before .enum-told3 .given .1) (c .wrong .ensures)
+returns-6 c = rw (← c .before .before .before .deed-of .ensures, c .before .enum-told3 .given .1) (c .empty3 .ensures)
+
+returns-7 : tie.Need-returns-7
+returns-7 c = rw (← c .before .before .before .before .deed-of .ensures, c .before .before .enum-told4 .given .1) (c .wrong .ensures)
 
 pub first-spec : {M : Type 1} → statement M
-first-spec = tie.close (tie.spec deed-of-requires enum-told empty-requires enum-known-deed row-requires enum-known-deed-2 row-requires-2 enum-known-deed-3 row-requires-3 enum-told-2 empty-requires-2 enum-told-3 wrong-requires returns returns-2 returns-3 returns-4 returns-5 returns-6)
+first-spec = tie.close (tie.spec deed-of-requires enum-told empty-requires enum-known-deed row-requires enum-known-deed-2 row-requires-2 enum-known-deed-3 row-requires-3 enum-told-2 empty-requires-2 enum-told-3 empty-requires-3 enum-told-4 wrong-requires returns returns-2 returns-3 returns-4 returns-5 returns-6 returns-7)

@@ -39,6 +39,9 @@ enum-told-2 c = search needs
 enum-told-3 : tie.Need-enum-told-3
 enum-told-3 c = search needs
 
+enum-told-4 : tie.Need-enum-told-4
+enum-told-4 c = search needs
+
 wrong-requires : tie.Need-wrong-requires
 wrong-requires c κs = search needs
 
@@ -82,7 +85,10 @@ returns-5 : tie.Need-returns-5
 returns-5 c = rw (← c .before .before .deed-of .ensures, c .enum-told2 .given .1, ← c .before .before .before .before .next-line .ensures) (refl, untouched _ _ _ _)
 
 returns-6 : tie.Need-returns-6
-returns-6 c = rw (← c .before .before .before .deed-of .ensures, c .before .enum-told3 .given .1) (c .wrong .ensures ∙ ap wrongCounted (c .before .before .before .before .before .next-line .ensures), untouched _ _ _ _)
+returns-6 c = rw (← c .before .before .deed-of .ensures, c .enum-told3 .given .1, ← c .before .before .before .before .next-line .ensures) (refl, untouched _ _ _ _)
+
+returns-7 : tie.Need-returns-7
+returns-7 c = rw (← c .before .before .before .deed-of .ensures, c .before .enum-told4 .given .1) (c .wrong .ensures ∙ ap wrongCounted (c .before .before .before .before .before .next-line .ensures), untouched _ _ _ _)
 
 pub play-spec : {M : Type 1} → statement M
 play-spec =
@@ -99,6 +105,7 @@ play-spec =
     played-requires-3
     enum-told-2
     enum-told-3
+    enum-told-4
     wrong-requires
     returns
     same-length
@@ -113,4 +120,5 @@ play-spec =
     same-length-8
     returns-4
     returns-5
-    returns-6)
+    returns-6
+    returns-7)

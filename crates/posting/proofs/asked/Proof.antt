@@ -30,6 +30,9 @@ enum-known-deed c = search needs
 enum-told-5 : tie.Need-enum-told-5
 enum-told-5 c = search needs
 
+enum-told-6 : tie.Need-enum-told-6
+enum-told-6 c = search needs
+
 returns-2 : tie.Need-returns-2
 returns-2 c = rw (c .before .before .before .before .if1 .left, ← c .before .before .before .line-of .ensures, ← c .before .before .deed-of .ensures, c .enum-told .given .1)
 
@@ -48,6 +51,9 @@ returns-6 c = rw (c .before .before .before .before .before .if1 .left, ← c .b
 returns-7 : tie.Need-returns-7
 returns-7 c = rw (c .before .before .before .before .if1 .left, ← c .before .before .before .line-of .ensures, ← c .before .before .deed-of .ensures, c .enum-told5 .given .1)
 
+returns-8 : tie.Need-returns-8
+returns-8 c = rw (c .before .before .before .before .if1 .left, ← c .before .before .before .line-of .ensures, ← c .before .before .deed-of .ensures, c .enum-told6 .given .1)
+
 pub asked-spec : {M : Type 1} → statement M
 asked-spec =
     tie.close
@@ -61,9 +67,11 @@ asked-spec =
     enum-told-4
     enum-known-deed
     enum-told-5
+    enum-told-6
     returns-2
     returns-3
     returns-4
     returns-5
     returns-6
-    returns-7)
+    returns-7
+    returns-8)

@@ -38,7 +38,15 @@ returns-4 c = rw (c .before .before .match .keys4, ← c .before .dump-shown .en
 
 returns-5 : tie.Need-returns-5
 unfolding countOf
-returns-5 c = rw (ne-eqb _ _ (c .match .rest .1), ne-eqb _ _ (c .match .rest .0 .1), ne-eqb _ _ (c .match .rest .0 .0 .1), ne-eqb _ _ (c .match .rest .0 .0 .0 .1))
+returns-5 c = rw (c .match .keys5)
+
+returns-6 : tie.Need-returns-6
+unfolding countOf
+returns-6 c = rw (c .match .keys6)
+
+returns-7 : tie.Need-returns-7
+unfolding countOf
+returns-7 c = let r = c .match .rest in rw (ne-eqb _ _ (r .1), ne-eqb _ _ (r .0 .1), ne-eqb _ _ (r .0 .0 .1), ne-eqb _ _ (r .0 .0 .0 .1), ne-eqb _ _ (r .0 .0 .0 .0 .1), ne-eqb _ _ (r .0 .0 .0 .0 .0 .1))
 
 pub count-spec : {M : Type 1} → statement M
-count-spec = tie.close (tie.spec array-read-wanted reply-shown-requires rows-of-requires dump-shown-requires rows-of-requires-2 returns returns-2 returns-3 returns-4 returns-5)
+count-spec = tie.close (tie.spec array-read-wanted reply-shown-requires rows-of-requires dump-shown-requires rows-of-requires-2 returns returns-2 returns-3 returns-4 returns-5 returns-6 returns-7)

@@ -15,9 +15,12 @@ returns : tie.Need-returns
 unfolding called keys wordList keysFrom
 returns c = rw (le-leb _ _ (c .before .before .if1 .taken)) (c .position .ensures)
 
+called-long-requires : tie.Need-called-long-requires
+called-long-requires c κs = search needs
+
 returns-2 : tie.Need-returns-2
 unfolding called
-returns-2 c = rw (lt-leb _ _ (c .if1 .left))
+returns-2 c = rw (lt-leb _ _ (c .before .if1 .left)) (c .called-long .ensures)
 
 pub called-spec : {M : Type 1} → statement M
-called-spec = tie.close (tie.spec slice-aggregate-position position-requires returns returns-2)
+called-spec = tie.close (tie.spec slice-aggregate-position position-requires called-long-requires returns returns-2)

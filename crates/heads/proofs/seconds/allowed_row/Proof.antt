@@ -18,9 +18,6 @@ returns : tie.Need-returns
 unfolding allowedRow
 returns c = rw (lt-ltb _ _ (c .before .if1 .taken), ← c .before .before .below .ensures) (c .form .ensures)
 
-smaller-requires : tie.Need-smaller-requires
-smaller-requires c κs = search needs
-
 add-form-2 : tie.Need-add-form-2
 add-form-2 c = search needs
 
@@ -29,8 +26,21 @@ form-requires-2 c κs = search needs
 
 returns-2 : tie.Need-returns-2
 unfolding allowedRow
-returns-2 c = rw (le-ltb _ _ (c .before .before .if1 .left), ← c .before .before .before .below .ensures, ← c .before .smaller .ensures) (c .form2 .ensures)
+returns-2 c = rw (le-ltb _ _ (c .before .before .if1 .left), lt-ltb _ _ (c .before .if2 .taken), ← c .before .before .before .below .ensures) (c .form2 .ensures)
+
+smaller-requires : tie.Need-smaller-requires
+smaller-requires c κs = search needs
+
+add-form-3 : tie.Need-add-form-3
+add-form-3 c = search needs
+
+form-requires-3 : tie.Need-form-requires-3
+form-requires-3 c κs = search needs
+
+returns-3 : tie.Need-returns-3
+unfolding allowedRow
+returns-3 c = rw (le-ltb _ _ (c .before .before .before .if1 .left), le-ltb _ _ (c .before .before .if2 .left), ← c .before .before .before .before .below .ensures, ← c .before .smaller .ensures) (c .form3 .ensures)
 
 pub allowed-row-spec : {M : Type 1} → statement M
 allowed-row-spec =
-    tie.close (tie.spec below-requires add-form form-requires returns smaller-requires add-form-2 form-requires-2 returns-2)
+    tie.close (tie.spec below-requires add-form form-requires returns add-form-2 form-requires-2 returns-2 smaller-requires add-form-3 form-requires-3 returns-3)

@@ -32,7 +32,7 @@ kind-after-requires c κs = search needs
 
 returns-2 : tie.Need-returns-2
 unfolding went
-returns-2 c = rw (ne-eqb _ _ (c .before .before .before .before .before .before .before .before .before .before .before .before .before .if1 .left), c .kind-after .ensures, c .before .byte-after .ensures, c .before .before .byte-of .ensures, c .before .before .before .count-after .ensures, c .before .before .before .before .before .before .before .sent-after .ensures, c .before .before .before .before .before .before .before .before .before .heard .ensures, c .before .before .before .before .before .before .before .before .before .before .none .ensures)
+returns-2 c = rw (ne-eqb _ _ (c .before .before .before .before .before .before .before .before .before .before .before .before .before .before .if1 .left), c .kind-after .ensures, c .before .byte-after .ensures, c .before .before .byte-of .ensures, c .before .before .before .count-after .ensures, c .before .before .before .before .before .before .before .before .sent-after .ensures, c .before .before .before .before .before .before .before .before .before .before .heard .ensures, c .before .before .before .before .before .before .before .before .before .before .before .none .ensures)
 
 pub went-spec : {M : Type 1} → statement M
 went-spec =

@@ -98,31 +98,46 @@ returns-23 c = rw (c .match .keys23)
 
 returns-24 : tie.Need-returns-24
 unfolding deedOf
-returns-24 c = let r = c .match .rest in
+returns-24 c = rw (c .match .keys24)
+
+returns-25 : tie.Need-returns-25
+unfolding deedOf
+returns-25 c = rw (c .match .keys25)
+
+returns-26 : tie.Need-returns-26
+unfolding deedOf
+returns-26 c = rw (c .match .keys26)
+
+returns-27 : tie.Need-returns-27
+unfolding deedOf
+returns-27 c = let r = c .match .rest in
     rw (
-      ne-eqb (c .before .args .verb) 0 (r .0 .0 .0 .0 .0 .0 .0 .0 .0 .0 .0 .0 .0 .0 .0 .0 .0 .0 .0 .0 .0 .0 .1),
-      ne-eqb (c .before .args .verb) 1 (r .0 .0 .0 .0 .0 .0 .0 .0 .0 .0 .0 .0 .0 .0 .0 .0 .0 .0 .0 .0 .0 .1),
-      ne-eqb (c .before .args .verb) 2 (r .0 .0 .0 .0 .0 .0 .0 .0 .0 .0 .0 .0 .0 .0 .0 .0 .0 .0 .0 .0 .1),
-      ne-eqb (c .before .args .verb) 3 (r .0 .0 .0 .0 .0 .0 .0 .0 .0 .0 .0 .0 .0 .0 .0 .0 .0 .0 .0 .1),
-      ne-eqb (c .before .args .verb) 4 (r .0 .0 .0 .0 .0 .0 .0 .0 .0 .0 .0 .0 .0 .0 .0 .0 .0 .0 .1),
-      ne-eqb (c .before .args .verb) 5 (r .0 .0 .0 .0 .0 .0 .0 .0 .0 .0 .0 .0 .0 .0 .0 .0 .0 .1),
-      ne-eqb (c .before .args .verb) 6 (r .0 .0 .0 .0 .0 .0 .0 .0 .0 .0 .0 .0 .0 .0 .0 .0 .1),
-      ne-eqb (c .before .args .verb) 7 (r .0 .0 .0 .0 .0 .0 .0 .0 .0 .0 .0 .0 .0 .0 .0 .1),
-      ne-eqb (c .before .args .verb) 8 (r .0 .0 .0 .0 .0 .0 .0 .0 .0 .0 .0 .0 .0 .0 .1),
-      ne-eqb (c .before .args .verb) 9 (r .0 .0 .0 .0 .0 .0 .0 .0 .0 .0 .0 .0 .0 .1),
-      ne-eqb (c .before .args .verb) 10 (r .0 .0 .0 .0 .0 .0 .0 .0 .0 .0 .0 .0 .1),
-      ne-eqb (c .before .args .verb) 11 (r .0 .0 .0 .0 .0 .0 .0 .0 .0 .0 .0 .1),
-      ne-eqb (c .before .args .verb) 12 (r .0 .0 .0 .0 .0 .0 .0 .0 .0 .0 .1),
-      ne-eqb (c .before .args .verb) 13 (r .0 .0 .0 .0 .0 .0 .0 .0 .0 .1),
-      ne-eqb (c .before .args .verb) 14 (r .0 .0 .0 .0 .0 .0 .0 .0 .1),
-      ne-eqb (c .before .args .verb) 15 (r .0 .0 .0 .0 .0 .0 .0 .1),
-      ne-eqb (c .before .args .verb) 16 (r .0 .0 .0 .0 .0 .0 .1),
-      ne-eqb (c .before .args .verb) 17 (r .0 .0 .0 .0 .0 .1),
-      ne-eqb (c .before .args .verb) 18 (r .0 .0 .0 .0 .1),
-      ne-eqb (c .before .args .verb) 19 (r .0 .0 .0 .1),
-      ne-eqb (c .before .args .verb) 20 (r .0 .0 .1),
-      ne-eqb (c .before .args .verb) 21 (r .0 .1),
-      ne-eqb (c .before .args .verb) 22 (r .1),
+      ne-eqb (c .before .args .verb) 0 (r .0 .0 .0 .0 .0 .0 .0 .0 .0 .0 .0 .0 .0 .0 .0 .0 .0 .0 .0 .0 .0 .0 .0 .0 .0 .1),
+      ne-eqb (c .before .args .verb) 1 (r .0 .0 .0 .0 .0 .0 .0 .0 .0 .0 .0 .0 .0 .0 .0 .0 .0 .0 .0 .0 .0 .0 .0 .0 .1),
+      ne-eqb (c .before .args .verb) 2 (r .0 .0 .0 .0 .0 .0 .0 .0 .0 .0 .0 .0 .0 .0 .0 .0 .0 .0 .0 .0 .0 .0 .0 .1),
+      ne-eqb (c .before .args .verb) 3 (r .0 .0 .0 .0 .0 .0 .0 .0 .0 .0 .0 .0 .0 .0 .0 .0 .0 .0 .0 .0 .0 .0 .1),
+      ne-eqb (c .before .args .verb) 4 (r .0 .0 .0 .0 .0 .0 .0 .0 .0 .0 .0 .0 .0 .0 .0 .0 .0 .0 .0 .0 .0 .1),
+      ne-eqb (c .before .args .verb) 5 (r .0 .0 .0 .0 .0 .0 .0 .0 .0 .0 .0 .0 .0 .0 .0 .0 .0 .0 .0 .0 .1),
+      ne-eqb (c .before .args .verb) 6 (r .0 .0 .0 .0 .0 .0 .0 .0 .0 .0 .0 .0 .0 .0 .0 .0 .0 .0 .0 .1),
+      ne-eqb (c .before .args .verb) 7 (r .0 .0 .0 .0 .0 .0 .0 .0 .0 .0 .0 .0 .0 .0 .0 .0 .0 .0 .1),
+      ne-eqb (c .before .args .verb) 8 (r .0 .0 .0 .0 .0 .0 .0 .0 .0 .0 .0 .0 .0 .0 .0 .0 .0 .1),
+      ne-eqb (c .before .args .verb) 9 (r .0 .0 .0 .0 .0 .0 .0 .0 .0 .0 .0 .0 .0 .0 .0 .0 .1),
+      ne-eqb (c .before .args .verb) 10 (r .0 .0 .0 .0 .0 .0 .0 .0 .0 .0 .0 .0 .0 .0 .0 .1),
+      ne-eqb (c .before .args .verb) 11 (r .0 .0 .0 .0 .0 .0 .0 .0 .0 .0 .0 .0 .0 .0 .1),
+      ne-eqb (c .before .args .verb) 12 (r .0 .0 .0 .0 .0 .0 .0 .0 .0 .0 .0 .0 .0 .1),
+      ne-eqb (c .before .args .verb) 13 (r .0 .0 .0 .0 .0 .0 .0 .0 .0 .0 .0 .0 .1),
+      ne-eqb (c .before .args .verb) 14 (r .0 .0 .0 .0 .0 .0 .0 .0 .0 .0 .0 .1),
+      ne-eqb (c .before .args .verb) 15 (r .0 .0 .0 .0 .0 .0 .0 .0 .0 .0 .1),
+      ne-eqb (c .before .args .verb) 16 (r .0 .0 .0 .0 .0 .0 .0 .0 .0 .1),
+      ne-eqb (c .before .args .verb) 17 (r .0 .0 .0 .0 .0 .0 .0 .0 .1),
+      ne-eqb (c .before .args .verb) 18 (r .0 .0 .0 .0 .0 .0 .0 .1),
+      ne-eqb (c .before .args .verb) 19 (r .0 .0 .0 .0 .0 .0 .1),
+      ne-eqb (c .before .args .verb) 20 (r .0 .0 .0 .0 .0 .1),
+      ne-eqb (c .before .args .verb) 21 (r .0 .0 .0 .0 .1),
+      ne-eqb (c .before .args .verb) 22 (r .0 .0 .0 .1),
+      ne-eqb (c .before .args .verb) 23 (r .0 .0 .1),
+      ne-eqb (c .before .args .verb) 24 (r .0 .1),
+      ne-eqb (c .before .args .verb) 25 (r .1),
     )
 
 pub deed-of-spec : {M : Type 1} → statement M
@@ -152,4 +167,7 @@ deed-of-spec =
     returns-21
     returns-22
     returns-23
-    returns-24)
+    returns-24
+    returns-25
+    returns-26
+    returns-27)

@@ -1,0 +1,2 @@
+-- The slots of the station list counted.
+pub mod Census

@@ -1,0 +1,2 @@
+-- No second outcome.
+pub mod Unique
