@@ -1,15 +1,32 @@
 # Sourced by the run scripts, at the repository's root: builds the library where it is not up to date, and says how a C program with it
-# is compiled and run. The library is code for x86-64. On another processor programs are linked with the kit's C library and run by the
-# kit's emulator; where FULKIBONO_OBJECT names the library compiled for this processor, that is used, and programs run as they are.
+# is compiled and run. The library is two archives, the chip and the station list; a program that calls the station list names the second in
+# `also` ($stations, by `with_stations`). Both are code for x86-64. On another processor programs are linked with the kit's C library and run by the
+# kit's emulator; where FULKIBONO_OBJECT and FULKIBONO_STATIONS name the two compiled for this processor, those are used, and programs run as they are.
 set -eu
 out=target/run
 mkdir -p "$out"
 machine=$(uname -m)
 library=${FULKIBONO_OBJECT:-target/staticlib/libbench.a}
-if [ -z "${FULKIBONO_OBJECT:-}" ] && { [ ! -f "$library" ] || [ -n "$(find crates crates.txt -type f -newer "$library" | head -n 1)" ]; }; then
-    rt staticlib bench >target/staticlib.log 2>&1 || { cat target/staticlib.log; exit 1; }
-    touch "$library"
-fi
+stations=${FULKIBONO_STATIONS:-target/staticlib/libstation_bench.a}
+
+# built NAME ARCHIVE: the archive, of crates that are not newer
+built() {
+    if [ ! -f "$2" ] || [ -n "$(find crates crates.txt -type f -newer "$2" | head -n 1)" ]; then
+        rt staticlib "$1" >target/staticlib.log 2>&1 || { cat target/staticlib.log; exit 1; }
+        touch "$2"
+    fi
+}
+if [ -z "${FULKIBONO_OBJECT:-}" ]; then built bench "$library"; fi
+
+# what a program links that calls the station list
+with_stations() {
+    if [ -n "${FULKIBONO_OBJECT:-}" ] && [ -z "${FULKIBONO_STATIONS:-}" ]; then
+        echo "FULKIBONO_OBJECT names the chip compiled for this processor; name the station list so too, by FULKIBONO_STATIONS" >&2
+        exit 2
+    fi
+    if [ -z "${FULKIBONO_STATIONS:-}" ]; then built station_bench "$stations"; fi
+    also="${also:-} $stations"
+}
 
 # compile PROGRAM SOURCE [FLAGS..]: the C program with the library, and with what `also` names
 # start PROGRAM [WORDS..]: runs it

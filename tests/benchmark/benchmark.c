@@ -314,6 +314,110 @@ static void image_wide_limit(void)
     sink += wide_sum();
 }
 
+/* ---- the station list, half full: stations 0 to 1,023 in the first 1,024 slots. A lookup beside the read that it needs and one pass over the slots; a store
+ * beside a lookup and the frames and completions of its writes */
+
+#define HALF (FULKIBONO_STATION_SLOTS / 2)
+static fulkibono_station_buffers stations;
+static uint8_t station_data[FULKIBONO_STATION_DATA];
+static uint16_t station;
+static const uint64_t at_once[] = { 1, 1, 1 };
+
+static void find_ours(void)
+{
+    uint8_t n = fulkibono_find(&chip, array, security, &stations, station, station_data);
+    sink += (uint64_t)n + station_data[0];
+}
+
+static
+#if defined(__GNUC__)
+__attribute__((noinline))
+#endif
+size_t pass(const uint8_t *list, uint16_t n)
+{
+    size_t i;
+    for (i = 0; i < FULKIBONO_STATION_SLOTS; i++) {
+        const uint8_t *p = list + i * FULKIBONO_STATION_SLOT;
+        if (p[0] == 0x53 && p[1] == 0x54 && (p[2] << 8 | p[3]) == n)
+            break;
+    }
+    return i;
+}
+static void find_limit(void)
+{
+    static const uint8_t read[] = { 0x03, 0x01, 0x00, 0x00 };
+    uint8_t n = fulkibono_send(&chip, array, security, read, 4, stations.reply, stations.marks, FULKIBONO_STATION_LIST);
+    size_t i = pass(stations.reply, station);
+    if (i < FULKIBONO_STATION_SLOTS)
+        memcpy(station_data, stations.reply + i * FULKIBONO_STATION_SLOT + 4, FULKIBONO_STATION_DATA);
+    sink += (uint64_t)n + station_data[0];
+}
+/* the read alone */
+static void list_read(void)
+{
+    static const uint8_t read[] = { 0x03, 0x01, 0x00, 0x00 };
+    sink += fulkibono_send(&chip, array, security, read, 4, stations.reply, stations.marks, FULKIBONO_STATION_LIST);
+}
+
+static void put_station(size_t slot, uint16_t n)
+{
+    uint8_t *p = array + FULKIBONO_STATION_START + slot * FULKIBONO_STATION_SLOT;
+    memset(p, (int)(n % 251), FULKIBONO_STATION_SLOT);
+    p[0] = 0x53;
+    p[1] = 0x54;
+    p[2] = (uint8_t)(n >> 8);
+    p[3] = (uint8_t)n;
+}
+/* the list as it was before a store: the slot after the half empty, the mark of the half's last slot there */
+static void list_again(void)
+{
+    uint8_t *p = array + FULKIBONO_STATION_START + HALF * FULKIBONO_STATION_SLOT;
+    memset(p, 0xFF, FULKIBONO_STATION_SLOT);
+    p[-FULKIBONO_STATION_SLOT] = 0x53;
+    p[1 - FULKIBONO_STATION_SLOT] = 0x54;
+}
+static uint8_t store_number;
+static void store_ours(void)
+{
+    fulkibono_stored s = fulkibono_store(&chip, array, security, &stations, station, station_data, 1, at_once, 3);
+    store_number = s.number;
+    sink += s.polls;
+    list_again();
+}
+/* 06, the 02, the completion, 05 */
+static void station_write(size_t place, const uint8_t *bytes, size_t n)
+{
+    uint8_t f[34], status, mark;
+    f[0] = 0x02; f[1] = 0x01; f[2] = (uint8_t)(place >> 8); f[3] = (uint8_t)place;
+    memcpy(f + 4, bytes, n);
+    fulkibono_send(&chip, array, security, s06, 1, &status, &mark, 1);
+    fulkibono_send(&chip, array, security, f, 4 + n, &status, &mark, 1);
+    fulkibono_complete(&chip, array, security);
+    fulkibono_send(&chip, array, security, s05, 1, &status, &mark, 1);
+    sink += status;
+}
+static void store_frames(void)
+{
+    static const uint8_t mark[] = { 0x53, 0x54 }, cleared[] = { 0x00, 0x00 };
+    uint8_t record[2 + FULKIBONO_STATION_DATA];
+    record[0] = (uint8_t)(station >> 8);
+    record[1] = (uint8_t)station;
+    memcpy(record + 2, station_data, FULKIBONO_STATION_DATA);
+    station_write(HALF * FULKIBONO_STATION_SLOT + 2, record, sizeof record);
+    station_write(HALF * FULKIBONO_STATION_SLOT, mark, 2);
+    if (station < HALF)
+        station_write((HALF - 1) * FULKIBONO_STATION_SLOT, cleared, 2);
+}
+static void frames_alone(void) { store_frames(); list_again(); }
+static void store_limit(void) { find_ours(); store_frames(); list_again(); }
+/* with a lookup that goes through the whole list, as the clears of a store must */
+static void store_whole_limit(void)
+{
+    sink += fulkibono_find(&chip, array, security, &stations, HALF, station_data);
+    store_frames();
+    list_again();
+}
+
 static void measure(struct row *r)
 {
     double x[3][REPEATS] = { { 0 } }, to_plain[REPEATS], to_limit[REPEATS];
@@ -491,6 +595,35 @@ int main(void)
     struct row w2 = { "  the same (limit: the sum made wide)", image_read_ours, NULL, image_wide_limit, 500, 0, 0 };
     measure(&w2);
 
+    /* the last station of the half, and one that is not there */
+    double find_ratio[2], store_ratio[2];
+    for (int k = 0; k < 2; k++) {
+        static const char *const finds[] = { "station lookup, found at the end (read, pass)", "station lookup, not found (limit: the same)" };
+        static const char *const stores[] = { "station store, 3 writes (lookup, frames)", "station store, 2 writes (limit: the same)" };
+        fresh();
+        memset(array + FULKIBONO_STATION_START, 0xFF, FULKIBONO_STATION_LIST);
+        for (size_t i = 0; i < HALF; i++)
+            put_station(i, (uint16_t)i);
+        station = (uint16_t)(k == 0 ? HALF - 1 : HALF);
+        must(fulkibono_find(&chip, array, security, &stations, station, station_data) == (k == 0 ? 0 : FULKIBONO_NO_STATION), "lookup refused");
+        must(pass(stations.reply, station) == (size_t)(k == 0 ? HALF - 1 : FULKIBONO_STATION_SLOTS), "the pass");
+        struct row f = { finds[k], find_ours, NULL, find_limit, 4000, 0, 0 };
+        measure(&f);
+        find_ratio[k] = f.to_limit;
+        struct row l = { "  its read alone (limit: with the pass)", list_read, NULL, find_limit, 4000, 0, 0 };
+        measure(&l);
+        struct row s = { stores[k], store_ours, NULL, store_limit, 4000, 0, 0 };
+        measure(&s);
+        must(store_number == FULKIBONO_DONE, "store refused");
+        store_ratio[k] = s.to_limit;
+        if (k == 0) {
+            struct row h = { "  the same (limit: a lookup to the list's end)", store_ours, NULL, store_whole_limit, 4000, 0, 0 };
+            measure(&h);
+        }
+        struct row w = { "  its frames alone (limit: with the lookup)", frames_alone, NULL, store_limit, 4000, 0, 0 };
+        measure(&w);
+    }
+
     {
         double first[REPEATS], last[REPEATS], growth[REPEATS];
         for (int i = 0; i < REPEATS; i++) {
@@ -519,6 +652,10 @@ int main(void)
         bar("65,536-byte reply of an 8-byte burst against the limit", long_ratio, 1, 8);
         bar("image written (2,148,374 bytes) against memcpy plus one sum", i1.to_limit, 1, 4);
         bar("image read against the same", i2.to_limit, 1, 4);
+        bar("station lookup, found at the end, against the read and one pass in C", find_ratio[0], 1, 1.5);
+        bar("station lookup, not found, against the same", find_ratio[1], 1, 1.5);
+        bar("station store of 3 writes against a lookup, its frames and completions", store_ratio[0], 1, 1);
+        bar("station store of 2 writes against the same", store_ratio[1], 1, 1);
         bar("mixed events: last tenth against the first", median(growth), 1, 1.1);
     }
     printf("%d missed\n", missed);

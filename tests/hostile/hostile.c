@@ -1,4 +1,4 @@
-/* Hostile arguments at the boundary: lengths off by one, huge frames, random record bytes, any k and m, changed image files, every number. Each lent part stands between two
+/* Hostile arguments at the boundary: lengths off by one, huge frames, random record bytes, any k and m, changed image files, any station list, every number. Each lent part stands between two
  * pages that cannot be touched, now against the one and now against the other, so that a byte read or written outside it stops the program. */
 #define _DEFAULT_SOURCE
 #include "fulkibono.h"
@@ -192,7 +192,7 @@ static uint64_t some_k(void)
 }
 static uint8_t some_m(void) { return (uint8_t)(below(3) ? any() : below(2) ? 0xFF : 0x00); }
 
-static long counts[16];
+static long counts[16], station_counts[19];
 
 static void after(uint8_t number, int frame, const uint8_t *array_before)
 {
@@ -419,6 +419,286 @@ static void image_round(uint8_t *before)
          && memcmp(image, file.lent, FULKIBONO_IMAGE) == 0, "what was read and written again");
 }
 
+/* ---- the station list. What its functions do, a driver can do over frames and completions: each call is compared with that driver, which works on copies of
+ * all that is lent. */
+
+static const uint8_t of_stations[] = { 0, 1, 3, 5, 8, 11, 16, 17, 18 };
+static struct room data, list;
+static uint8_t *twin; /* the driver's array */
+static struct { fulkibono_record chip; uint8_t security[FULKIBONO_SECURITY], data[FULKIBONO_STATION_DATA]; fulkibono_station_buffers b; } driver;
+static const fulkibono_circumstances calm = { 0, 0 };
+
+static uint8_t drive(const uint8_t *bytes, size_t n, uint8_t *to, uint8_t *known, size_t m)
+{
+    return fulkibono_frame(driver.chip.bytes, FULKIBONO_RECORD_SIZE, twin, FULKIBONO_ARRAY, driver.security, FULKIBONO_SECURITY, bytes, n, to, m, known, m, calm);
+}
+static uint8_t drive_read(void)
+{
+    const uint8_t read[] = { 0x03, 0x01, 0x00, 0x00 };
+    return drive(read, 4, driver.b.reply, driver.b.marks, FULKIBONO_STATION_LIST);
+}
+static const uint8_t *slot_of(size_t i) { return driver.b.reply + i * FULKIBONO_STATION_SLOT; }
+static int empty_slot(size_t i)
+{
+    size_t j = 0;
+    while (j < FULKIBONO_STATION_SLOT && slot_of(i)[j] == 0xFF)
+        j++;
+    return j == FULKIBONO_STATION_SLOT;
+}
+static int live_slot(size_t i, uint16_t station)
+{
+    return slot_of(i)[0] == 0x53 && slot_of(i)[1] == 0x54 && two(slot_of(i) + 2) == station;
+}
+static uint8_t drive_find(uint16_t station)
+{
+    uint8_t number = drive_read();
+    for (size_t i = 0; number == 0 && i < FULKIBONO_STATION_SLOTS; i++)
+        if (live_slot(i, station)) {
+            memcpy(driver.data, slot_of(i) + 4, FULKIBONO_STATION_DATA);
+            return 0;
+        }
+    return number ? number : 17;
+}
+static uint8_t drive_write(size_t place, const uint8_t *bytes, size_t n, uint64_t allowance, uint64_t entry, uint64_t *polls)
+{
+    uint8_t wren = 0x06, status = 0x05, answer, known, frame[40] = { 0x02, 0x01, (uint8_t)(place >> 8), (uint8_t)place };
+    uint8_t number = drive(&wren, 1, &answer, &known, 1);
+    memcpy(frame + 4, bytes, n);
+    if (number == 0)
+        number = drive(frame, 4 + n, &answer, &known, 1);
+    if (number)
+        return number;
+    for (uint64_t p = 1; p <= allowance; p++) {
+        if (p == entry)
+            fulkibono_complete(&driver.chip, twin, driver.security);
+        number = drive(&status, 1, &answer, &known, 1);
+        if (number)
+            return number;
+        ++*polls;
+        if (!(answer & 1))
+            return 0;
+    }
+    return 18;
+}
+static fulkibono_stored drive_store(uint16_t station, const uint8_t *bytes, uint64_t allowance, const uint64_t *entries, size_t n)
+{
+    static const uint8_t mark[] = { 0x53, 0x54 }, none[] = { 0, 0 };
+    fulkibono_stored s = { 0, 0 };
+    uint8_t record_bytes[2 + FULKIBONO_STATION_DATA] = { (uint8_t)(station >> 8), (uint8_t)station };
+    size_t i = 0, w = 2;
+    s.number = drive_read();
+    while (i < FULKIBONO_STATION_SLOTS && !empty_slot(i))
+        i++;
+    if (s.number == 0 && i == FULKIBONO_STATION_SLOTS)
+        s.number = 16;
+    memcpy(record_bytes + 2, bytes, FULKIBONO_STATION_DATA);
+    if (s.number == 0)
+        s.number = drive_write(i * FULKIBONO_STATION_SLOT + 2, record_bytes, sizeof record_bytes, allowance, n > 0 ? entries[0] : 0, &s.polls);
+    if (s.number == 0)
+        s.number = drive_write(i * FULKIBONO_STATION_SLOT, mark, 2, allowance, n > 1 ? entries[1] : 0, &s.polls);
+    for (size_t j = 0; s.number == 0 && j < FULKIBONO_STATION_SLOTS; j++)
+        if (live_slot(j, station)) {
+            s.number = drive_write(j * FULKIBONO_STATION_SLOT, none, 2, allowance, n > w ? entries[w] : 0, &s.polls);
+            w++;
+        }
+    return s;
+}
+
+/* what lies in the list: now and then as stations would leave it, else what frames left there */
+static void some_stations(void)
+{
+    uint8_t *l = array.open + array.size - FULKIBONO_ARRAY + FULKIBONO_STATION_START;
+    size_t empty = below(3) ? 8 : below(2); /* of eight slots */
+    if (below(4))
+        return;
+    memset(l, 0xFF, FULKIBONO_STATION_LIST);
+    for (size_t i = 0; i < FULKIBONO_STATION_SLOTS; i++) {
+        uint8_t *p = l + i * FULKIBONO_STATION_SLOT;
+        if (below(8) < empty && i > 20)
+            continue;
+        for (size_t j = 2; j < FULKIBONO_STATION_SLOT; j++)
+            p[j] = (uint8_t)any();
+        p[0] = below(3) ? 0x53 : (uint8_t)any();
+        p[1] = below(3) ? 0x54 : (uint8_t)any();
+        p[2] = (uint8_t)(below(4) == 0);
+        p[3] = (uint8_t)below(below(2) ? 5 : 250);
+    }
+}
+
+/* an open chip: idle, in SQI, at work, or with work aside, in the list or elsewhere */
+static void station_chip(void)
+{
+    static const struct { size_t n; uint8_t bytes[5]; } frames[] = {
+        { 1, { 0x06 } }, { 1, { 0x98 } }, { 1, { 0x06 } }, { 5, { 0x02, 0x10, 0x00, 0x00, 0x00 } }, { 1, { 0xB0 } }, { 4, { 0x20, 0x01, 0x20, 0x00 } }, { 1, { 0x38 } },
+    };
+    static const uint8_t ways[][6] = { /* each ends with FF */
+        { 0, 1, 0xFF }, { 0, 1, 6, 0xFF }, { 0, 1, 2, 3, 0xFF }, { 0, 1, 2, 3, 4, 0xFF }, { 0, 1, 2, 5, 4, 0xFF }, { 0, 0xFF },
+    };
+    const uint8_t *way = ways[below(3) ? 0 : below(sizeof ways / sizeof *ways)];
+    fulkibono_record c;
+    fulkibono_make(&c);
+    for (; *way != 0xFF; way++)
+        must(fulkibono_send(&c, array.open, security.open, frames[*way].bytes, frames[*way].n, NULL, NULL, 0) == 0, "a chip for stations");
+    memcpy(kept, c.bytes, sizeof c.bytes);
+}
+
+static void station_round(uint8_t *before)
+{
+    const uint8_t status = 0x05;
+    uint8_t answer, known, copy[2 * FULKIBONO_RECORD_SIZE];
+    uint16_t station = (uint16_t)(below(4) ? below(5) : any());
+    uint64_t allowance;
+    fulkibono_stored s, t = { 0, 0 };
+    int storing = below(3) != 0, right, taken;
+
+    some_stations();
+    if (below(4))
+        station_chip();
+    some_record();
+    some_memory();
+    memcpy(before, array.lent, array.n);
+    lend(&reply, near(FULKIBONO_STATION_LIST));
+    lend(&marks, near(FULKIBONO_STATION_LIST));
+    lend(&data, near(FULKIBONO_STATION_DATA));
+    lend(&list, 8 * below(9));
+    for (size_t i = 0; i < data.n; i++)
+        data.lent[i] = (uint8_t)any();
+    for (size_t i = 0; i < list.n / 8; i++) {
+        uint64_t e = below(12) ? 1 + below(6) : below(3) ? below(8) : (uint64_t)any() << below(40);
+        memcpy(list.lent + 8 * i, &e, 8);
+    }
+    allowance = below(20) ? 6 + below(9) : below(2) ? below(7) : below(2) ? FULKIBONO_STATION_POLLS_MOST - below(2)
+                : FULKIBONO_STATION_POLLS_MOST + 1 + ((uint64_t)any() << below(48)) * below(2);
+    keep(&reply);
+    keep(&marks);
+    keep(&data);
+    keep(&list);
+
+    /* what the chip itself says of record and memories */
+    memcpy(copy, record.lent, record.n);
+    taken = fulkibono_frame(copy, record.n, array.lent, array.n, security.lent, security.n, &status, 1, &answer, 1, &known, 1, calm) != 1;
+    right = reply.n == FULKIBONO_STATION_LIST && marks.n == FULKIBONO_STATION_LIST && data.n == FULKIBONO_STATION_DATA
+            && !(storing && allowance > FULKIBONO_STATION_POLLS_MOST);
+    if (right && taken) {
+        memcpy(driver.chip.bytes, record.lent, FULKIBONO_RECORD_SIZE);
+        memcpy(twin, array.lent, FULKIBONO_ARRAY);
+        memcpy(driver.security, security.lent, FULKIBONO_SECURITY);
+        memcpy(driver.b.reply, reply.lent, FULKIBONO_STATION_LIST);
+        memcpy(driver.b.marks, marks.lent, FULKIBONO_STATION_LIST);
+        memcpy(driver.data, data.lent, FULKIBONO_STATION_DATA);
+        if (storing)
+            t = drive_store(station, data.lent, allowance, (const uint64_t *)(const void *)list.lent, list.n / 8);
+        else
+            t.number = drive_find(station);
+    }
+
+    if (storing) {
+        s = fulkibono_station_store(record.lent, record.n, array.lent, array.n, security.lent, security.n, reply.lent, reply.n, marks.lent, marks.n,
+                                    station, data.lent, data.n, allowance, (const uint64_t *)(const void *)list.lent, list.n / 8);
+    } else {
+        s.polls = 0;
+        s.number = fulkibono_station_find(record.lent, record.n, array.lent, array.n, security.lent, security.n, reply.lent, reply.n, marks.lent, marks.n,
+                                          station, data.lent, data.n);
+    }
+    must(s.number <= 18, "a station's number above 18");
+    station_counts[s.number]++;
+    must((s.number == 1) == !(right && taken), "refusal 1 of a station");
+    must(same(&list), "the completions were changed");
+    if (s.number == 1) {
+        must(s.polls == 0 && same(&record) && same(&security) && same(&reply) && same(&marks) && same(&data) && memcmp(before, array.lent, array.n) == 0,
+             "refusal 1 of a station changed something");
+        return;
+    }
+    must(s.number == t.number && s.polls == t.polls, "the number and the polls of a station");
+    must(memcmp(driver.chip.bytes, record.lent, FULKIBONO_RECORD_SIZE) == 0, "the record after a station");
+    must(memcmp(twin, array.lent, FULKIBONO_ARRAY) == 0 && memcmp(driver.security, security.lent, FULKIBONO_SECURITY) == 0, "the memories after a station");
+    must(memcmp(driver.b.reply, reply.lent, FULKIBONO_STATION_LIST) == 0 && memcmp(driver.b.marks, marks.lent, FULKIBONO_STATION_LIST) == 0,
+         "the buffers after a station");
+    must(memcmp(driver.data, data.lent, FULKIBONO_STATION_DATA) == 0 && (s.number == 0 || same(&data)), "the data after a station");
+    must(same(&security), "a station changed the Security ID");
+    must(memcmp(before, array.lent, FULKIBONO_STATION_START) == 0
+         && memcmp(before + FULKIBONO_STATION_START + FULKIBONO_STATION_LIST, array.lent + FULKIBONO_STATION_START + FULKIBONO_STATION_LIST,
+                   FULKIBONO_ARRAY - FULKIBONO_STATION_START - FULKIBONO_STATION_LIST) == 0, "a station changed the array outside the list");
+    must(storing || memcmp(before, array.lent, FULKIBONO_ARRAY) == 0, "a find changed the array");
+    memcpy(kept, record.lent, FULKIBONO_RECORD_SIZE);
+    taken_again();
+}
+
+/* each length one less and one more, and none with NULL; every one of them is told before anything is sent */
+static void station_lengths(void)
+{
+    const size_t right[7] = { FULKIBONO_RECORD_SIZE, FULKIBONO_ARRAY, FULKIBONO_SECURITY, FULKIBONO_STATION_LIST, FULKIBONO_STATION_LIST, FULKIBONO_STATION_DATA, 8 };
+    const uint64_t allowances[] = { FULKIBONO_STATION_POLLS_MOST, FULKIBONO_STATION_POLLS_MOST + 1, (uint64_t)1 << 32, UINT64_MAX };
+    const uint8_t wren = 0x06, open_all = 0x98;
+    fulkibono_record c;
+    fulkibono_make(&c);
+    memset(array.open, 0xFF, array.size);
+    must(fulkibono_send(&c, array.open, security.open, &wren, 1, NULL, NULL, 0) == 0 && fulkibono_send(&c, array.open, security.open, &open_all, 1, NULL, NULL, 0) == 0,
+         "an open chip");
+    for (int part = 0; part < 7; part++)
+        for (int off = -1; off < 3; off++) { /* one less, right, one more, none */
+            struct room *rooms[7] = { &record, &array, &security, &reply, &marks, &data, &list };
+            const uint64_t *entries;
+            uint8_t *at[6];
+            for (int i = 0; i < 7; i++) {
+                lend(rooms[i], i == 6 ? 8 : i == part ? off == 2 ? 0 : right[i] + (size_t)off : right[i]);
+                memset(rooms[i]->lent, i == 1 ? 0xFF : 0x01, rooms[i]->n);
+                if (i == 0)
+                    memcpy(record.lent, c.bytes, record.n < sizeof c.bytes ? record.n : sizeof c.bytes);
+                keep(rooms[i]);
+                if (i < 6)
+                    at[i] = rooms[i]->n ? rooms[i]->lent : NULL;
+            }
+            entries = part == 6 && off == 2 ? NULL : (const uint64_t *)(const void *)list.lent;
+            for (int call = 0; call < 2; call++) {
+                uint8_t number = call ? fulkibono_station_find(at[0], record.n, at[1], array.n, at[2], security.n, at[3], reply.n, at[4], marks.n, 1, at[5], data.n)
+                                      : fulkibono_station_store(at[0], record.n, at[1], array.n, at[2], security.n, at[3], reply.n, at[4], marks.n, 1, at[5], data.n, 3,
+                                                                entries, entries ? 1 : 0).number;
+                must(number == (off == 0 || part == 6 ? call ? 5 : 18 : 1), "a length that is not right");
+                for (int i = 0; number == 1 && i < 7; i++)
+                    must(same(rooms[i]), "a wrong length changed something");
+            }
+        }
+    /* allowances: the most, and more */
+    for (int i = 0; i < 4; i++) {
+        lend(&record, FULKIBONO_RECORD_SIZE);
+        memcpy(record.lent, c.bytes, sizeof c.bytes);
+        keep(&record);
+        lend(&array, FULKIBONO_ARRAY);
+        memset(array.lent, 0xFF, array.n);
+        lend(&security, FULKIBONO_SECURITY);
+        fulkibono_stored s = fulkibono_station_store(record.lent, record.n, array.lent, array.n, security.lent, security.n, reply.lent, reply.n, marks.lent, marks.n, 1,
+                                                     data.lent, data.n, allowances[i], NULL, 0);
+        must(i ? s.number == 1 && s.polls == 0 && same(&record) : s.number == 18 && s.polls == FULKIBONO_STATION_POLLS_MOST, "an allowance");
+    }
+    must(fulkibono_station_find(NULL, 0, NULL, 0, NULL, 0, NULL, 0, NULL, 0, 1, NULL, 0) == 1, "NULL find");
+    must(fulkibono_station_store(NULL, 0, NULL, 0, NULL, 0, NULL, 0, NULL, 0, 1, NULL, 0, 1, NULL, 0).number == 1, "NULL store");
+    /* parts that touch do not overlap: all of them in a row */
+    {
+        const size_t size[] = { FULKIBONO_RECORD_SIZE, FULKIBONO_ARRAY, FULKIBONO_SECURITY, FULKIBONO_STATION_LIST, FULKIBONO_STATION_LIST, FULKIBONO_STATION_DATA };
+        uint8_t *row, *p[6], entries[16] = { 1, 0, 0, 0, 0, 0, 0, 0, 1 };
+        uint64_t both[2];
+        size_t all = 0;
+        memcpy(both, entries, 16);
+        for (int i = 0; i < 6; i++)
+            all += size[i];
+        row = malloc(all);
+        must(row != NULL, "no memory");
+        memset(row, 0xFF, all);
+        for (int i = 0; i < 6; i++)
+            p[i] = i ? p[i - 1] + size[i - 1] : row;
+        memcpy(p[0], c.bytes, sizeof c.bytes);
+        memset(p[5], 0x5A, size[5]);
+        must(fulkibono_station_store(p[0], size[0], p[1], size[1], p[2], size[2], p[3], size[3], p[4], size[4], 1, p[5], size[5], 1, both, 2).number == 0, "parts in a row");
+        memset(p[5], 0, size[5]);
+        must(fulkibono_station_find(p[0], size[0], p[1], size[1], p[2], size[2], p[3], size[3], p[4], size[4], 1, p[5], size[5]) == 0 && p[5][0] == 0x5A && p[5][27] == 0x5A,
+             "parts in a row");
+        free(row);
+    }
+    memset(array.open, 0xFF, array.size);
+    memset(security.open, 0xFF, security.size);
+}
+
 int main(int argc, char **argv)
 {
     long rounds = argc > 1 ? atol(argv[1]) : 20000;
@@ -431,6 +711,10 @@ int main(int argc, char **argv)
     marks = room_of(MOST + 1);
     text = room_of(100);
     file = room_of(FULKIBONO_IMAGE + 1);
+    data = room_of(FULKIBONO_STATION_DATA + 1);
+    list = room_of(100);
+    twin = malloc(FULKIBONO_ARRAY);
+    must(twin != NULL, "no memory");
     image = malloc(FULKIBONO_IMAGE);
     must(image != NULL, "no memory");
     before = malloc(array.size);
@@ -457,7 +741,7 @@ int main(int argc, char **argv)
             lend(&text, n);
             memset(text.lent, 0xAB, n);
             size_t whole = fulkibono_meaning((uint8_t)number, text.lent, n);
-            must((number <= 15) == (whole > 0) && whole <= FULKIBONO_MEANING_MOST, "a text's length");
+            must((number > 15 || whole > 0) && (number <= 18 || whole == 0) && whole <= FULKIBONO_MEANING_MOST, "a text's length");
             for (size_t i = 0; i < n; i++)
                 must(i < whole ? text.lent[i] >= 0x20 && text.lent[i] < 0x7F : text.lent[i] == 0xAB, "a text's bytes");
         }
@@ -485,6 +769,7 @@ int main(int argc, char **argv)
              "NULL reply");
     }
 
+    station_lengths();
     memcpy(before, array.open + array.size - FULKIBONO_ARRAY - 1, FULKIBONO_ARRAY + 1);
     for (long i = 0; i < rounds; i++) {
         uint8_t number;
@@ -493,6 +778,8 @@ int main(int argc, char **argv)
             image_round(before);
         else if (i % 10 == 0)
             any_work();
+        if (i % 10 == 5)
+            station_round(before);
         some_record();
         some_memory();
         memcpy(before, array.lent, array.n);
@@ -539,14 +826,20 @@ int main(int argc, char **argv)
     }
     for (int i = 0; i <= 8; i++)
         must(torn_work[i] > 0 || rounds < 20000, "a kind of work was never stopped");
+    for (size_t i = 0; i < sizeof of_stations; i++)
+        must(station_counts[of_stations[i]] > 0 || rounds < 20000, "a number of the station list was never given");
     printf("hostile: %ld rounds, no finding; numbers given:", rounds);
     for (int i = 0; i <= 15; i++)
         printf(" %d:%ld", i, counts[i]);
+    printf("; of stations:");
+    for (size_t i = 0; i < sizeof of_stations; i++)
+        printf(" %d:%ld", of_stations[i], station_counts[of_stations[i]]);
     printf("; stopped by kind:");
     for (int i = 0; i <= 8; i++)
         printf(" %d:%ld", i, torn_work[i]);
     printf("\n");
     free(before);
     free(image);
+    free(twin);
     return 0;
 }

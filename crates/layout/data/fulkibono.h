@@ -1,13 +1,14 @@
 /* Fulkibono: the SST26WF016BA flash chip, and the old part SST26WF016B, for firmware benches.
  *
- * Build the library with `rt staticlib bench`, and link target/staticlib/libbench.a, behind the objects that call it. It is code for
- * x86-64, and needs at most memcpy, memmove and memset of the C library. No other header belongs to it.
+ * Build the library with `rt staticlib bench`, and link target/staticlib/libbench.a, behind the objects that call it. The two functions of the
+ * station list, fulkibono_station_.., are an archive of their own: `rt staticlib station_bench`, target/staticlib/libstation_bench.a; who calls them
+ * links both, in either order. Both are code for x86-64, and need at most memcpy, memmove and memset of the C library. No other header belongs to them.
  *
  * The caller lends all memory: the library has no heap and no data of its own, keeps no pointer after a call, and two chips can be
  * used by two threads at once. No two lent parts of one call may overlap.
  *
- * Each function is proved to do exactly what crates/bench/specs/Boundary.antt and Images.antt say, for every input of every length: there is
- * no undefined case on the library's side. The caller's side is C's usual one: a pointer must point to as many bytes as its length says.
+ * Each function is proved to do exactly what crates/bench/specs/Boundary.antt and Images.antt, and of the station list
+ * crates/station_bench/specs/Boundary.antt, say, for every input of every length: there is no undefined case on the library's side. The caller's side is C's usual one: a pointer must point to as many bytes as its length says.
  *
  *     static uint8_t array[FULKIBONO_ARRAY], security[FULKIBONO_SECURITY];
  *     fulkibono_record chip;
@@ -33,8 +34,9 @@ extern "C" {
 /* Rises with what this header declares. 1 had records of 297 bytes; 2 had no burst reads, and its records are the same chips here; 3 had no
  * image files (fulkibono_image_write, fulkibono_image_read, numbers 14 and 15), and its records are the same; 4 had the old part alone: its records
  * and its files are old parts here, and its fulkibono_new is fulkibono_new_old; 5 had no k and m: its records are the same, its fulkibono_frame and
- * fulkibono_power_cut took none, and a reset left its target unchanged (fulkibono_untorn and fulkibono_clean_m give what they did). */
-#define FULKIBONO_VERSION 6
+ * fulkibono_power_cut took none, and a reset left its target unchanged (fulkibono_untorn and fulkibono_clean_m give what they did); 6 had no station
+ * list (fulkibono_station_find, fulkibono_station_store, numbers 16 to 18): its records, its files and all its functions are the same. */
+#define FULKIBONO_VERSION 7
 
 /* ---- sizes, in bytes */
 
@@ -45,7 +47,17 @@ extern "C" {
 #define FULKIBONO_MEANING_MOST 64    /* room for every text of fulkibono_meaning */
 #define FULKIBONO_IMAGE 2148374      /* an image file: a whole idle chip */
 
-/* ---- the numbers that each call gives back; if several apply, the lowest is given */
+/* ---- the station list, in the array */
+
+#define FULKIBONO_STATION_START 65536      /* its first place, 010000; its last is 01FFFF */
+#define FULKIBONO_STATION_LIST 65536       /* its bytes, all that one read shows */
+#define FULKIBONO_STATION_SLOTS 2048       /* its slots */
+#define FULKIBONO_STATION_SLOT 32          /* the bytes of a slot: mark 53 54, station number (2, high byte first), data */
+#define FULKIBONO_STATION_DATA 28          /* the data's bytes */
+#define FULKIBONO_STATION_POLLS_MOST 65535 /* the largest allowance, in polls a write */
+#define FULKIBONO_STATION_WRITES_MOST 2049 /* the most writes of a store: number and data, the mark, 2,047 marks cleared */
+
+/* ---- the numbers that each call gives back; if several apply, the lowest is given (of the station list: in the order that stands there) */
 
 enum fulkibono_number {
     FULKIBONO_DONE = 0,          /* done */
@@ -63,13 +75,19 @@ enum fulkibono_number {
     FULKIBONO_NOTHING_RUNS = 12, /* completion with nothing running */
     FULKIBONO_NO_SUCH_BURST = 13, /* a C0 byte above 03 */
     FULKIBONO_AT_WORK = 14,      /* writing an image: a busy or suspended chip */
-    FULKIBONO_WRONG_FILE = 15    /* reading one: a wrong mark, sum, page number, code or register that breaks the well-formed rules */
+    FULKIBONO_WRONG_FILE = 15,   /* reading one: a wrong mark, sum, page number, code or register that breaks the well-formed rules */
+    FULKIBONO_LIST_FULL = 16,    /* storing a station: no empty slot */
+    FULKIBONO_NO_STATION = 17,   /* finding one: no live slot of that number */
+    FULKIBONO_POLLS_USED_UP = 18 /* storing one: the write still runs after the last poll that was allowed */
 };
 
 /* What each refusal leaves:
  *     1, 12, 14, 15  nothing at all changes
  *     2              the reply is filled with FF and the marks with 0; nothing else changes
  *     3 to 11, 13    the same, and the reset enable is used up: the record's FULKIBONO_FLAG_RESET_ENABLE is 0
+ *     16, 17         the reset enable is used up, and reply and marks hold the list; nothing else changes, nor the data of fulkibono_station_find
+ *     18             the same of enable, reply and marks; the writes before this one are done, and this one runs: the chip is busy, and WEL is 1
+ * What 8 and 11 leave of a store, which has sent a read and 06 by then, stands with the station list.
  * A byte that does not change may still be stored again, with the value it has. So all lent memory that is not const
  * must be writable, and no other thread may look at it during a call, also where the call is refused.
  */
@@ -184,8 +202,50 @@ uint8_t fulkibono_image_read(const uint8_t *file, size_t file_len, uint8_t *reco
                              uint8_t *security, size_t security_len);
 
 /* What a number means, in ASCII, with no zero at the end: as many bytes as fit are written, and the text's whole length is given back.
- * A number above 15 has no text: 0, and nothing is written. */
+ * A number above 18 has no text: 0, and nothing is written. */
 size_t fulkibono_meaning(uint8_t number, uint8_t *text, size_t text_len);
+
+/* ---- the station list: libstation_bench.a
+ *
+ * 2,048 slots of 32 bytes from 010000 on. A slot is empty if all its bytes are FF, live if its mark is 53 54, dead otherwise. The list is used through
+ * frames alone, 03, 06, 02 and 05 in SPI, and completions: what the two functions do, a driver could do over fulkibono_frame and fulkibono_completion.
+ *
+ * Both begin with one read (03) of the whole list into `reply` and `marks`, which have FULKIBONO_STATION_LIST bytes each; all that follows goes by what
+ * it showed. `data` has FULKIBONO_STATION_DATA bytes. Refusals, in this order:
+ *     1        the bytes are no record's code; or a length of reply, marks or data, or an allowance, that is not as said here: nothing is sent and
+ *              nothing changes. Then the chip's own 1 of the read (record, array, Security ID), which leaves the same
+ *     3, 5     the chip refuses the read: it is in SQI; it is busy. As after a frame: reply FF, marks 0, the reset enable used up
+ *     16       store: the read shows no empty slot, also where a live slot has the number already
+ *     17       find: the read shows no live slot of the number
+ *     8, 11    store: the chip refuses the first 02: a page program is suspended; the block at 010000 is write-locked, as on a new chip and after every
+ *              power-up, until 06 and 98. Nothing is written; reply and marks hold the list, the reset enable is used up, WEL is 1
+ *     18       store: a write's completion did not come within the allowance
+ * What an erase that is suspended hides of the list reads 00 there: such slots are dead to both functions. */
+
+/* The data of the first live slot of a station's number, into `data`. Gives 0, 1, 3, 5 or 17; only 0 changes `data`. */
+uint8_t fulkibono_station_find(uint8_t *record, size_t record_len, uint8_t *array, size_t array_len, uint8_t *security, size_t security_len,
+                               uint8_t *reply, size_t reply_len, uint8_t *marks, size_t marks_len, uint16_t station, uint8_t *data, size_t data_len);
+
+/* What a store gives back: its number, and how many polls it made. */
+typedef struct fulkibono_stored {
+    uint64_t polls;
+    uint8_t number;
+} fulkibono_stored;
+
+/* The data of a station, onto the list. Gives 0, 1, 3, 5, 8, 11, 16 or 18. Its writes, each an 06, an 02 and polls (05):
+ *     number and data into the first empty slot; then its mark; then 00 00 over the mark of each other live slot of the number, lowest first
+ * After each write it polls until BUSY is 0, at most `allowance` times. `list` says of each write in turn before which of its polls, counted from 1, its
+ * completion arrives; 0, or no entry where the list is shorter: never. `list_len` counts entries, which are 8 bytes each. `list` and `data` are only read.
+ * `polls` is the sum, over the writes whose 02 was done, of the poll that read BUSY 0, or of the allowance where none did; 0 unless the number is 0 or 18.
+ *
+ * After 0 the station is found with these data, every other station as before; WEL is 0 and nothing runs. Nothing outside the list changes in the
+ * array, and in it only the slots that are named above; the Security ID never.
+ * After 18 the write runs: fulkibono_completion ends it, and then the same store again is right, in a slot more. Until it ends the next call gets 5.
+ * A power cut at any moment of a store leaves every other station as it was found, and this one as before or with the new data, where nothing ran or was
+ * suspended at its start and at most one live slot had its number; what else can come of it, and what to do then: docs/STATIONS.md. */
+fulkibono_stored fulkibono_station_store(uint8_t *record, size_t record_len, uint8_t *array, size_t array_len, uint8_t *security, size_t security_len,
+                                         uint8_t *reply, size_t reply_len, uint8_t *marks, size_t marks_len, uint16_t station,
+                                         const uint8_t *data, size_t data_len, uint64_t allowance, const uint64_t *list, size_t list_len);
 
 /* ---- the same with the sizes filled in
  *
@@ -261,6 +321,41 @@ FULKIBONO_INLINE uint8_t fulkibono_write_image(const fulkibono_record *chip, con
 FULKIBONO_INLINE uint8_t fulkibono_read_image(const uint8_t *file, fulkibono_record *chip, uint8_t *array, uint8_t *security)
 {
     return fulkibono_image_read(file, FULKIBONO_IMAGE, chip->bytes, FULKIBONO_RECORD_SIZE, array, FULKIBONO_ARRAY, security, FULKIBONO_SECURITY);
+}
+
+/* What the read of the station list needs. 128 KB: better static than on a stack. One will do for all chips, one call at a time. */
+typedef struct fulkibono_station_buffers {
+    uint8_t reply[FULKIBONO_STATION_LIST];
+    uint8_t marks[FULKIBONO_STATION_LIST];
+} fulkibono_station_buffers;
+
+/* `data` has FULKIBONO_STATION_DATA bytes. */
+FULKIBONO_INLINE uint8_t fulkibono_find(fulkibono_record *chip, uint8_t *array, uint8_t *security, fulkibono_station_buffers *buffers,
+                                        uint16_t station, uint8_t *data)
+{
+    return fulkibono_station_find(chip->bytes, FULKIBONO_RECORD_SIZE, array, FULKIBONO_ARRAY, security, FULKIBONO_SECURITY, buffers->reply,
+                                  FULKIBONO_STATION_LIST, buffers->marks, FULKIBONO_STATION_LIST, station, data, FULKIBONO_STATION_DATA);
+}
+
+/* The same of `data`; `list` has list_len entries. */
+FULKIBONO_INLINE fulkibono_stored fulkibono_store(fulkibono_record *chip, uint8_t *array, uint8_t *security, fulkibono_station_buffers *buffers,
+                                                  uint16_t station, const uint8_t *data, uint64_t allowance, const uint64_t *list, size_t list_len)
+{
+    uint64_t none = 0;
+    return fulkibono_station_store(chip->bytes, FULKIBONO_RECORD_SIZE, array, FULKIBONO_ARRAY, security, FULKIBONO_SECURITY, buffers->reply,
+                                   FULKIBONO_STATION_LIST, buffers->marks, FULKIBONO_STATION_LIST, station, data, FULKIBONO_STATION_DATA, allowance,
+                                   list_len ? list : &none, list_len);
+}
+
+/* The same where every write completes before its first poll: 18 does not come. Its list takes 16 KB of the stack. */
+FULKIBONO_INLINE fulkibono_stored fulkibono_store_at_once(fulkibono_record *chip, uint8_t *array, uint8_t *security,
+                                                          fulkibono_station_buffers *buffers, uint16_t station, const uint8_t *data)
+{
+    uint64_t list[FULKIBONO_STATION_WRITES_MOST];
+    size_t i;
+    for (i = 0; i < FULKIBONO_STATION_WRITES_MOST; i++)
+        list[i] = 1;
+    return fulkibono_store(chip, array, security, buffers, station, data, 1, list, FULKIBONO_STATION_WRITES_MOST);
 }
 
 /* The text with a zero behind it, in room for FULKIBONO_MEANING_MOST + 1 bytes. */

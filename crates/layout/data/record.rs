@@ -1,4 +1,5 @@
-//! The bytes of a chip record, as `include/fulkibono.h` names them: places, flags, kinds of work. Numbers stand low byte first. And the length of an image file.
+//! The bytes of a chip record, as `include/fulkibono.h` names them: places, flags, kinds of work. Numbers stand low byte first. The length of an image file. The
+//! station list: its first place and its bytes, its slots, the bytes of a slot and of its data, the largest allowance, the most writes of a store.
 
 pub const RECORD_SIZE: usize = 320;
 pub const IMAGE: usize = 2148374;
@@ -32,3 +33,11 @@ pub const KIND_SECURITY_PROGRAM: u8 = 5;
 pub const KIND_SECURITY_LOCK: u8 = 6;
 pub const KIND_CONFIGURATION: u8 = 7;
 pub const KIND_PERMANENT_BITS: u8 = 8;
+
+pub const STATION_START: usize = 65536;
+pub const STATION_LIST: usize = 65536;
+pub const STATION_SLOTS: usize = 2048;
+pub const STATION_SLOT: usize = 32;
+pub const STATION_DATA: usize = 28;
+pub const STATION_POLLS_MOST: u64 = 65535;
+pub const STATION_WRITES_MOST: usize = 2049;

@@ -1,2 +1,2 @@
--- The numbers of the record's layout that C and Rust have names for.
+-- The numbers of the record's layout and of the station list that C and Rust have names for.
 pub mod Numbers

@@ -1,4 +1,4 @@
-// Compares the record's numbers in the C header and in the Rust wrapper with record_code's layout: each line that they must have is
+// Compares the record's numbers and the station list's in the C header and in the Rust wrapper with their definitions: each line that they must have is
 // looked for. Both files lie in data/, all that a program of the gate can read; include/ and examples/rust have links to them.
 mod numbers;
 mod texts;
@@ -67,7 +67,8 @@ fn names_wrong(text: &[u8], rust: bool) -> bool {
     let places = names(text, rust, b"PLACE_");
     let kinds = names(text, rust, b"KIND_");
     let flags = names(text, rust, b"FLAG_");
-    !numbers::all(places, kinds, flags)
+    let stations = names(text, rust, b"STATION_");
+    !numbers::all(places, kinds, flags, stations)
 }
 
 fn compared(name: &[u8], rust: bool) {
@@ -79,17 +80,17 @@ fn compared(name: &[u8], rust: bool) {
     let others = names_wrong(&text[..n], rust);
     io::write_all(1, name);
     if lines {
-        io::write_all(
-            1,
-            b" lacks the lines above, which record_code's layout has\n",
-        );
+        io::write_all(1, b" lacks the lines above, which the definitions have\n");
         return;
     }
     if others {
-        io::write_all(1, b" has more names than record_code's layout\n");
+        io::write_all(1, b" has more names than the definitions\n");
         return;
     }
-    io::write_all(1, b" has the numbers of record_code's layout\n");
+    io::write_all(
+        1,
+        b" has the numbers of record_code's layout and of the station list\n",
+    );
 }
 
 fn main() {

@@ -1,4 +1,4 @@
-// The record's numbers, an image file's length, and the names that C and Rust have for them.
+// The record's numbers, an image file's length, the station list's sizes, and the names that C and Rust have for them.
 use writing::Row;
 ghost use mathlib.Core.Path.{_≡_};
 ghost use lib.ListN.{getD};
@@ -10,7 +10,9 @@ const KINDS: usize = 9;
 
 const FLAGS: usize = 8;
 
-pub const COUNT: usize = 29;
+const STATIONS: usize = 7;
+
+pub const COUNT: usize = 36;
 
 const NUMBERS: [usize; COUNT] = [
     320,
@@ -42,6 +44,13 @@ const NUMBERS: [usize; COUNT] = [
     64,
     128,
     2148374,
+    65536,
+    65536,
+    2048,
+    32,
+    28,
+    65535,
+    2049,
 ];
 
 // Those of the layout, in the order of specs/Numbers.antt.
@@ -54,9 +63,9 @@ pub fn number(i: usize) -> usize
     0
 }
 
-// There is no other name of a place, a kind or a flag.
-pub fn all(places: usize, kinds: usize, flags: usize) -> bool {
-    (places == PLACES) & (kinds == KINDS) & (flags == FLAGS)
+// There is no other name of a place, a kind, a flag or a station's size.
+pub fn all(places: usize, kinds: usize, flags: usize, stations: usize) -> bool {
+    (places == PLACES) & (kinds == KINDS) & (flags == FLAGS) & (stations == STATIONS)
 }
 
 fn place_named(r: Row, i: usize) -> Row {
@@ -103,6 +112,18 @@ fn flag_named(r: Row, i: usize) -> Row {
     }
 }
 
+fn station_named(r: Row, i: usize) -> Row {
+    match i {
+        29 => writing::text(r, b"STATION_START"),
+        30 => writing::text(r, b"STATION_LIST"),
+        31 => writing::text(r, b"STATION_SLOTS"),
+        32 => writing::text(r, b"STATION_SLOT"),
+        33 => writing::text(r, b"STATION_DATA"),
+        34 => writing::text(r, b"STATION_POLLS_MOST"),
+        _ => writing::text(r, b"STATION_WRITES_MOST"),
+    }
+}
+
 pub fn named(r: Row, i: usize) -> Row {
     if i < 11 {
         return place_named(r, i);
@@ -110,12 +131,18 @@ pub fn named(r: Row, i: usize) -> Row {
     if i < 20 {
         return kind_named(r, i);
     }
-    flag_named(r, i)
+    if i < 29 {
+        return flag_named(r, i);
+    }
+    station_named(r, i)
 }
 
-// In Rust a place or a length is a usize, a kind or a flag one byte.
+// In Rust a place or a length is a usize, an allowance a u64, a kind or a flag one byte.
 pub fn typed(r: Row, i: usize) -> Row {
-    if (i < 11) | (i == 28) {
+    if i == 34 {
+        return writing::text(r, b": u64 = ");
+    }
+    if (i < 11) | (i > 27) {
         return writing::text(r, b": usize = ");
     }
     writing::text(r, b": u8 = ")

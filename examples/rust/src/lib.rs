@@ -71,10 +71,49 @@ mod library {
             security_len: usize,
         ) -> u8;
         pub fn fulkibono_meaning(number: u8, text: *mut u8, text_len: usize) -> usize;
+        pub fn fulkibono_station_find(
+            record: *mut u8,
+            record_len: usize,
+            array: *mut u8,
+            array_len: usize,
+            security: *mut u8,
+            security_len: usize,
+            reply: *mut u8,
+            reply_len: usize,
+            marks: *mut u8,
+            marks_len: usize,
+            station: u16,
+            data: *mut u8,
+            data_len: usize,
+        ) -> u8;
+        pub fn fulkibono_station_store(
+            record: *mut u8,
+            record_len: usize,
+            array: *mut u8,
+            array_len: usize,
+            security: *mut u8,
+            security_len: usize,
+            reply: *mut u8,
+            reply_len: usize,
+            marks: *mut u8,
+            marks_len: usize,
+            station: u16,
+            data: *const u8,
+            data_len: usize,
+            allowance: u64,
+            list: *const u64,
+            list_len: usize,
+        ) -> Stored;
+    }
+
+    #[repr(C)]
+    pub struct Stored {
+        pub polls: u64,
+        pub number: u8,
     }
 }
 
-/// Why an event or an image was refused: a number from 1 to 15.
+/// Why an event, an image or a station was refused: a number from 1 to 18.
 #[repr(transparent)]
 #[derive(Clone, Copy, PartialEq, Eq, Debug)]
 pub struct Refusal(NonZeroU8);
@@ -189,6 +228,62 @@ pub struct Circumstances {
     pub k: u64,
     pub m: u8,
 }
+
+/// What the read of the station list needs, 128 KB: the list as it was read, and the marks of its bytes.
+pub struct StationBuffers {
+    reply: Box<[u8; STATION_LIST]>,
+    marks: Box<[u8; STATION_LIST]>,
+}
+
+impl Default for StationBuffers {
+    fn default() -> Self {
+        Self::new()
+    }
+}
+
+impl StationBuffers {
+    pub fn new() -> StationBuffers {
+        let zeros = || vec![0; STATION_LIST].into_boxed_slice().try_into().expect("the list's size");
+        StationBuffers { reply: zeros(), marks: zeros() }
+    }
+
+    /// The list as the last call read it: FF where the chip refused the read. What that call wrote is not in it.
+    pub fn list(&self) -> &[u8; STATION_LIST] {
+        &self.reply
+    }
+
+    /// Its marks: 1 for a byte that is known, 0 for one that is not.
+    pub fn marks(&self) -> &[u8; STATION_LIST] {
+        &self.marks
+    }
+}
+
+/// When the writes of a store end, each by a completion before one of its polls.
+#[derive(Clone, Copy, PartialEq, Eq, Debug)]
+pub enum Completions<'a> {
+    /// Each before its first poll: a store is never refused with 18.
+    AtOnce,
+    /// At most so many polls a write, `STATION_POLLS_MOST` at most; and of each write in turn, before which poll, counted from 1, its completion arrives. 0, or
+    /// no entry: never.
+    Before { allowance: u64, polls: &'a [u64] },
+}
+
+static AT_ONCE: [u64; STATION_WRITES_MOST] = [1; STATION_WRITES_MOST];
+
+/// A store that was not done: why, and the polls that it made.
+#[derive(Clone, Copy, PartialEq, Eq, Debug)]
+pub struct NotStored {
+    pub why: Refusal,
+    pub polls: u64,
+}
+
+impl fmt::Display for NotStored {
+    fn fmt(&self, f: &mut fmt::Formatter<'_>) -> fmt::Result {
+        self.why.fmt(f)
+    }
+}
+
+impl std::error::Error for NotStored {}
 
 /// A chip record. Its bytes can be kept and read back; bytes that are no record's are refused by every event, with number 1.
 #[repr(transparent)]
@@ -398,5 +493,85 @@ impl Record {
         let mut chip = Record([0; RECORD_SIZE]);
         chip.read_image(file, array, security)?;
         Ok(chip)
+    }
+
+    /// The data of a station: those of the first live slot of its number. Refused with 17 where there is none; with 5 or 3, as a read, where the chip is
+    /// busy or in SQI; with 1 where the record is not well-formed.
+    pub fn station_find(
+        &mut self,
+        array: &mut Array,
+        security: &mut Security,
+        buffers: &mut StationBuffers,
+        station: u16,
+    ) -> Result<[u8; STATION_DATA], Refusal> {
+        let mut data = [0; STATION_DATA];
+        // Safety: each part is lent with its own length, and the references keep them apart.
+        answer(unsafe {
+            library::fulkibono_station_find(
+                self.0.as_mut_ptr(),
+                RECORD_SIZE,
+                array.0.as_mut_ptr(),
+                ARRAY,
+                security.0.as_mut_ptr(),
+                SECURITY,
+                buffers.reply.as_mut_ptr(),
+                STATION_LIST,
+                buffers.marks.as_mut_ptr(),
+                STATION_LIST,
+                station,
+                data.as_mut_ptr(),
+                STATION_DATA,
+            )
+        })?;
+        Ok(data)
+    }
+
+    /// The data of a station, onto the list: number and data into the first empty slot, then its mark, then 00 00 over the mark of each other live slot of the
+    /// number, lowest first, each write with its polls. Gives the polls made.
+    ///
+    /// Refused with 1 where the record is not well-formed or the allowance is above `STATION_POLLS_MOST`: nothing is sent. With 5 or 3, as a read; with 16 where
+    /// no slot is empty; with 8 beside a suspended page program and 11 where the list is write-locked, as on a new chip and after every power-up (06, 98 open it).
+    /// With 18 where a completion did not come within the allowance: that write still runs, and the writes before it are done. To go on, let it end
+    /// (`completion`) and store again.
+    ///
+    /// What a power cut in the middle leaves: `docs/STATIONS.md`.
+    pub fn station_store(
+        &mut self,
+        array: &mut Array,
+        security: &mut Security,
+        buffers: &mut StationBuffers,
+        station: u16,
+        data: &[u8; STATION_DATA],
+        completions: Completions<'_>,
+    ) -> Result<u64, NotStored> {
+        let (allowance, list) = match completions {
+            Completions::AtOnce => (1, &AT_ONCE[..]),
+            Completions::Before { allowance, polls } => (allowance, polls),
+        };
+        // Safety: as in `station_find`; data and list are only read.
+        let stored = unsafe {
+            library::fulkibono_station_store(
+                self.0.as_mut_ptr(),
+                RECORD_SIZE,
+                array.0.as_mut_ptr(),
+                ARRAY,
+                security.0.as_mut_ptr(),
+                SECURITY,
+                buffers.reply.as_mut_ptr(),
+                STATION_LIST,
+                buffers.marks.as_mut_ptr(),
+                STATION_LIST,
+                station,
+                data.as_ptr(),
+                STATION_DATA,
+                allowance,
+                list.as_ptr(),
+                list.len(),
+            )
+        };
+        match answer(stored.number) {
+            Ok(()) => Ok(stored.polls),
+            Err(why) => Err(NotStored { why, polls: stored.polls }),
+        }
     }
 }

@@ -1,7 +1,8 @@
-// A record written across a page's end, and what the chip really did; then a reset in the middle of a program.
-use fulkibono::{Array, Circumstances, Record, Refusal, Security, ARRAY, SECURITY};
+// A record written across a page's end, and what the chip really did; then a reset in the middle of a program; then a station stored and found.
+use fulkibono::{Array, Circumstances, Completions, Record, Security, StationBuffers, ARRAY, SECURITY};
+use std::error::Error;
 
-fn main() -> Result<(), Refusal> {
+fn main() -> Result<(), Box<dyn Error>> {
     let mut array = vec![0xFF; ARRAY];
     let mut security = vec![0xFF; SECURITY];
     let array = Array::of(&mut array).expect("the array's size");
@@ -36,5 +37,11 @@ fn main() -> Result<(), Refusal> {
     chip.frame(array, security, &[0x99], &mut [], &mut [], Circumstances { k: 100, m: 0xF0 })?;
     let torn = &array.bytes()[0x263..0x266];
     println!("reset in the middle: 000263: {:02X} {:02X} {:02X}", torn[0], torn[1], torn[2]);
+
+    // a station: five polls allowed a write; the completions of the two writes come before polls 2 and 4
+    let mut buffers = StationBuffers::new();
+    let polls = chip.station_store(array, security, &mut buffers, 7, b"platform 3, track 12, open  ", Completions::Before { allowance: 5, polls: &[2, 4] })?;
+    let data = chip.station_find(array, security, &mut buffers, 7)?;
+    println!("station 7 after {polls} polls: {}", String::from_utf8_lossy(&data));
     Ok(())
 }

@@ -1,0 +1,2 @@
+-- The numbers of the station list that no definition names.
+pub mod Stations
