@@ -1,4 +1,6 @@
 // The record without its buffer after a frame.
+#![tactic(auto)]
+
 ghost use Rattle.std.specs.Prelude.{◌≡◌, true, false};
 ghost use Rattle.rules.specs.Fields.{with_protection, with_running, with_suspended, with_sqi, with_wel, with_wpld, with_enable, with_burst};
 ghost use Rattle.rules.specs.Commands.{work_of, at_once, act};

@@ -1,4 +1,6 @@
 // What a script sets: a new chip, memories, the record, what is lent, how rows are shown. specs/Settings.antt.
+#![tactic(auto)]
+
 ghost use Rattle.std.specs.Prelude.{◌≡◌, length, replicate};
 ghost use Rattle.rules.specs.Words.{lent, written};
 ghost use Rattle.arranging.specs.Settings.{filled, pattern_at, Arranged, bench_set, SettingPlayed};

@@ -1,4 +1,6 @@
 // What a script asks: nothing on the chip changes, but what it expects may not be met. specs/Questions.antt.
+#![tactic(auto)]
+
 ghost use Rattle.std.specs.Prelude.{◌≡◌, eqb, ltb, length, ◌+◌, ◌%◌};
 ghost use Rattle.rules.specs.Words.{pick};
 ghost use Rattle.fields.specs.Records.{same_record_lem};

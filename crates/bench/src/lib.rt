@@ -1,5 +1,7 @@
 // The boundary to other languages: the chip's functions over lent bytes. specs/Boundary.antt says what each gives back and leaves; specs/Images.antt of files.
 // The caller lends all memory; nothing is kept between calls. The page buffer is changed where it lies, in the record's first 256 bytes.
+#![tactic(auto)]
+
 ghost use Rattle.std.specs.Prelude.{◌≡◌, true, false, ◌&&◌, [], ◌≤◌, length, take, drop};
 ghost use Rattle.rules.specs.Works.{tear_of};
 ghost use Rattle.rules.specs.WellFormed.{well_formed};
@@ -50,7 +52,7 @@ pub extern "C" fn fulkibono_new_old(bytes: &mut [u8]) -> u8
 
 // What a frame carries beside its bytes and buffers, and a power cut, as C passes it.
 #[repr(C)]
-#[derive(Drop)]
+#[derive(Clone, Copy)]
 pub struct Passed {
     pub k: u64,
     pub m: u8,

@@ -1,4 +1,6 @@
 // What may come beside suspended work: refusal 8.
+#![tactic(auto)]
+
 ghost use Rattle.std.specs.Prelude.{◌≡◌, true, ◌&&◌, ◌||◌, [], ◌∷◌, ◌*◌, ◌/◌};
 ghost use Rattle.rules.specs.Words.{one_of, range, holds};
 ghost use Rattle.rules.specs.Blocks.{block_of, block_at, span};

@@ -1,4 +1,6 @@
 // Blocks and locks; the kind and the range of work.
+#![tactic(auto)]
+
 ghost use Rattle.std.specs.Prelude.{◌≡◌, true, ◌+◌, ◌^◌, ◌≤◌, ◌<◌};
 ghost use Rattle.rules.specs.Words.{bit, holds};
 ghost use Rattle.rules.specs.Blocks.{array_size_lem, block_of, block_at, write_locked, read_locked, unlocked};

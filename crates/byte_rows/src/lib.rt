@@ -1,4 +1,6 @@
 // Rows of bytes: a long reply, the bits of a status, the locks by address, a dump; what is left out of them; a memory that is not as expected. specs/.
+#![tactic(auto)]
+
 mod dumps;
 mod locks;
 mod replies;

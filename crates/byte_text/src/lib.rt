@@ -1,4 +1,6 @@
 // Bytes as text behind a row. specs/Bytes.antt.
+#![tactic(auto)]
+
 ghost use Rattle.std.specs.Prelude.{◌≡◌, min, length};
 ghost use Rattle.writing.specs.Rows.{put, hex};
 ghost use Rattle.byte_text.specs.Bytes.{within, bytes, known, marked, printed, letters};

@@ -1,4 +1,6 @@
 // What becomes of the bench where a line stores a station, finds one or asks for the list. specs/Lines.antt.
+#![tactic(auto)]
+
 ghost use Rattle.std.specs.Prelude.{◌≡◌, eqb, length, replicate};
 ghost use Rattle.rules.specs.Words.{pick};
 ghost use Rattle.stations.specs.Slots.{shown_in};
@@ -15,14 +17,14 @@ use script::Line;
 use standing::{Bench, Call, Deed, Playing};
 
 // What a line does with the station list.
-#[derive(Drop)]
+#[derive(Clone, Copy)]
 pub enum Errand {
     Nothing,
     Call(Call),
 }
 
 // What a call came to beside the bench.
-#[derive(Drop)]
+#[derive(Clone, Copy)]
 pub struct Account {
     pub polls: u64,
     // writes that would end in time, one after the other
@@ -36,7 +38,7 @@ pub struct Account {
     pub cut: usize,
 }
 
-#[derive(Drop)]
+#[derive(Clone, Copy)]
 pub struct Called {
     pub playing: Playing,
     pub account: Account,

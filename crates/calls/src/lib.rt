@@ -1,4 +1,6 @@
 // What a line says to the store, and the store's calls on what the bench lends. specs/.
+#![tactic(auto)]
+
 mod lent;
 mod lists;
 

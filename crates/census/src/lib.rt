@@ -1,4 +1,6 @@
 // The slots of the station list counted, as the two buffers of a read show them. specs/Census.antt.
+#![tactic(auto)]
+
 ghost use Rattle.std.specs.Prelude.{◌≡◌, ◌+◌, ◌<◌, ◌≤◌, length, get_or};
 ghost use Rattle.rules.specs.Words.{num};
 ghost use Rattle.stations.specs.Slots.{shown_in, those_from, live_of, passed_over_lem, slot_count};
@@ -6,7 +8,7 @@ ghost use Rattle.stations.specs.Calls.{list_size};
 ghost use Rattle.census.specs.Census.{found, counts_below, cut_after};
 
 // How many slots are empty, live, passed over and dead: a slot that is passed over is live too.
-#[derive(Drop)]
+#[derive(Clone, Copy)]
 pub struct Counts {
     pub empty: u64,
     pub live: u64,

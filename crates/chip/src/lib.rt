@@ -1,4 +1,6 @@
 // The bench chip: a new chip, a frame, a completion, a power cut.
+#![tactic(auto)]
+
 mod numbers;
 mod turns;
 

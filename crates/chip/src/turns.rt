@@ -12,7 +12,7 @@ ghost use Rattle.chip.specs.Turns.{cutting, resetting, stop_call, Stoppable, Tur
 use rules::{Answer, Circumstances, Refusal, Rest, Turn};
 
 // A frame, a completion, or a power cut.
-#[derive(Drop)]
+#[derive(Clone, Copy)]
 pub enum Event {
     Frame,
     Completion,

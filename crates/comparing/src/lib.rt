@@ -1,5 +1,7 @@
 // The second model beside the first: the same line, with memories of its own, and in what the two differ. A part of the program trial, apart so that it is
 // proved beside other crates; like it safe and ending, with no contract: that each comparison is made is shown by differences planted for it.
+#![tactic(auto)]
+
 pub mod bytes;
 pub mod mapping;
 

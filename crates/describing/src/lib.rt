@@ -1,4 +1,6 @@
 // What runs, and what a frame does, in words.
+#![tactic(auto)]
+
 mod commands;
 mod works;
 
@@ -6,7 +8,7 @@ pub use commands::{answer, less, opcode_of, reply_on_row};
 pub use works::{told as work_told, work, work_cut, work_places};
 
 // How work is told.
-#[derive(Drop)]
+#[derive(Clone, Copy)]
 pub struct Told {
     pub kind: usize,
     pub a: u64,

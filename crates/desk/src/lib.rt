@@ -1,4 +1,6 @@
 // The desk lends its one store record, and each call changes it.
+#![tactic(auto)]
+
 ghost use Rattle.stations.specs.Promises.{desk_of, LookupPromise, StorePromise};
 
 use stations::StoreRecord;

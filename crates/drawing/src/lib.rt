@@ -1,5 +1,7 @@
 // Random lines for the trial: numbers from a seed, and lines made from the forms of a data file. A part of that program, apart so that it is proved beside
 // other crates; like it safe and ending, with no contract.
+#![tactic(auto)]
+
 pub mod dice;
 pub mod source;
 

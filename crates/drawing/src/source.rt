@@ -4,7 +4,7 @@ use crate::at;
 use crate::dice::{draw, seed_of};
 
 // Where a line is being written, and the seed of what it says.
-#[derive(Drop)]
+#[derive(Clone, Copy)]
 pub struct Pen {
     pub seed: u64,
     pub at: usize,

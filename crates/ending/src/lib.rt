@@ -1,4 +1,6 @@
 // A completion and a power cut where the page buffer lies with the caller: it changes in place, the rest of the record goes in and out by value.
+#![tactic(auto)]
+
 ghost use Rattle.std.specs.Prelude.{[]};
 ghost use Rattle.rules.specs.Fields.{chip_of};
 ghost use Rattle.rules.specs.Promises.{bench_of, returned_of, after_of, CompletionPromise, CutPromise};

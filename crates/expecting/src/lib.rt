@@ -1,4 +1,6 @@
 // What a script expects of a line, compared with what came. specs/Expectations.antt.
+#![tactic(auto)]
+
 ghost use Rattle.std.specs.Prelude.{◌≡◌, not, ◌&&◌, ◌+◌, eqb, length, get_or};
 ghost use Rattle.rules.specs.Words.{num, every};
 ghost use Rattle.expecting.specs.Expectations.{First, Judged};
@@ -6,7 +8,7 @@ ghost use Rattle.expecting.specs.Expectations.{First, Judged};
 use rules::plain::smaller;
 
 // What is not met.
-#[derive(Drop)]
+#[derive(Clone, Copy)]
 pub struct Verdict {
     // another number came
     pub number: bool,

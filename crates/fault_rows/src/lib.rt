@@ -1,4 +1,6 @@
 // What is wrong with a file, as a row: of another length, or which record and what in it. specs/Faults.antt.
+#![tactic(auto)]
+
 ghost use Rattle.std.specs.Prelude.{◌≡◌};
 ghost use Rattle.fault_rows.specs.Faults.{length_row, record_row, pair_on, pairs_on, fault_row};
 

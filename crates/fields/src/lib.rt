@@ -1,4 +1,6 @@
 // The record that a line's slots say. specs/Records.antt.
+#![tactic(auto)]
+
 ghost use Rattle.std.specs.Prelude.{◌≡◌, eqb};
 ghost use Rattle.rules.specs.Words.{num};
 ghost use Rattle.fields.specs.Records.{record_of, same_work, same_flags_lem, same_rest_lem, same_record_lem};

@@ -1,5 +1,7 @@
 // Parts of the programs that keep a chip in a file: written in front, read to its end, replaced whole. Safe and ending; no contract can say what is read and
 // written.
+#![tactic(auto)]
+
 ghost use Rattle.io.specs.Counts.{IsPrefixLen};
 
 // The first n bytes, or all where there are fewer.

@@ -1,4 +1,6 @@
 // A form of a page behind a row. specs/Forms.antt says what each piece is.
+#![tactic(auto)]
+
 ghost use Rattle.std.specs.Prelude.{◌≡◌};
 ghost use Rattle.writing.specs.Rows.{put};
 ghost use Rattle.forms.specs.Forms.{lead, digits_at, number_text, plural, gap, piece, with_row, opened, ended, formed, taken, begun, filled};
@@ -6,7 +8,7 @@ ghost use Rattle.forms.specs.Forms.{lead, digits_at, number_text, plural, gap, p
 use writing::{Row, add, hexadecimal, number, pad, text};
 
 // A form half filled.
-#[derive(Drop)]
+#[derive(Clone, Copy)]
 pub struct Filling {
     pub row: Row,
     // lines of the page to pass, and whether the form's line is over

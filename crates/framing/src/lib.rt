@@ -1,4 +1,6 @@
 // A frame where the page buffer lies with the caller: it changes in place, the rest of the record goes in and out by value.
+#![tactic(auto)]
+
 ghost use Rattle.std.specs.Prelude.{◌≡◌, false, ◌&&◌, [], ◌∷◌, eqb, leb, length};
 ghost use Rattle.rules.specs.Fields.{chip_of};
 ghost use Rattle.rules.specs.Promises.{bench_of, carried_of, returned_of, after_of, FramePromise};

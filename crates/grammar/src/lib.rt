@@ -1,8 +1,10 @@
 // The grammar of a script's line as a table: what may follow what, and what each word says. The definitions are in specs/.
+#![tactic(auto)]
+
 pub mod table;
 
 // A row of the table, without its place.
-#[derive(Drop)]
+#[derive(Clone, Copy)]
 pub struct Entry {
     // of the word; 255: no row has it
     pub class: u8,

@@ -1,4 +1,6 @@
 // Frames, completions and power cuts of a script: the event, and what the line expected of it. specs/Events.antt.
+#![tactic(auto)]
+
 ghost use Rattle.std.specs.Prelude.{◌≡◌};
 ghost use Rattle.happening.specs.Events.{JudgedLine, counted, EventPlayed};
 

@@ -1,4 +1,6 @@
 // A line's first row, what stands right below it, and the rows of a status. specs/Heads.antt.
+#![tactic(auto)]
+
 mod events;
 mod questions;
 mod seconds;

@@ -1,11 +1,13 @@
 // A serprog command half heard, and what a byte makes of it. specs/Heard.antt.
+#![tactic(auto)]
+
 ghost use Rattle.std.specs.Prelude.{◌≡◌, true, ◌-◌};
 ghost use Rattle.hearing.specs.Heard.{listening, after_code, after_lengths, put, given_with, after_parameter, after_one, in_mode, heard_with, kept_in, kept_with};
 
 use serprog::Command;
 
 // What the next byte is: a command's code, a parameter, a byte to send, or one of an operation that does not fit.
-#[derive(Drop)]
+#[derive(Clone, Copy)]
 pub enum Mode {
     Code,
     Parameters,
@@ -14,7 +16,7 @@ pub enum Mode {
 }
 
 // What is due after a byte.
-#[derive(Drop)]
+#[derive(Clone, Copy)]
 pub enum Due {
     Nothing,
     Answer,
@@ -23,7 +25,7 @@ pub enum Due {
 
 // A command half heard: how many parameters it has, whether bytes to send follow, the parameters so far, and how many bytes are left to come
 // of these or of those.
-#[derive(Drop)]
+#[derive(Clone, Copy)]
 pub struct Heard {
     pub mode: Mode,
     pub command: Command,

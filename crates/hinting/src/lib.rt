@@ -1,4 +1,6 @@
 // What a wrong word may have been meant to be. specs/Hints.antt.
+#![tactic(auto)]
+
 ghost use Rattle.std.specs.Prelude.{◌≡◌};
 ghost use Rattle.hinting.specs.Hints.{lower, stands, takes_byte, prefix, of_digits, in_lower, hint_of};
 

@@ -1,4 +1,6 @@
 // Chips, memories and spoiled files for the program image_trial, apart so that they are proved beside other crates; like it safe and ending, with no contract.
+#![tactic(auto)]
+
 pub mod chips;
 pub mod places;
 pub mod spoiling;

@@ -7,7 +7,7 @@ use drawing::dice::{draw, seed_of};
 pub const WAYS: u64 = 18;
 
 // A record: the place of its mark, and the length of its body.
-#[derive(Drop)]
+#[derive(Clone, Copy)]
 struct Spot {
     at: usize,
     body: usize,

@@ -1,4 +1,6 @@
 // The bench's chip as an image, and an image as the bench's chip. specs/Images.antt.
+#![tactic(auto)]
+
 ghost use Rattle.std.specs.Prelude.{◌≡◌};
 ghost use Rattle.image.specs.Promises.{posted_number};
 ghost use Rattle.image_posts.specs.Images.{Saved, with_chip, Loaded};

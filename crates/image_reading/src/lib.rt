@@ -1,4 +1,6 @@
 // Reading the chip in a file: all is tested before the first byte is stored. Document 02, W-203: crate image, specs/Files, specs/Faults and specs/Promises.
+#![tactic(auto)]
+
 mod faults;
 
 ghost use Rattle.std.specs.Prelude.{◌≡◌, length};

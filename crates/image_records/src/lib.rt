@@ -1,4 +1,6 @@
 // A record of an image file: numbers of two bytes, the sum, the mark. crate image, specs/Form and specs/Files.
+#![tactic(auto)]
+
 ghost use Rattle.std.specs.Prelude.{◌≡◌, ◌+◌, ◌-◌, ◌*◌, ◌<◌, ◌≤◌, ◌&&◌, ◌++◌, length, ◌==◌};
 ghost use Rattle.std.proofs.Math.Seq.{paste};
 ghost use Rattle.rules.specs.Blocks.{array_size_lem, security_size_lem};

@@ -14,7 +14,7 @@ use second::Flat;
 // No number is due.
 const ANY: u8 = 255;
 
-#[derive(Drop)]
+#[derive(Clone, Copy)]
 pub struct Lengths {
     pub array: usize,
     pub security: usize,
@@ -70,7 +70,7 @@ fn wrong_lengths(k: u64) -> Lengths {
 
 // ---- writing
 
-#[derive(Drop)]
+#[derive(Clone, Copy)]
 struct Numbers {
     first: u8,
     second: u8,
@@ -157,7 +157,7 @@ pub fn written(
 // ---- reading
 
 // What both readers gave back.
-#[derive(Drop)]
+#[derive(Clone, Copy)]
 pub struct Got {
     pub number: u8,
     pub chip: Chip,

@@ -1,5 +1,7 @@
 // Image files of both models side by side (document 02, W-203 and W-204): the paper's values; chips written, read and written again; chips that are refused; spoiled
 // files. Differences planted on one side show that each comparison is made. All numbers come from fixed seeds.
+#![tactic(auto)]
+
 mod cases;
 mod report;
 mod worked;

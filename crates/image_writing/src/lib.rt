@@ -1,4 +1,6 @@
 // Writing a whole idle chip as a file. Document 02, W-203: crate image, specs/Form and specs/Promises.
+#![tactic(auto)]
+
 ghost use Rattle.std.specs.Prelude.{◌≡◌, ◌++◌, ◌+◌, ◌*◌, ◌≤◌, ◌<◌, length, take};
 ghost use Rattle.std.proofs.Math.Seq.{paste};
 ghost use Rattle.rules.specs.Blocks.{array_size_lem, security_size_lem};

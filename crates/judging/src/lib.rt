@@ -1,4 +1,6 @@
 // The refusals 3 to 11 and 13 of a frame, each by its opcode.
+#![tactic(auto)]
+
 ghost use Rattle.std.specs.Prelude.{◌≡◌, not, ◌≤◌, length};
 ghost use Rattle.rules.specs.Frames.{least_length, listed, length_right};
 ghost use Rattle.rules.specs.Programs.{reaches_first};

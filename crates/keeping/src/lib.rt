@@ -1,5 +1,7 @@
 // The chip in a file: read before a session, and saved behind it; a part of the program `programmer`. What a file means is said by crates image_reading,
 // image_writing and raw_image. Safe and ending.
+#![tactic(auto)]
+
 mod telling;
 
 ghost use Rattle.std.specs.Prelude.{◌≡◌, false};
@@ -12,7 +14,7 @@ use telling::{broken_told, refused_told};
 pub use telling::{part_told, told};
 
 // What came of reading a file: whether it is right, and whether a chip is kept in it.
-#[derive(Drop)]
+#[derive(Clone, Copy)]
 pub struct Loaded {
     pub chip: Chip,
     pub right: bool,

@@ -1,5 +1,7 @@
 // Compares the record's numbers and the station list's in the C header and in the Rust wrapper with their definitions: each line that they must have is
 // looked for. Both files lie in data/, all that a program of the gate can read; include/ and examples/rust have links to them.
+#![tactic(auto)]
+
 mod numbers;
 mod texts;
 

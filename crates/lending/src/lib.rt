@@ -1,4 +1,6 @@
 // An event on as much of the memories as is lent, with the reply and the marks that a line wants. specs/Lending.antt.
+#![tactic(auto)]
+
 ghost use Rattle.std.specs.Prelude.{◌≡◌};
 ghost use Rattle.rules.specs.Numbers.{answer_number};
 ghost use Rattle.rules.specs.Machine.{completion, power_cut};

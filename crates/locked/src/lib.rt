@@ -1,4 +1,6 @@
 // Which write lock refused a frame, and what opens it. specs/Locked.antt.
+#![tactic(auto)]
+
 ghost use Rattle.std.specs.Prelude.{◌≡◌, ◌+◌, ◌≤◌, ◌<◌};
 ghost use Rattle.rules.specs.Words.{pick};
 ghost use Rattle.locked.specs.Locked.{locked_from, block_why, locked_block, locked_why};

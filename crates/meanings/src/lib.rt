@@ -1,4 +1,6 @@
 // What a number means: its text over lent bytes. specs/Meanings.antt has the texts.
+#![tactic(auto)]
+
 ghost use Rattle.std.specs.Prelude.{◌≡◌, ◌<◌, length};
 ghost use Rattle.meanings.specs.Meanings.{over, MeaningBytes};
 

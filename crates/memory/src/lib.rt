@@ -1,4 +1,6 @@
 // Loops over lent bytes: pieces of memory, the page buffer, and work that is finished as far as k and m say.
+#![tactic(auto)]
+
 ghost use Rattle.std.specs.Prelude.{◌≡◌, true, [], ◌+◌, ◌≤◌, ◌<◌, length, get_or, drop};
 ghost use Rattle.std.specs.Int.Bits.{bit_and};
 ghost use Rattle.rules.specs.Words.{lent};

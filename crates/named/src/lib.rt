@@ -1,4 +1,6 @@
 // The opcodes that a rule names.
+#![tactic(auto)]
+
 ghost use Rattle.std.specs.Prelude.{◌≡◌, [], ◌∷◌};
 ghost use Rattle.rules.specs.Words.{one_of};
 

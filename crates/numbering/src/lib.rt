@@ -1,4 +1,6 @@
 // Works, flags and the burst as numbers: what the record's code and a script's fields say. specs/Numbering.antt.
+#![tactic(auto)]
+
 ghost use Rattle.std.specs.Prelude.{◌≡◌, ◌≤◌, leb};
 ghost use Rattle.rules.specs.Words.{num};
 ghost use Rattle.rules.specs.Bursts.{burst_byte, burst_length, last_burst, burst_of};

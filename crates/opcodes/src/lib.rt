@@ -1,4 +1,6 @@
 // The opcode decision: kind, frame length and protocol.
+#![tactic(auto)]
+
 ghost use Rattle.std.specs.Prelude.{◌≡◌, true, false, ◌+◌, ◌*◌, ◌<◌};
 ghost use Rattle.rules.specs.Blocks.{array_size_lem, security_size_lem};
 ghost use Rattle.rules.specs.Frames.{form_of, sent_byte, address, security_address, six};

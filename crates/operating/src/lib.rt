@@ -1,4 +1,6 @@
 // One SPI operation on the bench chip: the completion that is due, the frame, and what the tool is shown of the reply.
+#![tactic(auto)]
+
 ghost use Rattle.std.specs.Prelude.{◌≡◌};
 ghost use Rattle.rules.specs.Frames.{opcode};
 ghost use Rattle.rules.specs.Registers.{busy};
@@ -9,7 +11,7 @@ use rules::{Answer, Chip, Circumstances, Tear};
 use serprog::show;
 
 // The chip, how many status reads it has answered since it is busy (0 or 1), and whether the tool is shown the sibling's identity.
-#[derive(Drop)]
+#[derive(Clone, Copy)]
 pub struct Bench {
     pub chip: Chip,
     pub reads: u8,

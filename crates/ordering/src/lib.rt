@@ -1,4 +1,6 @@
 // The parts of what is told of a line, one after the other. specs/Order.antt.
+#![tactic(auto)]
+
 ghost use Rattle.std.specs.Prelude.{◌≡◌};
 ghost use Rattle.ordering.specs.Order.{nothing, begun, is_over, part_after, remark_rows, rows_of, after};
 
@@ -6,7 +8,7 @@ use rules::plain::smaller;
 use standing::Playing;
 
 // The parts, in their order. A part has one row or more; a row of no bytes is none.
-#[derive(Drop)]
+#[derive(Clone, Copy)]
 pub enum Part {
     Remark,
     Head,
@@ -27,7 +29,7 @@ pub enum Part {
 }
 
 // How far the telling of a line is: the part, and the row in it.
-#[derive(Drop)]
+#[derive(Clone, Copy)]
 pub struct Place {
     pub part: Part,
     pub row: usize,

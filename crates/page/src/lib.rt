@@ -1,4 +1,6 @@
 // The page of forms. specs/Page.antt has it with the number of each.
+#![tactic(auto)]
+
 ghost use Rattle.std.specs.Prelude.{◌≡◌};
 ghost use Rattle.page.specs.Page.{form};
 

@@ -1,4 +1,6 @@
 // The page buffer after an event, in place.
+#![tactic(auto)]
+
 ghost use Rattle.std.specs.Prelude.{◌≡◌, ◌≤◌, length};
 ghost use Rattle.rules.specs.Commands.{buffer_of, buffer_at_once, buffer_after, buffer_rested};
 

@@ -10,7 +10,7 @@ use telling::Argument;
 use writing::Row;
 
 // How scripts are played, and what they came to.
-#[derive(Drop)]
+#[derive(Clone, Copy)]
 pub struct Session {
     pub strict: bool,
     pub prompt: bool,
@@ -65,7 +65,7 @@ fn byte_at(input: &[u8; 65536], i: usize) -> u8 {
 }
 
 // A script half played: what came of it, of a file and of a call, what of that is told, and how much of the input is taken.
-#[derive(Drop)]
+#[derive(Clone, Copy)]
 struct Desk {
     now: Playing,
     report: Report,

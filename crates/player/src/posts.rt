@@ -30,7 +30,7 @@ fn written(name: &[u8], bytes: &[u8]) -> Trouble {
 
 // ---- reading
 
-#[derive(Drop)]
+#[derive(Clone, Copy)]
 struct Came {
     trouble: Trouble,
     length: usize,

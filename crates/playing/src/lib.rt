@@ -1,4 +1,6 @@
 // The player: what a line of a script does to the bench. A script's bytes come one by one; a line that has ended is played.
+#![tactic(auto)]
+
 ghost use Rattle.std.specs.Prelude.{◌≡◌};
 ghost use Rattle.playing.specs.Lines.{Played, Taken};
 

@@ -1,4 +1,6 @@
 // The rows of a line that saves, loads or compares a file. specs/Posts.antt.
+#![tactic(auto)]
+
 mod heads;
 mod whys;
 

@@ -1,5 +1,7 @@
 // What becomes of the bench where a line saves, loads or compares a file. The program reads and writes; what it said of the file, and the bytes that came, are
 // given here. specs/Posts.antt.
+#![tactic(auto)]
+
 ghost use Rattle.std.specs.Prelude.{◌≡◌, length};
 ghost use Rattle.rules.specs.Words.{num};
 ghost use Rattle.rules.specs.Blocks.{array_size_lem};
@@ -15,14 +17,14 @@ use rules::plain::smaller;
 use standing::{Deed, Playing, Post};
 
 // What a line does with a file.
-#[derive(Drop)]
+#[derive(Clone, Copy)]
 pub enum Errand {
     Nothing,
     Post(Post),
 }
 
 // What the system said of it.
-#[derive(Drop)]
+#[derive(Clone, Copy)]
 pub enum Trouble {
     Nothing,
     // there is no such file; that is not permitted; it cannot be opened
@@ -39,7 +41,7 @@ pub enum Trouble {
 }
 
 // What is told of it: what the system said, how many bytes it has, what is wrong with it first, and in what it differs.
-#[derive(Drop)]
+#[derive(Clone, Copy)]
 pub struct Report {
     pub trouble: Trouble,
     pub length: usize,
@@ -47,7 +49,7 @@ pub struct Report {
     pub difference: Difference,
 }
 
-#[derive(Drop)]
+#[derive(Clone, Copy)]
 pub struct Carried {
     pub playing: Playing,
     pub report: Report,

@@ -1,4 +1,6 @@
 // Power-up and reset.
+#![tactic(auto)]
+
 ghost use Rattle.std.specs.Prelude.{◌≡◌, false};
 ghost use Rattle.rules.specs.Fields.{with_enable};
 ghost use Rattle.rules.specs.Commands.{power_up_ioc, powered_up, after_reset};

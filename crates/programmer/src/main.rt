@@ -1,11 +1,13 @@
 // A serprog programmer with the bench chip behind it: on standard input and output, or on recorded sessions, one after the other. What each byte is
 // answered with is decided by `serving`.
+#![tactic(auto)]
+
 use check::same;
 use keeping::told;
 
 // What the words so far ask for: the part that a new chip is, where the name of the chip's file stands among them (0: nowhere), and whether the next word is
 // that name.
-#[derive(Drop)]
+#[derive(Clone, Copy)]
 struct Session {
     ba: bool,
     disguise: bool,

@@ -1,9 +1,11 @@
 // The array alone as a file, as flashrom and QEMU have it: 2,097,152 bytes. specs/Raw.antt.
+#![tactic(auto)]
+
 ghost use Rattle.std.specs.Prelude.{◌≡◌, ◌≤◌, ◌<◌, length};
 ghost use Rattle.raw_image.specs.Raw.{raw_number, no_difference, differs_at, compared, compare_raw, LoadPromise};
 
 // How many bytes differ, and the first of them: its place, the file's byte and the array's.
-#[derive(Drop)]
+#[derive(Clone, Copy)]
 pub struct Difference {
     pub count: usize,
     pub place: usize,

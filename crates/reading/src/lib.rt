@@ -1,4 +1,6 @@
 // Reads: bytes and marks into the lent reply.
+#![tactic(auto)]
+
 ghost use Rattle.std.specs.Prelude.{◌≡◌, [], ◌∷◌, ℕ, ◌+◌, ◌-◌, ◌*◌, ◌/◌, ◌%◌, ◌^◌, ◌≤◌, ◌<◌, min, ltb, length, get_or};
 ghost use Rattle.rules.specs.Words.{lent, pick, holds};
 ghost use Rattle.rules.specs.Blocks.{array_size_lem, security_size_lem};

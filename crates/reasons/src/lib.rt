@@ -1,4 +1,6 @@
 // Why an event was refused, and what the line expected of it and did not get. specs/Reasons.antt.
+#![tactic(auto)]
+
 ghost use Rattle.std.specs.Prelude.{◌≡◌, get_or};
 ghost use Rattle.reasons.specs.Reasons.{refused, number_row, why_row, number_unmet, unmet_row, expected_from, came_row, came_at};
 

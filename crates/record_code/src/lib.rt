@@ -1,5 +1,7 @@
 // The chip record as bytes: what crosses the boundary to other languages and is stored. The layout is in specs/Layout.antt.
 // The page stays where it is: these functions read and write what stands behind it.
+#![tactic(auto)]
+
 ghost use Rattle.std.specs.Prelude.{◌≡◌, ◌&&◌, ◌++◌, ◌+◌, ◌*◌, ◌≤◌, eqb, leb, length, take, drop};
 ghost use Rattle.rules.specs.Bursts.{last_burst, burst_of};
 ghost use Rattle.rules.specs.Fields.{works_of, rest_of};

@@ -1,4 +1,6 @@
 // The test of a well-formed chip record.
+#![tactic(auto)]
+
 ghost use Rattle.std.specs.Prelude.{◌≡◌, true, ◌+◌, ◌^◌, ◌≤◌, ◌<◌, length};
 ghost use Rattle.rules.specs.Words.{overlap};
 ghost use Rattle.rules.specs.Fields.{chip_of};

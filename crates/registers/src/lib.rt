@@ -1,4 +1,6 @@
 // The registers as read.
+#![tactic(auto)]
+
 ghost use Rattle.std.specs.Prelude.{◌≡◌};
 ghost use Rattle.rules.specs.Registers.{status, configuration};
 

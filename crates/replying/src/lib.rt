@@ -1,4 +1,6 @@
 // What a done frame replies.
+#![tactic(auto)]
+
 ghost use Rattle.std.specs.Prelude.{◌≡◌, length};
 ghost use Rattle.rules.specs.Words.{lent, written};
 ghost use Rattle.rules.specs.Reading.{shown};

@@ -1,4 +1,6 @@
 // The rows that the player writes.
+#![tactic(auto)]
+
 mod events;
 mod questions;
 

@@ -28,7 +28,7 @@ use Rattle.rules.specs.Fields.{chip_of, with_enable}
 use Rattle.rules.specs.Commands.{act, buffer_after, settled, settled_first, rested, buffer_rested}
 use Rattle.rules.specs.WellFormed.{well_formed}
 use Rattle.rules.specs.Numbers.{State, Frame, state_right, first, frame_tests, completion_tests}
-use Rattle.rules.specs.Machine.{Outcome, worked_array_lem, worked_security_lem, frame_chip, stops, frame_cell_lem, frame_reply, frame_marks, frame, completed_chip_lem, completion, Event, sends, completes, cuts, step, run}
+use Rattle.rules.specs.Machine.{Outcome, worked_array_lem, worked_security_lem, frame_chip, stops, frame_cell_lem, frame_reply, frame_marks, frame, completed_chip_lem, completion, Event, left, sends, completes, cuts, step, run}
 use Rattle.rules.specs.Promises.{state_of}
 use Rattle.rules.specs.Demands.{events_of, outcomes_of, key_place, Uncut, Kept, AllKept, Demand3, Demand3OfCode}
 use Rattle.rules.proofs.Bools.{and_split, never}
@@ -334,10 +334,10 @@ module _ (p₀ : ℕ) where
   kept_run s₀ t₀ s t [] p u w = tt
   kept_run s₀ t₀ s t (sends f ∷ es) p u w =
       let h = step_after s₀ t₀ s t (sends f) tt w in
-      (kept s₀ t₀ _ _ p h, kept_run s₀ t₀ _ _ es p u h.twins)
+      (kept s₀ t₀ _ _ p h, kept_run s₀ t₀ (left (step s (sends f))) (left (step t (sends f))) es p u h.twins)
   kept_run s₀ t₀ s t (completes ∷ es) p u w =
       let h = step_after s₀ t₀ s t completes tt w in
-      (kept s₀ t₀ _ _ p h, kept_run s₀ t₀ _ _ es p u h.twins)
+      (kept s₀ t₀ _ _ p h, kept_run s₀ t₀ (left (step s completes)) (left (step t completes)) es p u h.twins)
   kept_run s₀ t₀ s t (cuts r ∷ es) p u w = absurd u
 
 -- ---- the demand

@@ -1,9 +1,11 @@
 // The declared types of the bench chip: what every crate of the repository uses. Their meaning is in specs/.
+#![tactic(auto)]
+
 pub mod plain;
 
 // An internal operation that runs or is suspended, with what it needs until it ends.
 // Sectors, blocks and pages are given by number: a block by its place in document 01's table, counted from 0.
-#[derive(Drop)]
+#[derive(Clone, Copy)]
 pub enum Work {
     Nothing,
     EraseSector(usize),
@@ -19,19 +21,19 @@ pub enum Work {
 }
 
 // The protection register and the permanent one.
-#[derive(Drop)]
+#[derive(Clone, Copy)]
 pub struct Locks {
     pub protection: u64,
     pub permanent: u64,
 }
 
-#[derive(Drop)]
+#[derive(Clone, Copy)]
 pub struct Works {
     pub running: Work,
     pub suspended: Work,
 }
 
-#[derive(Drop)]
+#[derive(Clone, Copy)]
 pub struct Flags {
     // the part: BA, else the old one. No event changes it, and it stands first: behind those that frames change, a frame takes more instructions
     pub ba: bool,
@@ -47,7 +49,7 @@ pub struct Flags {
 }
 
 // How many bytes a burst read goes round in.
-#[derive(Drop)]
+#[derive(Clone, Copy)]
 pub enum Burst {
     Eight,
     Sixteen,
@@ -56,7 +58,7 @@ pub enum Burst {
 }
 
 // The chip record without its page buffer.
-#[derive(Drop)]
+#[derive(Clone, Copy)]
 pub struct Rest {
     pub locks: Locks,
     // apart from the flags: next to them both are moved as one word, and an event takes more instructions
@@ -66,28 +68,28 @@ pub struct Rest {
 }
 
 // The chip record.
-#[derive(Drop)]
+#[derive(Clone, Copy)]
 pub struct Chip {
     pub buffer: [u8; 256],
     pub rest: Rest,
 }
 
 // Where work is stopped before its end: the first k bytes of its range are finished, and byte k, counted from 0, is torn by the byte m.
-#[derive(Drop)]
+#[derive(Clone, Copy)]
 pub struct Tear {
     pub k: u64,
     pub m: u8,
 }
 
 // What a frame event carries beside its bytes and its buffers.
-#[derive(Drop)]
+#[derive(Clone, Copy)]
 pub struct Circumstances {
     // used only by an accepted 99 while busy
     pub tear: Tear,
 }
 
 // Why an event is refused: document 01's list, in its order, then document 02's numbers.
-#[derive(Drop)]
+#[derive(Clone, Copy)]
 pub enum Refusal {
     Malformed,
     Empty,
@@ -104,28 +106,28 @@ pub enum Refusal {
     NoSuchBurst,
 }
 
-#[derive(Drop)]
+#[derive(Clone, Copy)]
 pub enum Answer {
     Done,
     Refused(Refusal),
 }
 
 // What an event gives back: the answer, and the record afterwards.
-#[derive(Drop)]
+#[derive(Clone, Copy)]
 pub struct After {
     pub answer: Answer,
     pub chip: Chip,
 }
 
 // The same where the page buffer lies with the caller: the answer, and the rest of the record.
-#[derive(Drop)]
+#[derive(Clone, Copy)]
 pub struct Turn {
     pub answer: Answer,
     pub rest: Rest,
 }
 
 // What a reading frame gives.
-#[derive(Drop)]
+#[derive(Clone, Copy)]
 pub enum Source {
     Status,
     Configuration,
@@ -137,7 +139,7 @@ pub enum Source {
 }
 
 // A command that runs until completion.
-#[derive(Drop)]
+#[derive(Clone, Copy)]
 pub enum Long {
     Sector,
     Block,
@@ -150,7 +152,7 @@ pub enum Long {
 }
 
 // A command that acts at once.
-#[derive(Drop)]
+#[derive(Clone, Copy)]
 pub enum Short {
     Nothing,
     EnableReset,
@@ -168,7 +170,7 @@ pub enum Short {
 }
 
 // What an opcode asks for.
-#[derive(Drop)]
+#[derive(Clone, Copy)]
 pub enum Kind {
     Show(Source),
     Begin(Long),
@@ -176,7 +178,7 @@ pub enum Kind {
 }
 
 // The form of an opcode's frames: its length in each protocol (0: not in that protocol), and whether more bytes may follow.
-#[derive(Drop)]
+#[derive(Clone, Copy)]
 pub struct Form {
     pub kind: Kind,
     pub spi: usize,
@@ -185,7 +187,7 @@ pub struct Form {
 }
 
 // A protection block: its places, its write_lock bit, and whether the bit above that is its read lock.
-#[derive(Drop)]
+#[derive(Clone, Copy)]
 pub struct Block {
     pub start: usize,
     pub size: usize,
@@ -194,14 +196,14 @@ pub struct Block {
 }
 
 // Places from start on.
-#[derive(Drop)]
+#[derive(Clone, Copy)]
 pub struct Range {
     pub start: usize,
     pub size: usize,
 }
 
 // A byte of a reply and its mark.
-#[derive(Drop)]
+#[derive(Clone, Copy)]
 pub struct Cell {
     pub byte: u8,
     pub mark: u8,

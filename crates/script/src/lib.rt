@@ -1,4 +1,6 @@
 // A script, read byte by byte. The language and what each function gives are in specs/.
+#![tactic(auto)]
+
 mod lines;
 
 ghost use Rattle.std.specs.Prelude.{◌≡◌};
@@ -10,7 +12,7 @@ use spelling::Word;
 
 // ---- what a line says
 
-#[derive(Drop)]
+#[derive(Clone, Copy)]
 pub struct Line {
     // 31: a mistake was met, or the line ended too early
     pub verb: u8,
@@ -33,7 +35,7 @@ pub struct Line {
 
 // ---- a line half read
 
-#[derive(Drop)]
+#[derive(Clone, Copy)]
 pub struct Reading {
     // 0 open; 1 the rest is a remark; 2 a mistake was met, the word is the wrong one
     pub mode: u8,

@@ -4,13 +4,15 @@
 // cut; beside them a chip is written to a file and read from one. The text goes through document 01 in its order; the words in
 // quotation marks are its own, or a request's where a comment or the section's title says so.
 // Every function is proved to be safe and to end, and says nothing more than that.
+#![tactic(auto)]
+
 ghost use Rattle.std.specs.Prelude.{◌≤◌, ◌<◌};
 
 // What runs (run_) or is suspended (sus_), as a kind and a number:
 // 0 nothing; 1 sector erase, the sector; 2 protection block erase, the block's place in the table of forty;
 // 3 array erase; 4 page program, the page; 5 Security ID program, its page there; 6 Security ID lock;
 // 7 configuration write, IOC + 2 * WPEN; 8 permanent bits, the 48 bits as sent.
-#[derive(Drop)]
+#[derive(Clone, Copy)]
 pub struct Flat {
     pub buffer: [u8; 256],
     pub protection: u64,
@@ -34,21 +36,21 @@ pub struct Flat {
 }
 
 // What an event gives back: its number, 0 for done, and the record after it.
-#[derive(Drop)]
+#[derive(Clone, Copy)]
 pub struct Step {
     pub number: u8,
     pub state: Flat,
 }
 
 // What a frame event carries beside its bytes and its buffers: the count k and the byte m of W-205.
-#[derive(Drop)]
+#[derive(Clone, Copy)]
 pub struct Extra {
     pub k: u64,
     pub m: u8,
 }
 
 // A byte of a reply, with its mark.
-#[derive(Drop)]
+#[derive(Clone, Copy)]
 struct Out {
     value: u8,
     mark: u8,
@@ -1342,7 +1344,7 @@ const PG_START: usize = 2070;
 const PG_BYTES: usize = 262;
 
 // What RG's body holds: "protection 6, permanent 6, flags 1, burst code 1".
-#[derive(Drop)]
+#[derive(Clone, Copy)]
 struct Head {
     protection: u64,
     permanent: u64,
@@ -1351,7 +1353,7 @@ struct Head {
 }
 
 // What stands at a place of a file.
-#[derive(Drop)]
+#[derive(Clone, Copy)]
 struct Spot {
     // the record: 0 for RG, 1 for SI, 2 for a PG
     record: u8,

@@ -1,6 +1,6 @@
 // The desk's record: the chip, and the number and the polls of the last call. The number is 0 for done.
 // W-206: "First take and return the record"
-#[derive(Drop)]
+#[derive(Clone, Copy)]
 pub struct Store {
     pub chip: second::Flat,
     pub number: u8,

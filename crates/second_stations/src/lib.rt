@@ -2,6 +2,8 @@
 // the chip of the crate `second` and touches it by frames and completions only. The words in quotation marks are W-206's, or
 // document 01's where a comment says so.
 // Every function is proved to be safe and to end; what a contract says beyond that is only how large a number can be.
+#![tactic(auto)]
+
 ghost use Rattle.std.specs.Prelude.{◌+◌, ◌≤◌};
 
 // The record has a file of its own: a struct `Store` and a function `store` do not go into one.
@@ -10,7 +12,7 @@ pub mod desk;
 pub use desk::Store;
 
 // What a frame of the store gives back: its number, 0 for done, the chip after it, and the byte of its reply.
-#[derive(Drop)]
+#[derive(Clone, Copy)]
 struct Heard {
     number: u8,
     chip: second::Flat,
@@ -18,7 +20,7 @@ struct Heard {
 }
 
 // The two bytes of a slot's mark.
-#[derive(Drop)]
+#[derive(Clone, Copy)]
 struct Mark {
     first: u8,
     other: u8,

@@ -1,4 +1,6 @@
 // A serprog session, byte by byte: a command is heard, and answered once its last byte has come. specs/ has the rules; nothing here reads or writes.
+#![tactic(auto)]
+
 ghost use Rattle.std.specs.Prelude.{◌≡◌, min, length, get_or};
 ghost use Rattle.memory.specs.Patched.{Patched};
 ghost use Rattle.serving.specs.Sessions.{begun, answer_to, Operated, Done, Taken};
@@ -9,7 +11,7 @@ use rules::Chip;
 use rules::plain::smaller;
 
 // The bench, the command half heard, and how many bytes of the answer are to be written now.
-#[derive(Drop)]
+#[derive(Clone, Copy)]
 pub struct Serving {
     pub bench: Bench,
     pub heard: Heard,

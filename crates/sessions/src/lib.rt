@@ -1,11 +1,13 @@
 // The bytes of a session: each is taken as it comes, and what is due then is written before the next one is read. A part of the program `programmer`, safe and
 // ending.
+#![tactic(auto)]
+
 use operating::Bench;
 use rules::Chip;
 use serving::Serving;
 
 // The session, how much of the input is taken, and whether it is over: no byte comes any more, or nobody takes an answer.
-#[derive(Drop)]
+#[derive(Clone, Copy)]
 struct Desk {
     now: Serving,
     taken: usize,

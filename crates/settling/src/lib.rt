@@ -1,4 +1,6 @@
 // The record without its buffer when work ends or is stopped.
+#![tactic(auto)]
+
 ghost use Rattle.std.specs.Prelude.{◌≡◌, false};
 ghost use Rattle.rules.specs.Fields.{with_enable};
 ghost use Rattle.rules.specs.Commands.{after_reset, settled, settled_first, rested, after_cut};

@@ -1,4 +1,6 @@
 // How many bytes of a reply or a dump are shown, and in how many rows. specs/Counts.antt.
+#![tactic(auto)]
+
 ghost use Rattle.std.specs.Prelude.{◌≡◌};
 ghost use Rattle.showing.specs.Counts.{dumped, shown, rows_of, reply_shown, dump_shown, count_of};
 

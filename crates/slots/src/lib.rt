@@ -1,4 +1,6 @@
 // Slots of the station list, as the two buffers of a read show them. Document 02, W-206: crate stations, specs/Slots.
+#![tactic(auto)]
+
 ghost use Rattle.std.specs.Prelude.{◌≡◌, ◌-◌, ◌<◌, ◌≤◌, length};
 ghost use Rattle.stations.specs.Slots.{shown_in, first_from, empty, live, station, live_of, free_slot};
 ghost use Rattle.stations.specs.Calls.{list_size};

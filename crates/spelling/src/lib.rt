@@ -1,10 +1,12 @@
 // The words of a script's line: their bytes, their numbers. specs/Words.antt.
+#![tactic(auto)]
+
 ghost use Rattle.std.specs.Prelude.{◌≡◌, ◌+◌, ◌*◌, ◌%◌, ◌^◌, min, eqb};
 ghost use Rattle.rules.specs.Words.{pick};
 ghost use Rattle.spelling.specs.Words.{blank, line_end, sign, ends_words, digit_of, one_more_lem, tens_of, key_with, no_word, word_with, is_sign, byte_of};
 
 // A word half read; none while its length is 0.
-#[derive(Drop)]
+#[derive(Clone, Copy)]
 pub struct Word {
     // at most 25
     pub length: usize,

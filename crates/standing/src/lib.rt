@@ -1,4 +1,6 @@
 // The bench between two lines of a script: what a line asks for, where a script begins, and where its next line does.
+#![tactic(auto)]
+
 mod deeds;
 
 ghost use Rattle.std.specs.Prelude.{◌≡◌};
@@ -11,7 +13,7 @@ use script::Reading;
 use tallies::Tally;
 
 // What a line asks for.
-#[derive(Drop)]
+#[derive(Clone, Copy)]
 pub enum Deed {
     Nothing,
     Event(Event),
@@ -22,14 +24,14 @@ pub enum Deed {
     Wrong,
 }
 
-#[derive(Drop)]
+#[derive(Clone, Copy)]
 pub enum Event {
     Frame,
     Completion,
     Cut,
 }
 
-#[derive(Drop)]
+#[derive(Clone, Copy)]
 pub enum Setting {
     New,
     Fill,
@@ -42,7 +44,7 @@ pub enum Setting {
     Strict,
 }
 
-#[derive(Drop)]
+#[derive(Clone, Copy)]
 pub enum Question {
     Status,
     Work,
@@ -52,7 +54,7 @@ pub enum Question {
 }
 
 // What is done with a file.
-#[derive(Drop)]
+#[derive(Clone, Copy)]
 pub enum Post {
     Save,
     Load,
@@ -62,7 +64,7 @@ pub enum Post {
 }
 
 // What is done with the station list.
-#[derive(Drop)]
+#[derive(Clone, Copy)]
 pub enum Call {
     Store,
     Find,
@@ -70,7 +72,7 @@ pub enum Call {
 }
 
 // The bench between two lines.
-#[derive(Drop)]
+#[derive(Clone, Copy)]
 pub struct Bench {
     pub chip: Chip,
     pub tally: Tally,
@@ -86,7 +88,7 @@ pub struct Bench {
 }
 
 // The bench, the line half read, and what the last line came to.
-#[derive(Drop)]
+#[derive(Clone, Copy)]
 pub struct Playing {
     pub bench: Bench,
     pub reading: Reading,

@@ -1,5 +1,7 @@
 // The station list for other languages: lookup and store over lent bytes. specs/Boundary.antt says what each gives back and leaves.
 // The caller lends all memory; nothing is kept between calls. An archive of its own, so that the chip's functions stay as they are in theirs.
+#![tactic(auto)]
+
 ghost use Rattle.std.specs.Prelude.{◌≡◌, ◌++◌, length, drop};
 ghost use Rattle.record_code.specs.Layout.{record_size, NothingReserved, code, chip_in};
 ghost use Rattle.stations.specs.Promises.{desk_of};
@@ -10,7 +12,7 @@ use stations::StoreRecord;
 
 // What a store tells: how many polls it made, and its number.
 #[repr(C)]
-#[derive(Drop)]
+#[derive(Clone, Copy)]
 pub struct Stored {
     pub polls: u64,
     pub number: u8,

@@ -13,14 +13,14 @@ use stations::StoreRecord;
 pub type Reply = [u8; 65537];
 
 // The two models' records.
-#[derive(Drop)]
+#[derive(Clone, Copy)]
 pub struct Pair {
     pub first: StoreRecord,
     pub second: Store,
 }
 
 // As much of each memory and buffer as is lent; `bytes` is of the data or of a lookup's buffer.
-#[derive(Drop)]
+#[derive(Clone, Copy)]
 pub struct Lengths {
     pub array: usize,
     pub security: usize,
@@ -30,7 +30,7 @@ pub struct Lengths {
 }
 
 // What a call or an event came to: the records, and in what they differ.
-#[derive(Drop)]
+#[derive(Clone, Copy)]
 pub struct Went {
     pub pair: Pair,
     pub odd: u64,
@@ -246,7 +246,7 @@ fn second_looks(
 }
 
 // What a lookup has to give: nothing that is known, or the data that a byte stands for.
-#[derive(Drop)]
+#[derive(Clone, Copy)]
 pub struct Wanted {
     pub known: bool,
     pub from: u8,
@@ -342,7 +342,7 @@ pub fn looked_up(
 // ---- store
 
 // A storing call: the data by the byte that they count up from.
-#[derive(Drop)]
+#[derive(Clone, Copy)]
 pub struct Call {
     pub station: u16,
     pub from: u8,
@@ -464,7 +464,7 @@ pub fn stored(
 // ---- events between calls
 
 // What happens: 0 a frame, 1 a completion, else a power cut.
-#[derive(Drop)]
+#[derive(Clone, Copy)]
 pub struct Event {
     pub kind: u64,
     pub k: u64,

@@ -1,5 +1,7 @@
 // Chips, station lists and calls that are drawn for the program station_trial, and both models' calls side by side; apart so that they are proved beside other
 // crates, and like it safe and ending, with no contract: that each comparison is made is shown by differences planted for it.
+#![tactic(auto)]
+
 pub mod both;
 pub mod calls;
 pub mod chips;

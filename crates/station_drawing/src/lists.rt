@@ -32,7 +32,7 @@ pub fn data_of(from: u8) -> [u8; 29] {
 }
 
 // A slot: the two bytes of its mark, its number and its data.
-#[derive(Drop)]
+#[derive(Clone, Copy)]
 pub struct Slot {
     pub first: u8,
     pub other: u8,

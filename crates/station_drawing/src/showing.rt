@@ -48,7 +48,7 @@ pub fn has_empty(shown: &[u8]) -> bool {
 }
 
 // A number and polls.
-#[derive(Drop)]
+#[derive(Clone, Copy)]
 pub struct Due {
     pub number: u8,
     pub polls: u64,

@@ -1,4 +1,6 @@
 // The rows of a line that stores a station, finds one or asks for the list. specs/Stations.antt.
+#![tactic(auto)]
+
 mod heads;
 mod listings;
 mod whys;

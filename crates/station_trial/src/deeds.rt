@@ -30,7 +30,7 @@ pub const READS: u64 = 12;
 pub const OUTSIDE: u64 = 13;
 
 // What a kind does not use is 0. A slot is mark, number and data; the same two bytes are what a read shows and its mark.
-#[derive(Drop)]
+#[derive(Clone, Copy)]
 pub struct Deed {
     pub kind: u64,
     // a frame's bytes, and how many

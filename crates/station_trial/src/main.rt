@@ -1,5 +1,7 @@
 // The station list of both models side by side (document 02, W-206): the paper's values; then runs of drawn calls, with events between. Differences planted on one side show
 // that each comparison is made. All numbers come from fixed seeds.
+#![tactic(auto)]
+
 mod deeds;
 mod paper;
 mod planted;

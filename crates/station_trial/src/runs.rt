@@ -27,7 +27,7 @@ fn lookup_counted(counts: &mut Counts, number: u8) {
 // ---- steps of a run
 
 // The number of the run, and of the step in it.
-#[derive(Drop)]
+#[derive(Clone, Copy)]
 struct At {
     run: u64,
     step: u64,

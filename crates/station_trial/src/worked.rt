@@ -11,7 +11,7 @@ use station_drawing::lists::Slot;
 use station_drawing::{both, lists};
 
 // What a step came to.
-#[derive(Drop)]
+#[derive(Clone, Copy)]
 struct Done {
     pair: Pair,
     odd: u64,

@@ -1,8 +1,10 @@
 // Document 02, W-206: the station list. The types; what they mean is in specs/.
+#![tactic(auto)]
+
 use rules::Chip;
 
 // The desk's record: the chip, and the number and the polls of the last call.
-#[derive(Drop)]
+#[derive(Clone, Copy)]
 pub struct StoreRecord {
     pub chip: Chip,
     pub number: u8,

@@ -1,5 +1,7 @@
 // The station list: lookup and store, by value. Document 02, W-206: crate stations, specs/Calls and specs/Promises.
 // All that they do to the chip goes through chip::frame and chip::completion.
+#![tactic(auto)]
+
 mod writes;
 
 ghost use Rattle.std.specs.Prelude.{◌≡◌, ◌&&◌, eqb, length, ◌<◌, ◌≤◌};

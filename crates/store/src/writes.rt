@@ -41,7 +41,7 @@ fn arrived(c: Chip, array: &mut [u8], security: &mut [u8], arrives: bool) -> Chi
 }
 
 // What a poll tells.
-#[derive(Drop)]
+#[derive(Clone, Copy)]
 struct Polled {
     answer: Answer,
     chip: Chip,

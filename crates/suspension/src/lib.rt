@@ -1,4 +1,6 @@
 // Why the suspension rule refused a frame. specs/Suspension.antt.
+#![tactic(auto)]
+
 ghost use Rattle.std.specs.Prelude.{◌≡◌};
 ghost use Rattle.suspension.specs.Suspension.{suspend_why, clause, suspension_why};
 

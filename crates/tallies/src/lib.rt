@@ -1,9 +1,11 @@
 // What a script's last row counts. specs/Tallies.antt.
+#![tactic(auto)]
+
 ghost use Rattle.std.specs.Prelude.{◌≡◌};
 ghost use Rattle.rules.specs.Words.{num};
 ghost use Rattle.tallies.specs.Tallies.{added, untold, after_event, after_unmet, after_wrong, sum_of};
 
-#[derive(Drop)]
+#[derive(Clone, Copy)]
 pub struct Tally {
     pub events: u64,
     pub refused: u64,

@@ -1,4 +1,6 @@
 // What a line stopped, and the byte that it tore. specs/Tears.antt.
+#![tactic(auto)]
+
 ghost use Rattle.std.specs.Prelude.{◌≡◌, ◌+◌, ◌≤◌, ◌<◌};
 ghost use Rattle.tear_rows.specs.Tears.{stops, stopped_row, byte_row, torn_of, unused, torn_row};
 

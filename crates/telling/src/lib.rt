@@ -1,4 +1,6 @@
 // What the player tells of a line: a row of a part; the rows around a script; the words of the command line. specs/.
+#![tactic(auto)]
+
 mod arguments;
 mod parts;
 mod totals;
@@ -8,7 +10,7 @@ pub use parts::row;
 pub use totals::{heading, total, total_of};
 
 // A word of the command line: an option, standard input, or the name of a script.
-#[derive(Drop)]
+#[derive(Clone, Copy)]
 pub enum Argument {
     Strict,
     Prompt,

@@ -23,7 +23,7 @@ pub const OVER: u8 = 5;
 
 pub type Input = [u8; 65536];
 
-#[derive(Drop)]
+#[derive(Clone, Copy)]
 pub struct Feed {
     pub phase: u8,
     // the argument, and the file that it names

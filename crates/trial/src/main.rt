@@ -1,6 +1,8 @@
 // Both models of the bench chip, side by side: the scripts that the arguments name, against what they expect and each other; then random
 // lines of the same language, against each other. A difference in a random run is printed as a script that can be played again.
 // Differences planted in the second model show that each comparison is made.
+#![tactic(auto)]
+
 mod feed;
 mod report;
 
@@ -18,7 +20,7 @@ type Identity = [u8; 2049];
 type Bytes = [u8; 65537];
 
 // The bytes that come, and the two models.
-#[derive(Drop)]
+#[derive(Clone, Copy)]
 struct Trial {
     feed: Feed,
     now: Playing,

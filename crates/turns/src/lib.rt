@@ -1,4 +1,6 @@
 // What an event gives back where the page buffer lies with the caller.
+#![tactic(auto)]
+
 ghost use Rattle.std.specs.Prelude.{◌≡◌};
 
 use rules::{Answer, Refusal, Rest, Turn};

@@ -1,4 +1,6 @@
 // Why a number was given. specs/Why.antt.
+#![tactic(auto)]
+
 ghost use Rattle.std.specs.Prelude.{◌≡◌, true, ◌+◌, ◌^◌, ◌≤◌, ◌<◌, length};
 ghost use Rattle.rules.specs.Words.{pick};
 ghost use Rattle.why.specs.Why.{not_listed_why, length_why, closed_why, why, locks_sentence, numbers_sentence, works_sentence, sentence, malformed_why};

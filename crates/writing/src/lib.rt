@@ -1,9 +1,11 @@
 // Rows of text by value, and what can be put behind them: texts, numbers (specs/Rows.antt).
+#![tactic(auto)]
+
 ghost use Rattle.std.specs.Prelude.{◌≡◌, ◌≤◌};
 ghost use Rattle.writing.specs.Rows.{blank, push, put, blanks, digits, decimal, hex_digit, hex};
 
 // The first `length` bytes of the text are the row.
-#[derive(Drop)]
+#[derive(Clone, Copy)]
 pub struct Row {
     pub text: [u8; 80],
     pub length: usize,
