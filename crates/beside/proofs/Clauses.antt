@@ -1,7 +1,7 @@
 -- The clauses of refusal 8: ranges inside the array, opcodes that go to no block, and nothing suspended. Assumes nothing.
 use Prim.Native.Nat.{ℕ, ◌+◌, ◌≤◌, ◌<◌}
 use mathlib.Core.Path.{◌≡◌, refl, sym, ◌∙◌}
-use mathlib.Core.Bool.{Bool, true, false, not, ◌&&◌, ◌||◌, and_true, and-false}
+use mathlib.Core.Bool.{Bool, true, false, not, ◌&&◌, ◌||◌, and-true, and-false}
 use mathlib.Core.List.{List, [], ◌∷◌}
 use borrow.Author.Tests.{not-true}
 use Rattle.rules.specs.declared.Block.{Block}
@@ -61,4 +61,4 @@ none_beside r o sent e =
     let c = can_suspend r.works.running in
     let t = one_of o (0x30 ∷ []) in
     let w = one_of o (0xC7 ∷ 0x01 ∷ 0x42 ∷ 0x8D ∷ 0xE8 ∷ 0x98 ∷ 0xA5 ∷ 0x85 ∷ []) in
-    rw (nothing r.works.suspended e, and_true c, and_true t, and-false w) (or_three (b && not c || t))
+    rw (nothing r.works.suspended e, and-true c, and-true t, and-false w) (or_three (b && not c || t))

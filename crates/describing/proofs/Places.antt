@@ -4,7 +4,7 @@ use mathlib.Core.Path.{◌≡◌, refl, sym, ap, ◌∙◌}
 use mathlib.Core.Bool.{Bool, true, false}
 use native.Mathlib.Omega.{arith}
 use mathlib.Core.List.{List, [], ◌∷◌}
-use native.Mathlib.Numerals.{add_one}
+use native.Mathlib.Numerals.{add-one}
 use lib.ListN.{length, get_or, drop, drop_of_length-le}
 use lib.Seq.{drop-cons}
 use lib.Dec.{eqb}
@@ -25,7 +25,7 @@ place_here t o i h e =
 pub place_later : (t : List ℕ) (o i : ℕ) → i < length t → (o ≡ get_or t i 0 → ⊥) → i + place_of (drop i t) o ≡ i + 1 + place_of (drop (i + 1) t) o
 place_later t o i h e =
     let z : place_of (drop i t) o ≡ suc (place_of (drop (suc i) t) o) = place_at t o i h ∙ sym (no _ _ (ne_eqb _ _ e) refl) in
-    let k = ap (λ (n : ℕ). place_of (drop n t) o) (add_one i) in
+    let k = ap (λ (n : ℕ). place_of (drop n t) o) (add-one i) in
     omega arith
 
 pub place_none : (t : List ℕ) (o i : ℕ) → length t ≤ i → i + place_of (drop i t) o ≡ i

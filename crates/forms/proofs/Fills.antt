@@ -3,7 +3,7 @@ use Prim.Native.Nat.{ℕ, suc, ◌+◌, ◌≤◌, ◌<◌}
 use mathlib.Core.Path.{◌≡◌, refl, sym, ap, ◌∙◌}
 use mathlib.Core.Bool.{Bool, true}
 use mathlib.Core.List.{List, [], ◌∷◌}
-use native.Mathlib.Numerals.{add_one}
+use native.Mathlib.Numerals.{add-one}
 use lib.ListN.{length, get_or, drop, drop_of_length-le}
 use lib.Seq.{drop-cons}
 use Rattle.forms.specs.declared.Filling.{Filling}
@@ -20,7 +20,7 @@ fills_over f (x ∷ t) e = ap (λ (q : Filling). fills q t) (sym (yes _ _ e refl
 pub fills_next : (f g : Filling) (t : List ℕ) (i : ℕ) → i < length t → g ≡ taken f (get_or t i 0) → fills f (drop i t) ≡ fills g (drop (i + 1) t)
 unfolding fills
 fills_next f g t i h e =
-    ap (fills f) (drop-cons t i 0 h) ∙ ap (λ (q : Filling). fills q (drop (suc i) t)) (sym e) ∙ ap (λ (n : ℕ). fills g (drop n t)) (sym (add_one i))
+    ap (fills f) (drop-cons t i 0 h) ∙ ap (λ (q : Filling). fills q (drop (suc i) t)) (sym e) ∙ ap (λ (n : ℕ). fills g (drop n t)) (sym (add-one i))
 
 -- no byte is left
 pub fills_none : (f : Filling) (t : List ℕ) (i : ℕ) → length t ≤ i → fills f (drop i t) ≡ f

@@ -3,7 +3,7 @@ use Prim.Native.Nat.{ℕ, suc, ◌+◌, ◌-◌, ◌≤◌, ◌<◌, min}
 use mathlib.Core.Path.{◌≡◌, sym, ap, ◌∙◌}
 use mathlib.Core.List.{List, [], ◌∷◌}
 use native.Mathlib.Omega.{arith}
-use native.Mathlib.Numerals.{add_one}
+use native.Mathlib.Numerals.{add-one}
 use native.Mathlib.Decide.{dec_le}
 use lib.ListN.{length, get_or, take, drop, drop_of_length-le}
 use lib.Seq.{drop-cons, take-nil}
@@ -16,7 +16,7 @@ part_next from to l below h =
     let e : to - from ≡ suc (to - (from + 1)) = omega arith in
     ap (λ (n : ℕ). take n (drop from l)) e
     ∙ ap (take (suc (to - (from + 1)))) (drop-cons l from 0 h)
-    ∙ ap (λ (n : ℕ). get_or l from 0 ∷ take (to - (from + 1)) (drop n l)) (sym (add_one from))
+    ∙ ap (λ (n : ℕ). get_or l from 0 ∷ take (to - (from + 1)) (drop n l)) (sym (add-one from))
 
 part_end : (from to : ℕ) (l : List ℕ) → min to (length l) ≤ from → part from to l ≡ []
 part_end from to l h = go (dec_le to from)

@@ -2,7 +2,7 @@
 use Prim.Native.Nat.{ℕ, zero, suc, ◌+◌, ◌*◌, ◌^◌, ◌≤◌, ◌<◌}
 use Prim.Native.String.{String}
 use mathlib.Core.Path.{◌≡◌, refl, sym, ap, ◌∙◌}
-use mathlib.Core.Bool.{Bool, true, false, ◌&&◌, and_true, and_assoc, true≢false}
+use mathlib.Core.Bool.{Bool, true, false, ◌&&◌, and-true, and_assoc, true≢false}
 use mathlib.Core.List.{List, [], ◌∷◌}
 use native.Mathlib.Omega.{arith}
 use native.Mathlib.Nat.{pow-suc, pow-le-pow_right}
@@ -48,7 +48,7 @@ page_sound l n = rw (sound_both, record_sound "PG", sound_test What.PageNumber r
 -- the first of k in a row, from n on: where none is wrong up to n
 pages_sound : (f : ℕ → Fault) (t : ℕ → Bool) (n k : ℕ) → ((i : ℕ) → sound (f i) ≡ t i) → (first_hold t n && sound (first_from f n k)) ≡ first_hold t (n + k)
 unfolding first_from first_hold sound
-pages_sound f t n zero h = let e : n + 0 ≡ n = omega arith in rw e (and_true (first_hold t n))
+pages_sound f t n zero h = let e : n + 0 ≡ n = omega arith in rw e (and-true (first_hold t n))
 pages_sound f t n (suc k) h =
     let e : n + suc k ≡ n + 1 + k = omega arith in
     let s : sound (or_else (f n) (first_from f (n + 1) k)) ≡ (t n && sound (first_from f (n + 1) k)) =

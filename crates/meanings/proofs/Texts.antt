@@ -4,7 +4,7 @@ use mathlib.Core.Path.{◌≡◌, refl, sym, ap, ◌∙◌}
 use mathlib.Core.Bool.{Bool, true, false}
 use mathlib.Core.List.{List, [], ◌∷◌, ◌++◌}
 use native.Mathlib.Omega.{arith}
-use native.Mathlib.Numerals.{add_one}
+use native.Mathlib.Numerals.{add-one}
 use lib.Dec.{ltb}
 use lib.ListN.{length, get_or, set, take, drop, drop_of_length-le}
 use lib.Seq.{take-suc, take_all, take-nil, drop-cons, set-append_seam, append_snoc, length-take-le}
@@ -21,7 +21,7 @@ over_next t l i ht hl =
     ∙ set-append_seam (take i t) (get_or l i 0) (drop (suc i) l) (get_or t i 0)
     ∙ sym (append_snoc (take i t) (get_or t i 0) (drop (suc i) l))
     ∙ ap (λ (xs : List ℕ). xs ++ drop (suc i) l) (sym (take-suc t i 0 ht))
-    ∙ ap (λ (k : ℕ). take k t ++ drop k l) (sym (add_one i))
+    ∙ ap (λ (k : ℕ). take k t ++ drop k l) (sym (add-one i))
 
 -- where either ends, the whole is written
 pub over_end : (t l : List ℕ) (i : ℕ) → i ≤ length t → i ≤ length l → (i < length t → length l ≤ i) → take i t ++ drop i l ≡ over t l

@@ -4,7 +4,7 @@ use mathlib.Core.Path.{◌≡◌, sym, ap, ◌∙◌}
 use mathlib.Core.Bool.{Bool, ◌&&◌}
 use mathlib.Core.List.{List}
 use native.Mathlib.Omega.{arith}
-use native.Mathlib.Numerals.{add_one}
+use native.Mathlib.Numerals.{add-one}
 use lib.Dec.{eqb}
 use lib.ListN.{length, get_or, drop, set, drop_of_length-le}
 use lib.Seq.{drop-cons}
@@ -19,7 +19,7 @@ use Rattle.rules.proofs.Bools.{and_split, and_both, same_test}
 -- nothing differs exactly where nothing did so far and this byte is FF
 pub ff_next : (b : List ℕ) (i x : ℕ) → eqb x 0 ≡ first_ff i b → eqb (bit_or x (bit_xor (get_or b i 0) 255)) 0 ≡ first_ff (i + 1) b
 unfolding first_ff
-ff_next b i x e = rw (add_one i) (both (get_or b i 0) ∙ ap (λ (t : Bool). eqb (get_or b i 0) 255 && t) e)
+ff_next b i x e = rw (add-one i) (both (get_or b i 0) ∙ ap (λ (t : Bool). eqb (get_or b i 0) 255 && t) e)
   where
     both : (y : ℕ) → eqb (bit_or x (bit_xor y 255)) 0 ≡ (eqb y 255 && eqb x 0)
     both y =
@@ -43,7 +43,7 @@ pub fill_next : (b sent : List ℕ) (p i : ℕ) → i < length sent
 unfolding fill
 fill_next b sent p i h =
     ap (fill b p) (drop-cons sent i 0 h)
-    ∙ ap (λ (k : ℕ). fill (set b (p % 256) (get_or sent i 0)) (p + 1) (drop k sent)) (sym (add_one i))
+    ∙ ap (λ (k : ℕ). fill (set b (p % 256) (get_or sent i 0)) (p + 1) (drop k sent)) (sym (add-one i))
 
 pub fill_end : (b sent : List ℕ) (p i : ℕ) → length sent ≤ i → fill b p (drop i sent) ≡ b
 unfolding fill

@@ -4,7 +4,7 @@ use mathlib.Core.Path.{◌≡◌, refl, sym, ap, ◌∙◌}
 use mathlib.Core.Bool.{Bool, true, false, ◌&&◌}
 use mathlib.Core.List.{List}
 use native.Mathlib.Omega.{arith}
-use native.Mathlib.Numerals.{add_one}
+use native.Mathlib.Numerals.{add-one}
 use lib.Dec.{eqb}
 use lib.ListN.{length, get_or}
 use lib.Seq.{ext_get_or}
@@ -25,7 +25,7 @@ replaced l l₀ s n el es p =
 -- one place more
 pub compared_next : (i : ℕ) (f a : List ℕ) → compared (i + 1) f a ≡ differs_at i (get_or f i 0) (get_or a i 0) (compared i f a)
 unfolding compared
-compared_next i f a = rw (add_one i)
+compared_next i f a = rw (add-one i)
 
 -- no more differ than there are
 differs_few : (t u : Bool) (i f a : ℕ) (d : Difference) → d.count ≤ i

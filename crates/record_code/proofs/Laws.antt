@@ -4,7 +4,7 @@ use mathlib.Core.Path.{◌≡◌, refl, sym}
 use mathlib.Core.List.{List, [], ◌∷◌, ◌++◌}
 use native.Mathlib.Nat.{div-lt_iff_lt-mul, pow-suc}
 use native.Mathlib.Omega.{arith}
-use native.Mathlib.Numerals.{add_one}
+use native.Mathlib.Numerals.{add-one}
 use lib.ListN.{length, get_or, take, drop}
 use lib.Seq.{get_or-append-add, drop-cons, drop-drop, drop-length, take-add}
 use Rattle.record_code.specs.Layout.{bytes, number_at}
@@ -35,7 +35,7 @@ bytes_number l small at (suc n) h =
     let v = number_at l (at + 1) n in
     let m : (get_or l at 0 + 256 * v) % 256 ≡ get_or l at 0 = omega arith in
     let d : (get_or l at 0 + 256 * v) / 256 ≡ v = omega arith in
-    rw (drop-cons l at 0 (omega arith), ← add_one at, m, d, bytes_number l small (at + 1) n (omega arith))
+    rw (drop-cons l at 0 (omega arith), ← add-one at, m, d, bytes_number l small (at + 1) n (omega arith))
 
 -- n bytes up to the end that hold 0 are all 0
 pub bytes_none : (l : List ℕ) (at n : ℕ) → length l ≡ at + n → number_at l at n ≡ 0 → drop at l ≡ bytes n 0
@@ -43,7 +43,7 @@ unfolding bytes
 bytes_none l at zero s e = let z : at ≡ length l = omega arith in rw z (drop-length l)
 bytes_none l at (suc n) s e =
     let b : get_or l at 0 ≡ 0 = omega arith in
-    rw (drop-cons l at 0 (omega arith), ← add_one at, b, bytes_none l (at + 1) n (omega arith) (omega arith))
+    rw (drop-cons l at 0 (omega arith), ← add-one at, b, bytes_none l (at + 1) n (omega arith) (omega arith))
 
 -- two parts in a row are one
 pub parts : (l : List ℕ) (at n m : ℕ) → take n (drop at l) ++ take m (drop (at + n) l) ≡ take (n + m) (drop at l)

@@ -1,7 +1,7 @@
 -- The parts of the test of a record, put together. Assumes nothing.
 use Prim.Native.Nat.{ℕ, ◌+◌, ◌^◌, ◌≤◌, ◌<◌, min, max}
 use mathlib.Core.Path.{◌≡◌, sym, ap, ◌∙◌}
-use mathlib.Core.Bool.{Bool, true, false, not, ◌&&◌, ◌||◌, and_true}
+use mathlib.Core.Bool.{Bool, true, false, not, ◌&&◌, ◌||◌, and-true}
 use mathlib.Core.List.{List}
 use native.Mathlib.Omega.{arith}
 use lib.Dec.{ltb}
@@ -86,7 +86,7 @@ pub alone : (p : ℕ) (sec : Bool) (b : List ℕ) (r s : Work) (k u f : Bool) �
     → f ≡ buffer_right r s b → (k && u && f) ≡ works_right p sec b (works_of r s)
 unfolding works_right
 alone p sec b r s k u f hs i e o g =
-    rw (e, o, g, nothing r i, hs, unlocked_nowhere p, and_true (suspended_right_lem s), and_true (suspended_right_lem s), and_true (suspended_right_lem s && unlocked p (array_range s)))
+    rw (e, o, g, nothing r i, hs, unlocked_nowhere p, and-true (suspended_right_lem s), and-true (suspended_right_lem s), and-true (suspended_right_lem s && unlocked p (array_range s)))
 
 pub not_registers : (x y : Bool) (l : Locks) → x ≡ locks_right l → x ≡ false → false ≡ (locks_right l && y)
 not_registers x y l e t = rw (sym e ∙ t)

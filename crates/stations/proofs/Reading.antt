@@ -1,7 +1,7 @@
 -- The call's one read: of the tests of a frame it can fail three, a right record, SPI and idle; done, it shows the list; it uses up the enable or, with 1, changes nothing. Assumes nothing.
 use Prim.Native.Nat.{ℕ, zero, suc, ◌+◌, ◌%◌}
 use mathlib.Core.Path.{◌≡◌, refl, sym, ap, ◌∙◌, fun_ext}
-use mathlib.Core.Bool.{Bool, true, false, not, ◌&&◌, ◌||◌, and_true}
+use mathlib.Core.Bool.{Bool, true, false, not, ◌&&◌, ◌||◌, and-true}
 use mathlib.Core.List.{List, [], ◌∷◌}
 use mathlib.Core.Logic.{◌⊎◌, inl, inr}
 use native.Mathlib.Omega.{arith}
@@ -54,7 +54,7 @@ module _ (s : State) (reply marks : Lent) where
   read_number a b = λ i. pick (sized i) 1 (go s.chip.rest.flags.sqi (busy s.chip.rest) (wse s.chip.rest) (wsp s.chip.rest) i)
     where
       sized : malformed s reads ≡ not (state_right s)
-      sized = rw (a, b) (ap not (and_true (state_right s)))
+      sized = rw (a, b) (ap not (and-true (state_right s)))
 
       go : (q b e p : Bool)
           → ◌≡◌ {A = ℕ} (pick (not (listed q (form_of 0x03))) 3 (pick (not (length_right q (form_of 0x03) 4)) 4 (pick (b && true) 5 (pick (e && false || p && false) 8 0)))) (pick q 3 (pick b 5 0))

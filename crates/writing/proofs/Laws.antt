@@ -4,7 +4,7 @@ use mathlib.Core.Path.{◌≡◌, refl, sym, ap, ◌∙◌}
 use mathlib.Core.Bool.{Bool, true, false}
 use mathlib.Core.List.{List, [], ◌∷◌, ◌++◌}
 use native.Mathlib.Omega.{arith}
-use native.Mathlib.Numerals.{add_one}
+use native.Mathlib.Numerals.{add-one}
 use lib.Dec.{ltb}
 use lib.ListN.{length, get_or, take, replicate, replicate-append-replicate, length-append}
 use lib.Seq.{take-suc}
@@ -33,7 +33,7 @@ nothing_more r = refl
 -- a step of each loop: i + 1 for i
 
 pub text_next : (r q s : Row) (t : List ℕ) (i : ℕ) → i < length t → q ≡ put r (take i t) → s ≡ push q (get_or t i 0) → s ≡ put r (take (i + 1) t)
-text_next r q s t i h e f = then_one r q s (take i t) (get_or t i 0) e f ∙ ap (λ (x : List ℕ). put r x) (sym (take-suc t i 0 h) ∙ ap (λ (k : ℕ). take k t) (sym (add_one i)))
+text_next r q s t i h e f = then_one r q s (take i t) (get_or t i 0) e f ∙ ap (λ (x : List ℕ). put r x) (sym (take-suc t i 0 h) ∙ ap (λ (k : ℕ). take k t) (sym (add-one i)))
 
 pub blanks_next : (r q s : Row) (i : ℕ) → q ≡ put r (blanks i) → s ≡ push q 0x20 → s ≡ put r (blanks (i + 1))
 unfolding blanks

@@ -1,7 +1,7 @@
 -- The bits of the bytes so far are none, and the number of those that are left is 0, exactly where the whole number is 0. Assumes nothing.
 use Prim.Native.Nat.{ℕ, suc, ◌+◌, ◌*◌, ◌-◌, ◌≤◌, ◌<◌}
 use mathlib.Core.Path.{◌≡◌, refl, sym, ◌∙◌}
-use mathlib.Core.Bool.{true, ◌&&◌, and_true}
+use mathlib.Core.Bool.{true, ◌&&◌, and-true}
 use mathlib.Core.List.{List}
 use native.Mathlib.Omega.{arith}
 use lib.Bits.{bit_or, or_add_and, and_le_l, and_le_r}
@@ -65,7 +65,7 @@ loop-again c = let l = c.before.before.loop in
 returns : tie.Need-returns invariant-loop decreases-loop
 returns c = let l = c.before.loop in
     let e : l.i ≡ 320 = omega arith in
-    sym (and_true (eqb l.other 0)) ∙ (rw e at l.invariant.is)
+    sym (and-true (eqb l.other 0)) ∙ (rw e at l.invariant.is)
 
 pub nothing-reserved-spec : {M : Type 1} → statement M
 nothing-reserved-spec =

@@ -1,7 +1,7 @@
 -- The bytes before i agree, or do not. Assumes nothing.
 use Prim.Native.Nat.{◌≤◌, ◌-◌}
 use mathlib.Core.Path.{◌≡◌, refl}
-use native.Mathlib.Numerals.{add_one}
+use native.Mathlib.Numerals.{add-one}
 use lib.ListN.{length}
 use borrow.Author.Tests.{eq-eqb, ne_eqb}
 use Rattle.telling.specs.Arguments.{agree, same}
@@ -38,7 +38,7 @@ loop-less c = search rules
 
 loop-again : tie.Need-loop-preserved invariant-loop decreases-loop
 unfolding agree
-loop-again c = let l = c.before.before.before.loop in record { low = omega arith; is = rw (add_one, l.invariant.is) }
+loop-again c = let l = c.before.before.before.loop in record { low = omega arith; is = rw (add-one, l.invariant.is) }
 
 returns-2 : tie.Need-returns-2 invariant-loop decreases-loop
 unfolding same

@@ -1,0 +1,16 @@
+-- No place below i differs; at the return the place i does, or all are passed. Assumes nothing.
+use mathlib.Core.Path.{sym, ◌∙◌}
+use borrow.Author.Count.{below_more}
+use borrow.Author.Rules.{rules}
+use native.Mathlib.Omega.{arith}
+use Prim.Native.Nat.{ℕ, ◌≤◌, ◌<◌, ◌-◌}
+use mathlib.Core.Path.{◌≡◌}
+use mathlib.Core.Bool.{false}
+use Rattle.expecting.specs.Expectations.{differs}
+use Rattle.expecting.proofs.first_difference.Given as goal
+
+abbrev pub invariant-loop-i : goal.invariant-loop-i
+invariant-loop-i l = record { low : l.i ≤ l.n; before : (k : ℕ) → k < l.i → differs l.reply l.marks l.expected l.known k ≡ false }
+
+abbrev pub decreases-loop-i : goal.decreases-loop-i
+decreases-loop-i l = l.n - l.i

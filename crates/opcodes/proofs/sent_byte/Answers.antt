@@ -1,0 +1,15 @@
+-- A byte of the slice is below 256; past its end a frame counts as 0. Assumes nothing.
+use mathlib.Core.Path.{refl, sym}
+use native.Mathlib.Omega.{arith}
+use borrow.Author.Rules.{rules}
+use Rattle.rules.proofs.Rows.{sent_past}
+use Rattle.opcodes.proofs.sent_byte.Goals as goal
+
+pub overflow_cast-result : goal.overflow_cast-result
+overflow_cast-result c = let b = c.shared_slice_known-1.given c.args.i in omega arith
+
+pub returns-then-i-sent : goal.returns-then-i-sent
+returns-then-i-sent c = (refl, (let b = c.shared_slice_known-1.given c.args.i in omega arith))
+
+pub returns-else-i-sent : goal.returns-else-i-sent
+returns-else-i-sent c = (sym (sent_past c.args.sent.now c.args.i c.if-i-sent.false), omega arith)

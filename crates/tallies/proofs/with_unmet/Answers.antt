@@ -1,0 +1,6 @@
+-- The differences alone. Assumes nothing.
+use borrow.Author.Rules.{rules}
+use Rattle.tallies.proofs.with_unmet.Goals as goal
+
+pub returns : goal.returns
+returns c = rw c.plus.ensures
