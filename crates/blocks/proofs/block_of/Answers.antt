@@ -4,6 +4,36 @@ use Rattle.blocks.proofs.Shape.{Counted, at_bottom, at_low, at_middle, at_high, 
 use borrow.Author.Rules.{rules}
 use Rattle.blocks.proofs.block_of.Goals as goal
 
+pub overflow_sub-result : goal.overflow_sub-result
+overflow_sub-result c = (bottom c).from
+
+pub nonzero_div-result : goal.nonzero_div-result
+nonzero_div-result c = (bottom c).some
+
+pub overflow_sub-result-then-a-low : goal.overflow_sub-result-then-a-low
+overflow_sub-result-then-a-low c = (bottom c).most
+
+pub returns-then-a-low : goal.returns-then-a-low
+returns-then-a-low c = (bottom c).is
+
+pub nonzero_div-result-then-a-high : goal.nonzero_div-result-then-a-high
+nonzero_div-result-then-a-high c = (middle c).some
+
+pub overflow_sub-result-then-a-high-2 : goal.overflow_sub-result-then-a-high-2
+overflow_sub-result-then-a-high-2 c = (middle c).most
+
+pub returns-then-a-high : goal.returns-then-a-high
+returns-then-a-high c = (middle c).is
+
+pub nonzero_div-result-2 : goal.nonzero_div-result-2
+nonzero_div-result-2 c = (top c).some
+
+pub overflow_sub-result-3 : goal.overflow_sub-result-3
+overflow_sub-result-3 c = (top c).most
+
+pub returns : goal.returns
+returns c = (top c).is
+
 bottom : (c : lts.After-block-at2 (block-at-reads.Asked, block-at-reads.Learnt) reads.Pre reads.Post) → Counted 7 c.before.before.before.before.args.a c.block-at2.result
 bottom c =
     let t = c.before in

@@ -18,12 +18,12 @@ loop-i-init c = record { low = omega arith; before = λ k h. absurd (omega arith
 pub returns-then-unheld : goal.returns-then-unheld
 unfolding unheld
 returns-then-unheld c = let a = c.args in
-    record { within = omega arith; before = c.loop-i.invariant; there = λ h. rw (ne_eqb a.count 0 c.if-count-eq0.false) (sym c.unheld.ensures ∙ c.if-unheld.true) }
+    record { within = omega arith; before = c.loop-i.invariant.before; there = λ h. rw (ne_eqb a.count 0 c.if-count-eq0.false) (sym c.unheld.ensures ∙ c.if-unheld.true) }
 
 pub loop-i-preserved : goal.loop-i-preserved
 unfolding unheld
 loop-i-preserved c = let a = c.args in
-    record { low = omega arith; before = below_more _ _ c.loop-i.invariant (rw (ne_eqb a.count 0 c.if-count-eq0.false) (sym c.unheld.ensures ∙ c.if-unheld.false)) }
+    record { low = omega arith; before = below_more _ _ c.loop-i.invariant.before (rw (ne_eqb a.count 0 c.if-count-eq0.false) (sym c.unheld.ensures ∙ c.if-unheld.false)) }
 
 pub returns : goal.returns
-returns c = record { within = omega arith; before = λ k h. c.loop-i.invariant k (omega arith); there = λ h. absurd (omega arith) }
+returns c = record { within = omega arith; before = λ k h. c.loop-i.invariant.before k (omega arith); there = λ h. absurd (omega arith) }

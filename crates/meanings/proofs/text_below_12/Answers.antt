@@ -7,15 +7,15 @@ use Rattle.meanings.proofs.text_below_12.Goals as goal
 
 pub returns-in-8 : goal.returns-in-8
 unfolding meaning
-returns-in-8 c = let m = c in put m.args.number 8 _ _ _ _ m.in_default.keys1 refl c.put_text.ensures
+returns-in-8 c = let m = c in put m.args.number 8 _ _ _ _ m.in-8.is refl c.put_text.ensures
 
 pub returns-in-9 : goal.returns-in-9
 unfolding meaning
-returns-in-9 c = let m = c in put m.args.number 9 _ _ _ _ m.in_default.keys2 refl c.put_text-in-9.ensures
+returns-in-9 c = let m = c in put m.args.number 9 _ _ _ _ m.in-9.is refl c.put_text-in-9.ensures
 
 pub returns-in-10 : goal.returns-in-10
 unfolding meaning
-returns-in-10 c = let m = c in put m.args.number 10 _ _ _ _ m.in_default.keys3 refl c.put_text-in-10.ensures
+returns-in-10 c = let m = c in put m.args.number 10 _ _ _ _ m.in-10.is refl c.put_text-in-10.ensures
 
 pub returns-in_default : goal.returns-in_default
 unfolding meaning

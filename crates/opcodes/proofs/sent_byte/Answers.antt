@@ -7,9 +7,3 @@ use Rattle.opcodes.proofs.sent_byte.Goals as goal
 
 pub overflow_cast-result : goal.overflow_cast-result
 overflow_cast-result c = let b = c.shared_slice_known-1.given c.args.i in omega arith
-
-pub returns-then-i-sent : goal.returns-then-i-sent
-returns-then-i-sent c = (refl, (let b = c.shared_slice_known-1.given c.args.i in omega arith))
-
-pub returns-else-i-sent : goal.returns-else-i-sent
-returns-else-i-sent c = (sym (sent_past c.args.sent.now c.args.i c.if-i-sent.false), omega arith)

@@ -3,10 +3,6 @@ use Rattle.serprog.proofs.Laws.{shown_sibling, shown_same}
 use borrow.Author.Rules.{rules}
 use Rattle.serprog.proofs.showing.show.Goals as goal
 
-pub returns-then-is_disguised : goal.returns-then-is_disguised
-returns-then-is_disguised c = let a = c.args in
-    shown_sibling a.reply.now c.is_disguised.result a.disguise a.done a.op c.is_disguised.ensures c.to_sibling.new.0 c.if-is_disguised.true c.to_sibling.ensures
-
 pub returns-else-is_disguised : goal.returns-else-is_disguised
 returns-else-is_disguised c = let a = c.args in
     shown_same a.reply.now c.is_disguised.result a.disguise a.done a.op c.is_disguised.ensures c.if-is_disguised.false
