@@ -4,6 +4,7 @@ use Prim.Native.Nat.{ℕ}
 use mathlib.Core.Path.{◌≡◌, sym, ◌∙◌}
 use mathlib.Core.Bool.{Bool}
 use mathlib.Core.List.{List}
+use denote.MutBor.{MutBor}
 use denote.Ref.{Bor}
 use Rattle.rules.specs.declared.Rest.{Rest}
 use Rattle.rules.specs.declared.Works.{Works}
@@ -21,10 +22,10 @@ is_code_one κ a x y r r' p q = p ∙ sym q
 pub rest_in_one : (κ : List ℕ × Unit {0}) (a x y : Bor (List ℕ) × Unit {0}) (r r' : Rest) → rest_in.Post κ a r x → rest_in.Post κ a r' y → r ≡ r'
 rest_in_one κ a x y r r' p q = p ∙ sym q
 
-pub put_rest_one : (κ : List ℕ × Unit {0}) (a x y : Bor (List ℕ) × (Rest × Unit {0})) → put_rest.Post κ a tt x → put_rest.Post κ a tt y → x.0.now ≡ y.0.now
+pub put_rest_one : (κ : List ℕ × Unit {0}) (a x y : MutBor (List ℕ) × (Rest × Unit {0})) → put_rest.Post κ a tt x → put_rest.Post κ a tt y → x.0.now ≡ y.0.now
 put_rest_one κ a x y p q = p ∙ sym q
 
-pub put_idle_one : (κ : List ℕ × Unit {0}) (a x y : Bor (List ℕ) × (Rest × Unit {0})) → put-idle.Post κ a tt x → put-idle.Post κ a tt y → x.0.now ≡ y.0.now
+pub put_idle_one : (κ : List ℕ × Unit {0}) (a x y : MutBor (List ℕ) × (Rest × Unit {0})) → put-idle.Post κ a tt x → put-idle.Post κ a tt y → x.0.now ≡ y.0.now
 put_idle_one κ a x y p q = p ∙ sym q
 
 pub is_idle_one : (κ : List ℕ × Unit {0}) (a x y : Bor (List ℕ) × Unit {0}) (r r' : Bool) → is-idle.Post κ a r x → is-idle.Post κ a r' y → r ≡ r'

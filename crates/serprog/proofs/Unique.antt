@@ -4,7 +4,7 @@ use Prim.Native.Nat.{ℕ}
 use mathlib.Core.Path.{◌≡◌}
 use mathlib.Core.Bool.{Bool}
 use mathlib.Core.List.{List}
-use denote.Ref.{Bor}
+use denote.MutBor.{MutBor}
 use Rattle.rules.proofs.Promises.{one, lent_one}
 use Rattle.rules.proofs.Outcomes.{OneResult}
 use Rattle.serprog.proofs.commands.shape_of.Reads as shape_of
@@ -25,6 +25,6 @@ length_of_one κ a x y r r' p q = one p q
 pub lengths_fit_one : OneResult lengths-fit.Post
 lengths_fit_one κ a x y r r' p q = one p q
 
-pub show_one : (κ : List ℕ × Unit {0}) (a x y : Bool × (Bool × (ℕ × (Bor (List ℕ) × Unit {0})))) → show.Post κ a tt x → show.Post κ a tt y
+pub show_one : (κ : List ℕ × Unit {0}) (a x y : Bool × (Bool × (ℕ × (MutBor (List ℕ) × Unit {0})))) → show.Post κ a tt x → show.Post κ a tt y
     → x.1.1.1.0.now ≡ y.1.1.1.0.now
 show_one κ a x y p q = lent_one _ _ (one p q)

@@ -4,6 +4,7 @@ use Rattle.rules.specs.declared.Block.{Block}
 use Rattle.blocks.proofs.Grouped.{no_array}
 use Rattle.blocks.proofs.Ranges.{sector_number, block_number, page_number, unlocked_sector, unlocked_page, unlocked_block, unlocked_array, unlocked_none}
 use Rattle.rules.proofs.Blocks.{block_placed}
+use borrow.Enum.Refused.{opened}
 use native.Mathlib.Omega.{arith}
 use borrow.Author.Rules.{rules}
 use Rattle.blocks.proofs.is_unlocked.Goals as goal
@@ -45,4 +46,4 @@ returns-in-ProgramPage c = let a = c in
     unlocked_page a.args.p _ a.args.w _ c.in-ProgramPage.is a.requires.0 c.write_locked-in-ProgramPage.ensures
 
 pub returns-in_default : goal.returns-in_default
-returns-in_default c = unlocked_none c.args.p c.args.w (no_array c.args.w c.in-EraseSector.in-EraseSector-own.keys5)
+returns-in_default c = unlocked_none c.args.p c.args.w (no_array c.args.w (opened c.in_default.in_default-own.keys5))

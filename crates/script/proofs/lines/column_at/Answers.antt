@@ -1,0 +1,6 @@
+-- The test picks the column. Assumes nothing.
+use borrow.Author.Rules.{rules}
+use Rattle.script.proofs.lines.column_at.Goals as goal
+
+pub returns-then-goes : goal.returns-then-goes
+returns-then-goes c = rw c.if-goes.true c.one_more.ensures
