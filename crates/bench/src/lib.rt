@@ -35,16 +35,14 @@ fn new_of(ba: bool, bytes: &mut [u8]) -> u8
 }
 
 // A new chip's record: a BA.
-#[unsafe(no_mangle)]
-pub extern "C" fn fulkibono_new(bytes: &mut [u8]) -> u8
+pub fn fulkibono_new(bytes: &mut [u8]) -> u8
     ensures { NewPromise true bytes.old result bytes.new }
 {
     new_of(true, bytes)
 }
 
 // Of the old part.
-#[unsafe(no_mangle)]
-pub extern "C" fn fulkibono_new_old(bytes: &mut [u8]) -> u8
+pub fn fulkibono_new_old(bytes: &mut [u8]) -> u8
     ensures { NewPromise false bytes.old result bytes.new }
 {
     new_of(false, bytes)
@@ -141,8 +139,7 @@ fn event(
 }
 
 // A frame: the bytes sent while CE# is low, the two reply buffers, and where a reset tears what runs.
-#[unsafe(no_mangle)]
-pub extern "C" fn fulkibono_frame(
+pub fn fulkibono_frame(
     bytes: &mut [u8],
     array: &mut [u8],
     security: &mut [u8],
@@ -157,8 +154,7 @@ pub extern "C" fn fulkibono_frame(
 }
 
 // The running operation ends.
-#[unsafe(no_mangle)]
-pub extern "C" fn fulkibono_completion(
+pub fn fulkibono_completion(
     bytes: &mut [u8],
     array: &mut [u8],
     security: &mut [u8],
@@ -178,8 +174,7 @@ pub extern "C" fn fulkibono_completion(
 }
 
 // A power cut in the middle of the running operation.
-#[unsafe(no_mangle)]
-pub extern "C" fn fulkibono_power_cut(
+pub fn fulkibono_power_cut(
     bytes: &mut [u8],
     array: &mut [u8],
     security: &mut [u8],
@@ -257,8 +252,7 @@ fn is_record(bytes: &[u8], file: &mut [u8]) -> bool
 }
 
 // A whole idle chip as a file, into a lent buffer.
-#[unsafe(no_mangle)]
-pub extern "C" fn fulkibono_image_write(
+pub fn fulkibono_image_write(
     bytes: &[u8],
     array: &[u8],
     security: &[u8],
@@ -290,8 +284,7 @@ fn put_idle(bytes: &mut [u8], r: Rest)
 }
 
 // The chip in a file, in place of another. What is replaced is not judged: any bytes, as many as a record has.
-#[unsafe(no_mangle)]
-pub extern "C" fn fulkibono_image_read(
+pub fn fulkibono_image_read(
     file: &[u8],
     bytes: &mut [u8],
     array: &mut [u8],
@@ -317,8 +310,7 @@ pub extern "C" fn fulkibono_image_read(
 // ---- what a number means
 
 // The text of a number; a number above 18 has none.
-#[unsafe(no_mangle)]
-pub extern "C" fn fulkibono_meaning(number: u8, text: &mut [u8]) -> usize
+pub fn fulkibono_meaning(number: u8, text: &mut [u8]) -> usize
     ensures { MeaningBytes number text.old result text.new }
 {
     meanings::meaning(number, text)

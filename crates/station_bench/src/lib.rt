@@ -50,8 +50,7 @@ fn put_chip(bytes: &mut [u8], c: Chip)
 }
 
 // The data of a station, into the lent buffer.
-#[unsafe(no_mangle)]
-pub extern "C" fn fulkibono_station_find(
+pub fn fulkibono_station_find(
     bytes: &mut [u8],
     array: &mut [u8],
     security: &mut [u8],
@@ -78,8 +77,7 @@ pub extern "C" fn fulkibono_station_find(
 }
 
 // The data of a station, onto the list.
-#[unsafe(no_mangle)]
-pub extern "C" fn fulkibono_station_store(
+pub fn fulkibono_station_store(
     bytes: &mut [u8],
     array: &mut [u8],
     security: &mut [u8],

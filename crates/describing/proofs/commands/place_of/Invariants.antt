@@ -1,0 +1,15 @@
+-- Before i the byte is none of the table's. Assumes nothing.
+use Prim.Native.Nat.{ℕ, ◌≤◌, ◌-◌, ◌+◌}
+use mathlib.Core.Path.{◌≡◌, refl, sym, ap, ◌∙◌}
+use lib.ListN.{length, drop}
+use Rattle.describing.specs.Commands.{place_of}
+use Rattle.describing.proofs.Places.{place_here, place_later, place_none}
+use borrow.Author.Rules.{rules}
+use native.Mathlib.Omega.{arith}
+use Rattle.describing.proofs.commands.place_of.Given as goal
+
+abbrev pub invariant-loop-i : goal.invariant-loop-i
+invariant-loop-i l = record { low : l.i ≤ length l.table; is : place_of l.table l.op ≡ l.i + place_of (drop l.i l.table) l.op }
+
+abbrev pub decreases-loop-i : goal.decreases-loop-i
+decreases-loop-i l = length l.table - l.i

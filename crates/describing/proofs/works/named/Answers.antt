@@ -1,0 +1,8 @@
+-- By its form. Assumes nothing.
+use Rattle.describing.specs.Works.{work}
+use borrow.Author.Rules.{rules}
+use Rattle.describing.proofs.works.named.Goals as goal
+
+pub returns : goal.returns
+unfolding work
+returns c = c.form.ensures

@@ -1,0 +1,36 @@
+use Prim.Native.Nat.{ℕ, ◌≤◌, ◌-◌, ◌+◌}
+use mathlib.Core.Path.{◌≡◌, sym}
+use lib.ListN.{length, get_or}
+use Rattle.memory.specs.Patched.{Patched}
+use Rattle.memory.proofs.Patched.{patched_none, patched_more}
+use borrow.Author.Rules.{rules}
+use native.Mathlib.Omega.{arith}
+use Rattle.memory.proofs.copy_up.Goals as goal
+
+pub loop-i-init : goal.loop-i-init
+loop-i-init c = record { low = omega arith; short = c.requires.0; fits = c.requires.1; is = patched_none _ _ _ }
+
+pub bounds-s-i : goal.bounds-s-i
+bounds-s-i c = let h = c.loop-i.invariant.is.size in omega arith
+
+pub bounds-s-to : goal.bounds-s-to
+bounds-s-to c = let h = c.loop-i.invariant.is.size in omega arith
+
+pub loop-i-smaller : goal.loop-i-smaller
+loop-i-smaller c = omega arith
+
+pub loop-i-preserved : goal.loop-i-preserved
+loop-i-preserved c = let l = c.loop-i in
+    let a = c.args in
+    record {
+      low = omega arith;
+      short = l.invariant.short;
+      fits = l.invariant.fits;
+      is = patched_more l.s a.s.now a.to l.i _ (λ k. get_or a.s.now k 0) l.invariant.is (omega arith) (l.invariant.is.before l.i (omega arith));
+    }
+
+pub shape_of-s : goal.shape_of-s
+shape_of-s c = c.loop-i.invariant.is.size
+
+pub returns : goal.returns
+returns c = let e : c.loop-i.i ≡ c.args.n = omega arith in rw (sym e) c.loop-i.invariant.is
