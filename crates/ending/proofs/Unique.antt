@@ -4,7 +4,7 @@ use Prim.Native.Nat.{ℕ}
 use mathlib.Core.Path.{◌≡◌}
 use mathlib.Core.Bool.{Bool}
 use mathlib.Core.List.{List, []}
-use denote.Ref.{Bor}
+use denote.MutBor.{MutBor}
 use Rattle.rules.specs.declared.Rest.{Rest}
 use Rattle.rules.specs.declared.Tear.{Tear}
 use Rattle.rules.specs.declared.Turn.{Turn}
@@ -14,7 +14,7 @@ use Rattle.ending.proofs.completion_turn.Reads as completion-turn
 use Rattle.ending.proofs.cut_turn.Reads as cut-turn
 
 abbrev Slice : Type 0
-Slice = Bor (List ℕ)
+Slice = MutBor (List ℕ)
 
 module _ (κ : List ℕ × (List ℕ × (List ℕ × Unit {0}))) (a x y : Bool × (Rest × (Slice × (Slice × (Slice × Unit {0}))))) (r s : Turn) where
   pub completion_turn_one : completion-turn.Post κ a r x → completion-turn.Post κ a s y

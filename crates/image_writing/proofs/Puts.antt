@@ -9,7 +9,7 @@ use lib.Seq.{paste, take-paste, take_all}
 use Rattle.rules.specs.declared.Rest.{Rest}
 use Rattle.rules.specs.Texts.{ascii}
 use Rattle.rules.specs.Blocks.{security_size_lem}
-use Rattle.rules.specs.Bursts.{burst_byte, last_burst}
+use Rattle.rules.specs.Bursts.{burst_byte}
 use Rattle.rules.specs.Fields.{flags_number}
 use Rattle.rules.proofs.Fields.{flags_back, burst_back}
 use Rattle.image.specs.Form.{high_first, sum, record_of, registers, file_size_lem}

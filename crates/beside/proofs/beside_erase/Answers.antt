@@ -1,6 +1,4 @@
 -- Nothing to refuse, or the clause's tests. Assumes nothing.
-use mathlib.Core.Path.{sym, ◌∙◌}
-use borrow.Author.Tests.{not-false}
 use Rattle.beside.proofs.Clauses.{found_inside, other_kind_lem}
 use borrow.Author.Rules.{rules}
 use Rattle.beside.proofs.beside_erase.Goals as goal

@@ -15,4 +15,4 @@ returns-then-op-eq199 c = record { value = yes _ _ (eq-eqb _ _ c.if-op-eq199.tru
 
 pub returns : goal.returns
 unfolding locked_block
-returns c = record { value = no _ _ (ne_eqb _ _ c.if-op-eq199.false) (c.Block-of.ensures ∙ ap block_of c.address_of.ensures.value); inside = rw c.Block-of.ensures (block_of_lt _ c.address_of.ensures.inside) }
+returns c = record { value = no _ _ (ne_eqb _ _ c.if-op-eq199.false) (c.block_of.ensures ∙ ap block_of c.address_of.ensures.value); inside = rw c.block_of.ensures (block_of_lt _ c.address_of.ensures.inside) }

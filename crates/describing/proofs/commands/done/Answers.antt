@@ -19,8 +19,8 @@ returns-then-sort-eq2 c = yes _ _ (ap (λ (n : ℕ). eqb n 2) (sym c.sort.ensure
 
 pub returns-then-on_row : goal.returns-then-on_row
 unfolding done_on
-returns-then-on_row c = no _ _ (ap (λ (n : ℕ). eqb n 2) (sym c.sort.ensures) ∙ ne_eqb _ _ c.if-sort-eq2.false) (yes _ _ (sym c.on_Row.ensures ∙ c.if-on_row.true) (c.marked_bytes.ensures ∙ ap (λ (r : Row). put r (part c.args.reply.now c.args.marks.now 0 8)) c.form-r.ensures))
+returns-then-on_row c = no _ _ (ap (λ (n : ℕ). eqb n 2) (sym c.sort.ensures) ∙ ne_eqb _ _ c.if-sort-eq2.false) (yes _ _ (sym c.on_row.ensures ∙ c.if-on_row.true) (c.marked_bytes.ensures ∙ ap (λ (r : Row). put r (part c.args.reply.now c.args.marks.now 0 8)) c.form-r.ensures))
 
 pub returns : goal.returns
 unfolding done_on
-returns c = no _ _ (ap (λ (n : ℕ). eqb n 2) (sym c.sort.ensures) ∙ ne_eqb _ _ c.if-sort-eq2.false) (no _ _ (sym c.on_Row.ensures ∙ c.if-on_row.false) c.form-2.ensures)
+returns c = no _ _ (ap (λ (n : ℕ). eqb n 2) (sym c.sort.ensures) ∙ ne_eqb _ _ c.if-sort-eq2.false) (no _ _ (sym c.on_row.ensures ∙ c.if-on_row.false) c.form-2.ensures)
