@@ -9,14 +9,7 @@ machine=$(uname -m)
 library=${FULKIBONO_OBJECT:-target/staticlib/libbench.a}
 stations=${FULKIBONO_STATIONS:-target/staticlib/libstation_bench.a}
 
-# built NAME ARCHIVE: the archive, of crates that are not newer
-built() {
-    if [ ! -f "$2" ] || [ -n "$(find crates crates.txt -type f -newer "$2" | head -n 1)" ]; then
-        rt staticlib "$1" >target/staticlib.log 2>&1 || { cat target/staticlib.log; exit 1; }
-        touch "$2"
-    fi
-}
-if [ -z "${FULKIBONO_OBJECT:-}" ]; then built bench "$library"; fi
+if [ -z "${FULKIBONO_OBJECT:-}" ]; then tests/library bench; fi
 
 # what a program links that calls the station list
 with_stations() {
@@ -24,7 +17,7 @@ with_stations() {
         echo "FULKIBONO_OBJECT names the chip compiled for this processor; name the station list so too, by FULKIBONO_STATIONS" >&2
         exit 2
     fi
-    if [ -z "${FULKIBONO_STATIONS:-}" ]; then built station_bench "$stations"; fi
+    if [ -z "${FULKIBONO_STATIONS:-}" ]; then tests/library station_bench; fi
     also="${also:-} $stations"
 }
 

@@ -1,4 +1,4 @@
-// Links the two archives that `rt staticlib bench` and `rt staticlib station_bench` wrote, from the folder that examples/rust/run names.
+// Links the two archives that `tests/library bench` and `tests/library station_bench` wrote, from the folder that examples/rust/run names.
 fn main() {
     println!("cargo:rerun-if-env-changed=FULKIBONO_LIBRARY_DIR");
     let dir = std::env::var("FULKIBONO_LIBRARY_DIR").expect("run examples/rust/run, which sets FULKIBONO_LIBRARY_DIR");

@@ -10,7 +10,7 @@ port=${FULKIBONO_PORT:-14747}
 known='SST26VF016B(A)'
 rm -rf "$out"
 mkdir -p "$out"
-rt check programmer >"$out/check.txt" 2>&1 || { cat "$out/check.txt"; exit 1; }
+tests/program programmer >"$out/check.txt" 2>&1 || { cat "$out/check.txt"; exit 1; }
 
 # the program is code for x86-64; on another processor the kit's emulator runs it
 words=$root/target/bin/programmer

@@ -1,0 +1,10 @@
+-- The form and the bytes. Assumes nothing.
+use mathlib.Core.Path.{refl, sym, ap, ◌∙◌}
+use Rattle.writing.specs.declared.Row.{Row}
+use Rattle.writing.specs.Rows.{put, blanks}
+use Rattle.byte_text.specs.Bytes.{bytes, within, letters, part}
+use borrow.Author.Rules.{rules}
+use Rattle.rows.proofs.events.expected.Goals as goal
+
+pub returns : goal.returns
+returns c = c.marked_bytes.ensures ∙ ap (λ (r : Row). put r (part c.args.expected.now c.args.known.now c.args.place 8)) c.below-r.ensures

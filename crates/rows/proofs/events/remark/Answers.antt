@@ -1,0 +1,11 @@
+-- The form and the bytes. Assumes nothing.
+use mathlib.Core.Path.{refl, sym, ap, ◌∙◌}
+use Rattle.writing.specs.declared.Row.{Row}
+use Rattle.writing.specs.Rows.{put, blanks}
+use Rattle.byte_text.specs.Bytes.{bytes, within, letters, part}
+use lib.ListN.{length}
+use borrow.Author.Rules.{rules}
+use Rattle.rows.proofs.events.remark.Goals as goal
+
+pub returns : goal.returns
+returns c = c.printed_bytes.ensures ∙ ap (λ (r : Row). put r (letters c.args.text.now c.args.from (within (length c.args.text.now) c.args.from 79))) c.plain-r.ensures
