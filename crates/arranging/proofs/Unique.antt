@@ -1,7 +1,6 @@
 -- No second outcome: whatever meets the guarantee of a public function of this crate at the same input is the same result and the same lent memory.
 -- Equations; a slice is the only one with its memory. Assumes nothing.
 use Prim.Native.Nat.{ℕ}
-use mathlib.Core.Path.{◌≡◌}
 use mathlib.Core.List.{List}
 use Rattle.rules.proofs.Promises.{one, lent_one}
 use Rattle.rules.proofs.Outcomes.{OneOutcome}

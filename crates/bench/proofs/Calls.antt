@@ -23,7 +23,7 @@ use Rattle.rules.proofs.Runs.{demand_2}
 use Rattle.rules.proofs.Tears.{reset_99}
 use Rattle.record_code.specs.Layout.{record_size, rest_code, code, is_code, NothingReserved, rest_in, chip_in}
 use Rattle.record_code.proofs.Faithful.{code_of, chip_in_lem, known_length, known_reserved, reserved_kept}
-use Rattle.chip.specs.declared.turns.Event.{Event}
+use Rattle.chip.specs.declared.events.Event.{Event}
 use Rattle.chip.specs.Turns.{call_of, LentFor, cutting, resetting, stop_call, StoppedWith, Stoppable}
 use Rattle.bench.specs.Images.{idle_of}
 use Rattle.bench.specs.Boundary.{LentBench, Came, came_of, untouched, StopAsked, seen_of, coded, called, CallPromise, new_bytes, NewPromise}

@@ -1,13 +1,12 @@
 -- A chip as a file, over bytes: what the two functions give back is as promised, and each undoes the other. Assumes nothing.
-use Prim.Native.Nat.{ℕ, ◌^◌, ◌<◌}
+use Prim.Native.Nat.{ℕ, ◌<◌}
 use mathlib.Core.Path.{◌≡◌, refl, sym, ap, ◌∙◌}
 use mathlib.Core.Bool.{Bool, true, false, not, ◌&&◌, ◌||◌, beq}
 use mathlib.Core.List.{List, ◌++◌}
 use native.Mathlib.Omega.{arith}
 use lib.Dec.{eqb, ltb, leb, lit<}
 use lib.ListN.{length, take, drop}
-use lib.Seq.{take_at}
-use borrow.Author.Tests.{eq-eqb, ne_eqb, eqb-true, ltb-true, not-true, not-false}
+use borrow.Author.Tests.{eq-eqb, ne_eqb, ltb-true, not-true, not-false}
 use Rattle.rules.specs.declared.Chip.{Chip}
 use Rattle.rules.specs.declared.Rest.{Rest}
 use Rattle.rules.specs.Words.{pick}
@@ -21,7 +20,6 @@ use Rattle.rules.specs.Commands.{new_chip}
 use Rattle.rules.proofs.Bools.{and_split, same_flag, upto_at}
 use Rattle.rules.proofs.WellFormed.{well_of}
 use Rattle.numbering.specs.Numbering.{work_right, work_of}
-use Rattle.image.specs.declared.Posted.{Posted}
 use Rattle.image.specs.declared.Received.{Received}
 use Rattle.image.specs.Form.{record_of, registers, page_record, joined, file_of}
 use Rattle.image.specs.Files.{right, rest_in, chip_in, array_in, security_in}
@@ -32,11 +30,10 @@ use Rattle.image.proofs.Given.{sizes_right_lem, writing_gives, reading_gives, re
 use Rattle.image.proofs.Laws.{reading_gives_back, writing_gives_the_same}
 use Rattle.record_code.specs.Layout as layout
 use Rattle.record_code.specs.Layout.{record_size, field_in, rest_code, code, is_code, NothingReserved, decode, Typed}
-use Rattle.record_code.proofs.Faithful.{code_of, chip_in_lem, known_length, known_reserved, code_length, code_known, decode_code, code_decode}
+use Rattle.record_code.proofs.Faithful.{chip_in_lem, known_length, decode_code, code_decode}
 use Rattle.bench.specs.Refusals.{OfBytes}
 use Rattle.bench.specs.Images.{idle_of, image_written, WriteImagePromise, ImageRead, image_read_of, replaced, image_read, ReadImagePromise, ReadingGivesBackBytes, WritingGivesTheSameBytes, RefusalsLeaveTheBuffer, RefusalsLeaveTheChip}
 use Rattle.bench.proofs.Calls.{page_size, rest_put}
-use Rattle.bench.proofs.Typed.{new_typed}
 
 -- ---- writing
 

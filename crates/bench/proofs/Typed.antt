@@ -1,6 +1,6 @@
 -- Records that 320 bytes can hold: numbers of 64 bits, and a page of 256 bytes. A record read from bytes is one, a new chip's is one,
 -- and every event keeps a record so. Assumes nothing.
-use Prim.Native.Nat.{ℕ, zero, suc, ◌+◌, ◌^◌, ◌≤◌, ◌<◌}
+use Prim.Native.Nat.{ℕ, zero, suc, ◌+◌, ◌^◌, ◌<◌}
 use mathlib.Core.Path.{◌≡◌, refl, ◌∙◌}
 use mathlib.Core.Bool.{Bool, true, false}
 use mathlib.Core.List.{List, ◌∷◌, []}

@@ -154,11 +154,7 @@ pub fn fulkibono_frame(
 }
 
 // The running operation ends.
-pub fn fulkibono_completion(
-    bytes: &mut [u8],
-    array: &mut [u8],
-    security: &mut [u8],
-) -> u8
+pub fn fulkibono_completion(bytes: &mut [u8], array: &mut [u8], security: &mut [u8]) -> u8
     ensures { CallPromise (lent_bench_of bytes.old array.old security.old) completion_call (came_of result bytes.new array.new security.new [] []) }
 {
     event(
@@ -252,12 +248,7 @@ fn is_record(bytes: &[u8], file: &mut [u8]) -> bool
 }
 
 // A whole idle chip as a file, into a lent buffer.
-pub fn fulkibono_image_write(
-    bytes: &[u8],
-    array: &[u8],
-    security: &[u8],
-    file: &mut [u8],
-) -> u8
+pub fn fulkibono_image_write(bytes: &[u8], array: &[u8], security: &[u8], file: &mut [u8]) -> u8
     ensures { WriteImagePromise bytes.now array.now security.now file.old result file.new }
 {
     if !image_records::sizes_right(array.len(), security.len(), file.len()) {

@@ -1,6 +1,6 @@
 -- A memory, or the status, that is not as expected. docs/PLAYER.md: "Bytes that are expected past a memory's end, or a third byte of a status, are not met";
 -- "the same, compared with the expected bytes, over and over". A row that is not told is blank.
-use Rattle.std.specs.Prelude.{ℕ, ◌+◌, ◌%◌, Bool, not, List, [], ◌∷◌, length, ◌==◌, nat_lt, slice_index}
+use Rattle.std.specs.Prelude.{ℕ, ◌+◌, ◌%◌, not, List, [], ◌∷◌, length, ◌==◌, nat_lt, slice_index}
 use Rattle.rules.specs.declared.Rest.{Rest}
 use Rattle.rules.specs.Words.{pick}
 use Rattle.rules.specs.Registers.{status, configuration}

@@ -5,6 +5,7 @@ use mathlib.Core.Path.{◌≡◌}
 use mathlib.Core.Bool.{Bool}
 use mathlib.Core.List.{List, []}
 use denote.Ref.{Bor}
+use denote.MutBor.{MutBor}
 use Rattle.rules.specs.declared.After.{After}
 use Rattle.rules.specs.declared.Answer.{Answer}
 use Rattle.rules.specs.declared.Chip.{Chip}
@@ -17,7 +18,7 @@ use Rattle.rules.specs.Promises.{Bench, Returned, zeroed, bench_of, returned_of,
 use Rattle.rules.specs.Demands.{Call, frame_call, completion_call, cut_call, Meets}
 use Rattle.rules.proofs.Promises as promises
 use Rattle.rules.proofs.Outcomes.{OneResult}
-use Rattle.chip.specs.declared.turns.Event.{Event}
+use Rattle.chip.specs.declared.events.Event.{Event}
 use Rattle.chip.specs.Turns.{call_of, stop_call}
 use Rattle.chip.proofs.new.Reads as new
 use Rattle.chip.proofs.new_of.Reads as new-of
@@ -26,11 +27,11 @@ use Rattle.chip.proofs.frame.Reads as frame
 use Rattle.chip.proofs.completion.Reads as completion
 use Rattle.chip.proofs.power_cut.Reads as power-cut
 use Rattle.chip.proofs.numbers.answer_number.Reads as answer_number_lem
-use Rattle.chip.proofs.turns.state_right.Reads as state-right
-use Rattle.chip.proofs.turns.cuts.Reads as cuts
-use Rattle.chip.proofs.turns.resets.Reads as resets
-use Rattle.chip.proofs.turns.stop_turn.Reads as stop-turn
-use Rattle.chip.proofs.turns.take_turn.Reads as take-turn
+use Rattle.chip.proofs.events.state_right.Reads as state-right
+use Rattle.chip.proofs.events.cuts.Reads as cuts
+use Rattle.chip.proofs.events.resets.Reads as resets
+use Rattle.chip.proofs.events.stop_turn.Reads as stop-turn
+use Rattle.chip.proofs.events.take_turn.Reads as take-turn
 
 met_one : (b : Bench) (e : Call) (g h : Returned) → Meets b e g → Meets b e h → g ≡ h
 met_one b (frame_call f) g h p q = promises.frame_one b f g h p q
@@ -38,7 +39,10 @@ met_one b completion_call g h p q = promises.completion_one b g h p q
 met_one b (cut_call t) g h p q = promises.cut_one b t g h p q
 
 abbrev Slice : Type 0
-Slice = Bor (List ℕ)
+Slice = MutBor (List ℕ)
+
+abbrev Shared : Type 0
+Shared = Bor (List ℕ)
 
 pub new_of_one : OneResult new-of.Post
 new_of_one κ a x y r r' p q = promises.one p q
@@ -54,7 +58,7 @@ answer_number_one a x y r s p q = promises.one p q
 
 -- ---- a frame, a completion, a power cut, by value
 
-module _ (κ : List ℕ × (List ℕ × (List ℕ × (List ℕ × (List ℕ × Unit {0}))))) (a x y : Chip × (Slice × (Slice × (Slice × (Slice × (Slice × (Circumstances × Unit {0}))))))) (r s : After) where
+module _ (κ : List ℕ × (List ℕ × (List ℕ × (List ℕ × (List ℕ × Unit {0}))))) (a x y : Chip × (Slice × (Slice × (Shared × (Slice × (Slice × (Circumstances × Unit {0}))))))) (r s : After) where
   pub frame_one : frame.Post κ a r x → frame.Post κ a s y
       → returned_of r x.1.0.now x.1.1.0.now x.1.1.1.1.0.now x.1.1.1.1.1.0.now
       ≡ returned_of s y.1.0.now y.1.1.0.now y.1.1.1.1.0.now y.1.1.1.1.1.0.now
@@ -92,7 +96,7 @@ module _ (κ : List ℕ × (List ℕ × (List ℕ × (List ℕ × (List ℕ × U
       p.0
       q.0
 
-module _ (κ : List ℕ × (List ℕ × (List ℕ × (List ℕ × (List ℕ × (List ℕ × Unit {0})))))) (a x y : Event × (Bool × (Rest × (Slice × (Slice × (Slice × (Slice × (Slice × (Slice × Unit {0}))))))))) (r s : Turn) where
+module _ (κ : List ℕ × (List ℕ × (List ℕ × (List ℕ × (List ℕ × (List ℕ × Unit {0})))))) (a x y : Event × (Bool × (Rest × (Slice × (Slice × (Slice × (Shared × (Slice × (Slice × Unit {0}))))))))) (r s : Turn) where
   pub take_turn_one : take-turn.Post κ a r x → take-turn.Post κ a s y
       → returned_of (after_of r x.1.1.1.0.now) x.1.1.1.1.0.now x.1.1.1.1.1.0.now x.1.1.1.1.1.1.1.0.now x.1.1.1.1.1.1.1.1.0.now
       ≡ returned_of (after_of s y.1.1.1.0.now) y.1.1.1.1.0.now y.1.1.1.1.1.0.now y.1.1.1.1.1.1.1.0.now y.1.1.1.1.1.1.1.1.0.now

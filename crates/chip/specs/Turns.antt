@@ -7,7 +7,7 @@ use Rattle.rules.specs.Numbers.{state_right}
 use Rattle.rules.specs.Promises.{Bench, Returned, bench_of, carried_of, state_of}
 use Rattle.rules.specs.Demands.{Call, frame_call, completion_call, cut_call, Meets}
 use Rattle.rules.specs.Tears.{resets}
-use Rattle.chip.specs.declared.turns.Event.{Event}
+use Rattle.chip.specs.declared.events.Event.{Event}
 
 -- the call that it is, where these bytes are lent; of its circumstances a power cut has the tear
 abbrev pub call_of : Event → List ℕ → List ℕ → List ℕ → Circumstances → Call

@@ -1,17 +1,17 @@
 // The bench chip: a new chip, a frame, a completion, a power cut.
 #![tactic(auto)]
 
+mod events;
 mod numbers;
-mod turns;
 
 ghost use Rattle.std.specs.Prelude.{◌≡◌, []};
 ghost use Rattle.rules.specs.Commands.{new_of, new_chip, new_old_chip};
 ghost use Rattle.rules.specs.Promises.{bench_of, carried_of, returned_of, FramePromise, CompletionPromise, CutPromise};
 
+pub use events::{Event, cuts, resets, state_right, stop_turn, take_turn};
 pub use numbers::answer_number;
 use rules::{After, Chip};
 pub use rules::{Circumstances, Tear, Turn};
-pub use turns::{Event, cuts, resets, state_right, stop_turn, take_turn};
 
 // A new chip of a part: BA, or the old one.
 pub fn new_of(ba: bool) -> Chip
@@ -52,7 +52,7 @@ pub fn frame(
 {
     let mut page = c.buffer;
     let before = c.rest;
-    let known = turns::state_right(before, &page, array.len(), security.len());
+    let known = events::state_right(before, &page, array.len(), security.len());
     let t = framing::frame_turn(
         known,
         before,
@@ -76,7 +76,7 @@ pub fn completion(c: Chip, array: &mut [u8], security: &mut [u8]) -> After
 {
     let mut page = c.buffer;
     let before = c.rest;
-    let known = turns::state_right(before, &page, array.len(), security.len());
+    let known = events::state_right(before, &page, array.len(), security.len());
     let t = ending::completion_turn(known, before, &mut page, array, security);
     let answer = t.answer;
     let rest = t.rest;
@@ -90,7 +90,7 @@ pub fn power_cut(c: Chip, array: &mut [u8], security: &mut [u8], tear: Tear) -> 
 {
     let mut page = c.buffer;
     let before = c.rest;
-    let known = turns::state_right(before, &page, array.len(), security.len());
+    let known = events::state_right(before, &page, array.len(), security.len());
     let t = ending::cut_turn(known, before, &mut page, array, security, tear);
     let answer = t.answer;
     let rest = t.rest;

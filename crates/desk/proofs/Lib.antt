@@ -1,3 +1,2 @@
--- What the two walks share, and no second outcome.
-pub mod Walk
+-- No second outcome.
 pub mod Unique

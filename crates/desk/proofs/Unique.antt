@@ -11,6 +11,7 @@ use types.Logic.{Logic}
 use contract.Monad.{Fun, fact}
 use contract.Lifetimes.{Lfts}
 use denote.Ref.{Bor}
+use denote.MutBor.{MutBor}
 use Rattle.rules.proofs.Promises.{one}
 use Rattle.rules.proofs.Outcomes.{OneOutcome}
 use Rattle.stations.specs.declared.StoreRecord.{StoreRecord}
@@ -21,10 +22,10 @@ use Rattle.desk.specs.contracts.keep as keep
 
 -- what is lent first to both: the record and the four slices; what else find gets, and keep
 abbrev Lent : Type 0 → Type 0
-Lent X = Bor StoreRecord × (Bor (List ℕ) × (Bor (List ℕ) × (Bor (List ℕ) × (Bor (List ℕ) × X))))
+Lent X = MutBor StoreRecord × (MutBor (List ℕ) × (MutBor (List ℕ) × (MutBor (List ℕ) × (MutBor (List ℕ) × X))))
 
 abbrev Sought : Type 0
-Sought = ℕ × (Bor (List ℕ) × Unit {0})
+Sought = ℕ × (MutBor (List ℕ) × Unit {0})
 
 abbrev Kept : Type 0
 Kept = ℕ × (Bor (List ℕ) × (ℕ × (Bor (List ℕ) × Unit {0})))

@@ -2,25 +2,65 @@
 // written.
 #![tactic(auto)]
 
-ghost use Rattle.io.specs.Counts.{IsPrefixLen};
+ghost use Rattle.std.specs.Prelude.{◌≡◌, ◌≤◌, length, take, IfOk};
+
+use std::fs::{OpenFile, OpenOptions};
+use std::io::{ErrorKind, Read, Write};
+use std::rt::Files;
+use std::{fs, io};
+
+// The name as a path, which is text: one that is no UTF-8 is refused, as std refuses it.
+fn path_of(name: &[u8]) -> io::Result<&str> {
+    match std::str::from_utf8(name) {
+        Ok(text) => Ok(text),
+        Err(_) => Err(io::Error::from(ErrorKind::InvalidFilename)),
+    }
+}
+
+// The file of that name, to be read.
+pub fn opened<R: Files>(files: &R, name: &[u8]) -> io::Result<R::File> {
+    fs::open(files, path_of(name)?)
+}
 
 // The first n bytes, or all where there are fewer.
-pub fn front_written(fd: i32, bytes: &[u8], n: usize) -> bool {
+pub fn front_written<W: Write>(to: &mut W, bytes: &[u8], n: usize) -> bool {
     if n <= bytes.len() {
-        return io::write_all(fd, &bytes[..n]);
+        return to.write_all(&bytes[..n]).is_ok();
     }
-    io::write_all(fd, bytes)
+    to.write_all(bytes).is_ok()
+}
+
+// Reads until the buffer is full or the file ends; how many bytes are in front of it then.
+pub fn read_full<R: Read>(from: &mut R, buffer: &mut [u8]) -> io::Result<usize>
+    ensures { IfOk result (λ n. n ≤ length buffer.new) }
+{
+    let mut done = 0;
+    for _ in 0..u64::MAX {
+        if done >= buffer.len() {
+            break;
+        }
+        let n = from.read(&mut buffer[done..])?;
+        if n == 0 {
+            break;
+        }
+        done += n;
+    }
+    Ok(done)
 }
 
 // Whether a file has no byte behind those that were read.
-pub fn has_ended(fd: i32) -> bool {
+pub fn has_ended<R: Read>(from: &mut R) -> bool {
     let mut one = [0u8; 1];
-    libc::read(fd, &mut one) == 0
+    match from.read(&mut one) {
+        Ok(n) => n == 0,
+        Err(_) => false,
+    }
 }
 
 // The name with .part behind it, in front of the buffer; nothing where that is too long for a name.
 fn part_name(name: &[u8], part: &mut [u8]) -> usize
-    ensures { IsPrefixLen result part.new }
+    ensures within { result ≤ length part.new }
+    ensures front { result ≡ length (take result part.new) }
 {
     let n = name.len();
     if part.len() < 5 {
@@ -35,55 +75,46 @@ fn part_name(name: &[u8], part: &mut [u8]) -> usize
 }
 
 // Whether that name is taken, so that the file cannot be replaced.
-pub fn has_part(name: &[u8]) -> bool {
-    let mut buffer = io::buffer();
+pub fn has_part<R: Files>(files: &R, name: &[u8]) -> bool {
+    let mut buffer = [0u8; 4096];
     let n = part_name(name, &mut buffer);
-    let fd = os::open_read(&buffer[..n]);
-    if fd < 0 {
-        return false;
-    }
-    libc::close(fd);
-    true
+    opened(files, &buffer[..n]).is_ok()
 }
 
 // All bytes, and on the disk.
-fn filled(fd: i32, bytes: &[u8]) -> bool {
-    if !io::write_all(fd, bytes) {
-        return false;
-    }
-    libc::fsync(fd) == 0
+fn filled<F: Write + OpenFile>(file: &mut F, bytes: &[u8]) -> io::Result<()> {
+    file.write_all(bytes)?;
+    file.sync_all()
 }
 
-fn made(part: &[u8], bytes: &[u8]) -> bool {
-    let fd = os::create(part);
-    if fd < 0 {
-        return false;
+fn made<R: Files>(files: &R, part: &str, bytes: &[u8]) -> io::Result<()> {
+    let mut file = OpenOptions::new()
+        .write(true)
+        .create_new(true)
+        .open(files, part)?;
+    let whole = filled(&mut file, bytes);
+    drop(file);
+    if whole.is_err() {
+        let _ = fs::remove_file(files, part);
     }
-    let whole = filled(fd, bytes);
-    let closed = libc::close(fd) == 0;
-    if whole & closed {
-        return true;
-    }
-    os::unlink(part);
-    false
+    whole
 }
 
-fn renamed(part: &[u8], name: &[u8]) -> bool {
-    if os::rename(part, name) == 0 {
-        return true;
+fn renamed<R: Files>(files: &R, part: &str, name: &str) -> io::Result<()> {
+    let taken = fs::rename(files, part, name);
+    if taken.is_err() {
+        let _ = fs::remove_file(files, part);
     }
-    os::unlink(part);
-    false
+    taken
 }
 
 // The bytes go into a new file beside the name, which takes the name when all of them are written: so the name has the old file or the whole new one.
-// Where that fails, errno says why.
-pub fn replace(name: &[u8], bytes: &[u8]) -> bool {
-    let mut buffer = io::buffer();
+// Where that fails, the error says why.
+pub fn replace<R: Files>(files: &R, name: &[u8], bytes: &[u8]) -> io::Result<()> {
+    let mut buffer = [0u8; 4096];
     let n = part_name(name, &mut buffer);
-    let part = &buffer[..n];
-    if !made(part, bytes) {
-        return false;
-    }
-    renamed(part, name)
+    let path = path_of(name)?;
+    let part = path_of(&buffer[..n])?;
+    made(files, part, bytes)?;
+    renamed(files, part, path)
 }

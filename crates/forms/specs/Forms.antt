@@ -1,6 +1,6 @@
 -- Rows as data: a page of forms, a form a line. A form is a text in which % and a letter stand for a piece: one of the numbers that it is given, in
 -- their order, or something that needs none.
-use Rattle.std.specs.Prelude.{ℕ, ◌-◌, max, Bool, true, false, List, [], ◌∷◌, ◌++◌, eqb, ltb, get_or}
+use Rattle.std.specs.Prelude.{ℕ, ◌-◌, max, true, false, List, [], ◌∷◌, ◌++◌, eqb, ltb, get_or}
 use Prim.Native.String.{String}
 use Rattle.rules.specs.Words.{pick}
 use Rattle.rules.specs.Texts.{ascii}

@@ -6,18 +6,16 @@ use mathlib.Core.Bool.{Bool, true, false, ◌&&◌, and-true, and_assoc, true≢
 use mathlib.Core.List.{List, [], ◌∷◌}
 use native.Mathlib.Omega.{arith}
 use native.Mathlib.Nat.{pow-suc, pow-le-pow_right}
-use lib.Bits.{bit_and}
 use lib.Dec.{eqb, ltb}
-use lib.ListN.{length, get_or, length-take}
+use lib.ListN.{length, length-take}
 use borrow.Author.Tests.{lt-ltb, eq-eqb}
 use Rattle.rules.specs.Words.{pick}
 use Rattle.rules.specs.Texts.{ascii}
-use Rattle.rules.specs.Blocks.{read_locks}
 use Rattle.rules.specs.WellFormed.{locks_right}
 use Rattle.image.specs.declared.Fault.{Fault}
 use Rattle.image.specs.declared.What.{What}
 use Rattle.image.specs.Form.{number, number_from, sum, file_size_lem}
-use Rattle.image.specs.Files.{part, page_place, mark_in, sum_in, body_in, locks_in, burst_byte_in, number_in, record_right, page_right_lem, first_hold, registers_right, right}
+use Rattle.image.specs.Files.{part, mark_in, sum_in, body_in, locks_in, burst_byte_in, record_right, page_right_lem, first_hold, registers_right, right}
 use Rattle.image.specs.Laws.{OfBytes}
 use Rattle.image.specs.Faults.{fault_of, no_fault, is_none, sound, or_else, unless, record_fault, registers_fault, page_fault, first_from, first_fault, FaultsTell, RecordsTold}
 use Rattle.image.proofs.Records.{part_bytes}

@@ -1,27 +1,24 @@
 -- Each number exactly when. Assumes nothing.
-use Prim.Native.Nat.{ℕ, ◌≤◌, ◌<◌}
+use Prim.Native.Nat.{ℕ}
 use Prim.Native.String.{String}
 use mathlib.Core.Path.{◌≡◌, refl, sym, ap, ◌∙◌}
-use mathlib.Core.Bool.{Bool, true, false, ◌&&◌, true≢false, false≢true}
+use mathlib.Core.Bool.{Bool, true, false, true≢false}
 use mathlib.Core.List.{List}
-use mathlib.Core.Logic.{◌↔◌}
 use native.Mathlib.Omega.{arith}
 use lib.Dec.{eqb, leb}
-use lib.ListN.{length}
 use borrow.Author.Tests.{eqb-true, eq-eqb, le-leb}
 use Rattle.rules.specs.declared.Chip.{Chip}
-use Rattle.rules.specs.declared.Work.TheVariants.{Nothing}
 use Rattle.rules.specs.Texts.{ascii}
 use Rattle.rules.specs.Bursts.{last_burst}
-use Rattle.rules.specs.WellFormed.{well_formed, locks_right}
+use Rattle.rules.specs.WellFormed.{well_formed}
 use Rattle.rules.proofs.Bools.{and_split, and_both}
-use Rattle.image.specs.Form.{number, sum, file_of}
-use Rattle.image.specs.Files.{page_place, mark_in, sum_in, body_in, record_right, locks_in, burst_byte_in, number_in, page_right_lem, first_hold, registers_right, right, chip_in, array_in, security_in}
-use Rattle.image.specs.Promises.{sizes_right, idle, written_of, written, read_of, read}
+use Rattle.image.specs.Form.{number, sum}
+use Rattle.image.specs.Files.{page_place, mark_in, sum_in, body_in, record_right, burst_byte_in, page_right_lem, registers_right, right}
+use Rattle.image.specs.Promises.{sizes_right, idle, written, read_of, read}
 use Rattle.image.specs.Given.{RightSizes, Idle, RightFile, Conditions, WritingGives, ReadingGives, RefusalsLeave}
 use Rattle.image.proofs.Outcomes.{sizes_of, write_sizes, write_broken, write_at_work, write_done, read_sizes, read_wrong, read_done}
 use Rattle.image.proofs.Parts.{first_intro}
-use Rattle.image.proofs.Laws.{Right, right_of, idles_both}
+use Rattle.image.proofs.Laws.{right_of, idles_both}
 
 -- ---- the conditions
 

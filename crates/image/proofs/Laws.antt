@@ -1,8 +1,7 @@
 -- The chip that was written is read again, and the file that was read is written again. Assumes nothing.
-use Prim.Native.Nat.{ℕ, zero, suc, ◌+◌, ◌*◌, ◌^◌, ◌≤◌, ◌<◌}
-use Prim.Native.String.{String}
+use Prim.Native.Nat.{ℕ, zero, suc, ◌+◌, ◌*◌, ◌≤◌, ◌<◌}
 use mathlib.Core.Path.{◌≡◌, refl, sym, ap, ◌∙◌}
-use mathlib.Core.Bool.{Bool, true, false, ◌&&◌}
+use mathlib.Core.Bool.{true}
 use mathlib.Core.List.{List, [], ◌∷◌, ◌++◌, append_assoc}
 use native.Mathlib.Omega.{arith}
 use native.Mathlib.Decide.{ℕ_discrete}
@@ -15,22 +14,21 @@ use Rattle.rules.specs.declared.Chip.{Chip}
 use Rattle.rules.specs.declared.Flags.{Flags}
 use Rattle.rules.specs.declared.Rest.{Rest}
 use Rattle.rules.specs.declared.Work.{Work}
-use Rattle.rules.specs.Texts.{ascii}
 use Rattle.rules.specs.Blocks.{array_size_lem, security_size_lem}
 use Rattle.rules.specs.Bursts.{burst_byte, last_burst, burst_of}
 use Rattle.rules.specs.Programs.{blank}
 use Rattle.rules.specs.Works.{is_nothing}
 use Rattle.rules.specs.Fields.{locks_of, works_of, rest_of, chip_of, flags_number, flags_in}
-use Rattle.rules.specs.WellFormed.{well_formed, locks_right, first_ff}
+use Rattle.rules.specs.WellFormed.{locks_right, first_ff}
 use Rattle.rules.proofs.Bools.{and_split, and_both}
 use Rattle.rules.proofs.Blocks.{unlocked_nowhere}
 use Rattle.rules.proofs.LockBits.{Registers, registers_of_lem, registers_right_lem}
 use Rattle.rules.proofs.WellFormed.{Well, well_of, well_right, nothing}
 use Rattle.rules.proofs.Fields.{flags_back, flags_kept, burst_back, burst_kept}
 use Rattle.image.specs.Form.{high_first, number, record_of, registers, page_of, page_record, joined, file_of}
-use Rattle.image.specs.Files.{part, security_place, page_place, body_in, record_right, locks_in, flags_byte_in, burst_byte_in, number_in, page_in, page_right_lem, first_hold, registers_right, right, rest_in, chip_in, security_in, array_in}
+use Rattle.image.specs.Files.{part, page_place, body_in, record_right, locks_in, flags_byte_in, burst_byte_in, number_in, page_in, page_right_lem, first_hold, registers_right, right, rest_in, chip_in, security_in, array_in}
 use Rattle.image.specs.Promises.{idle}
-use Rattle.image.specs.Laws.{OfBytes, Whole, ReadBack, WrittenAgain, FileOfOne, ReadingGivesBack, WritingGivesTheSame, ExactlyOneChip}
+use Rattle.image.specs.Laws.{OfBytes, Whole, ReadingGivesBack, WritingGivesTheSame, ExactlyOneChip}
 use Rattle.image.proofs.Bytes.{length_high, number_high, high_number}
 use Rattle.image.proofs.Parts.{length_part, part_part, part_add, Each, length_joined, part_joined, joined_parts, joined_same, first_intro, first_at}
 use Rattle.image.proofs.Records.{IsMark, length_record, record_there, right_record, part_bytes}

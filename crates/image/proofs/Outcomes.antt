@@ -1,6 +1,6 @@
 -- The outcomes one by one. Assumes nothing.
 use Prim.Native.Nat.{ℕ}
-use mathlib.Core.Path.{◌≡◌, refl, sym, ap, ◌∙◌}
+use mathlib.Core.Path.{◌≡◌, sym, ◌∙◌}
 use mathlib.Core.Bool.{Bool, true, false, not, ◌&&◌}
 use mathlib.Core.List.{List}
 use lib.Dec.{eqb}
@@ -13,7 +13,7 @@ use Rattle.rules.proofs.Bools.{and_split}
 use Rattle.image.specs.Form.{file_of, file_size_lem}
 use Rattle.image.specs.Files.{right, chip_in, array_in, security_in}
 use Rattle.image.specs.Given.{RightSizes}
-use Rattle.image.specs.Promises.{sizes_right, idle, Written, written_of, written, Read, read_of, read}
+use Rattle.image.specs.Promises.{sizes_right, idle, written_of, written, read_of, read}
 
 pub sizes_of : (array security file : List ℕ) → sizes_right array security file ≡ true → RightSizes array security file
 unfolding sizes_right

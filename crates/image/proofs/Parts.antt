@@ -1,13 +1,13 @@
 -- Parts of a list, and pieces in a row. Assumes nothing.
-use Prim.Native.Nat.{ℕ, zero, suc, ◌+◌, ◌*◌, ◌-◌, ◌≤◌, ◌<◌, min}
+use Prim.Native.Nat.{ℕ, zero, suc, ◌+◌, ◌*◌, ◌-◌, ◌≤◌, ◌<◌}
 use mathlib.Core.Path.{◌≡◌, refl, sym, ap, ◌∙◌}
-use mathlib.Core.Bool.{Bool, true, ◌&&◌}
+use mathlib.Core.Bool.{Bool, true}
 use mathlib.Core.List.{List, [], ◌∷◌, ◌++◌}
 use native.Mathlib.Omega.{arith}
 use native.Mathlib.Decide.{ℕ_discrete}
 use native.Mathlib.Nat.{mul-le-mul_right}
-use lib.ListN.{length, get_or, take, drop, length-append, length-take, length-drop}
-use lib.Seq.{take-add, take-take, drop-drop, take_at, drop_at, take-append-le, drop-append-le, take_all, take-nil, length-take-le}
+use lib.ListN.{length, take, drop, length-append, length-drop}
+use lib.Seq.{take-add, take-take, drop-drop, drop_at, take-append-le, drop-append-le, take_all, take-nil, length-take-le}
 use Rattle.rules.proofs.Bools.{and_split, and_both}
 use Rattle.image.specs.Form.{joined}
 use Rattle.image.specs.Files.{part, first_hold}

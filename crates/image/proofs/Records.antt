@@ -1,9 +1,9 @@
 -- A record of a file, and its parts. Assumes nothing.
-use Prim.Native.Nat.{ℕ, ◌+◌, ◌*◌, ◌%◌, ◌^◌, ◌≤◌, ◌<◌}
+use Prim.Native.Nat.{ℕ, ◌+◌, ◌≤◌, ◌<◌}
 use Prim.Native.String.{String}
-use mathlib.Core.Path.{◌≡◌, refl, sym, ap, ◌∙◌}
-use mathlib.Core.Bool.{Bool, true, ◌&&◌}
-use mathlib.Core.List.{List, [], ◌∷◌, ◌++◌, append_assoc}
+use mathlib.Core.Path.{◌≡◌, sym, ap, ◌∙◌}
+use mathlib.Core.Bool.{true}
+use mathlib.Core.List.{List, ◌++◌, append_assoc}
 use native.Mathlib.Omega.{arith}
 use lib.Dec.{eqb}
 use native.Mathlib.Decide.{dec_lt}
@@ -12,7 +12,7 @@ use lib.Seq.{take_at, drop_at, take_all, get_or-take, get_or-drop}
 use borrow.Author.Tests.{eqb-true, eq-eqb}
 use Rattle.rules.specs.Texts.{ascii}
 use Rattle.rules.proofs.Bools.{and_split, and_both}
-use Rattle.image.specs.Form.{high_first, number, total, sum, record_of}
+use Rattle.image.specs.Form.{high_first, number, sum, record_of}
 use Rattle.image.specs.Files.{part, mark_in, sum_in, body_in, record_right}
 use Rattle.image.specs.Laws.{OfBytes}
 use Rattle.image.proofs.Bytes.{length_high, number_high, high_number, number_one}

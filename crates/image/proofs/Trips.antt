@@ -1,20 +1,16 @@
 -- Both round trips over the guarantees, and no second outcome of a guarantee. Assumes nothing.
 use Prim.Native.Nat.{ℕ}
 use mathlib.Core.Path.{◌≡◌, refl, sym, ap, ◌∙◌}
-use mathlib.Core.Bool.{true}
 use mathlib.Core.List.{List}
-use native.Mathlib.Omega.{arith}
 use lib.Dec.{eqb}
 use lib.ListN.{length}
 use Rattle.rules.specs.declared.Chip.{Chip}
 use Rattle.rules.specs.Words.{pick}
-use Rattle.rules.specs.Blocks.{array_size_lem, security_size_lem}
 use Rattle.image.specs.declared.Posted.{Posted}
 use Rattle.image.specs.declared.Received.{Received}
-use Rattle.image.specs.Form.{file_of, file_size_lem}
+use Rattle.image.specs.Form.{file_of}
 use Rattle.image.specs.Files.{right, chip_in, array_in, security_in}
-use Rattle.image.specs.Promises.{sizes_right, Written, written_of, written, WritePromise, Read, read_of, read, ReadPromise, posted_number}
-use Rattle.image.specs.Given.{RightSizes}
+use Rattle.image.specs.Promises.{Written, written, WritePromise, Read, ReadPromise, posted_number}
 use Rattle.image.specs.Laws.{Whole, WrittenThenRead, ReadThenWritten}
 use Rattle.image.proofs.Outcomes.{sizes_of, write_done, read_done}
 use Rattle.image.proofs.Laws.{reading_gives_back, writing_gives_the_same}

@@ -1,7 +1,7 @@
 -- Where the search for the first fault ends, test by test. Assumes nothing.
 use Prim.Native.Nat.{ℕ, zero, suc, ◌+◌, ◌*◌, ◌-◌, ◌^◌, ◌≤◌, ◌<◌}
 use mathlib.Core.Path.{◌≡◌, refl, sym, ap, ◌∙◌, subst}
-use mathlib.Core.Bool.{Bool, true, false, not}
+use mathlib.Core.Bool.{true, false}
 use mathlib.Core.List.{List, [], ◌∷◌, ◌++◌}
 use native.Mathlib.Omega.{arith}
 use lib.Bits.{bit_and}
@@ -16,7 +16,7 @@ use Rattle.image.specs.declared.Fault.{Fault}
 use Rattle.image.specs.declared.What.{What}
 use Rattle.image.specs.Form.{number, number_from, sum, file_size_lem}
 use Rattle.image.specs.Files.{part, mark_in, sum_in, body_in, page_place, number_in, locks_in, burst_byte_in, right}
-use Rattle.image.specs.Faults.{fault_of, no_fault, is_none, sound, or_else, unless, record_fault, registers_fault, page_fault, first_from, first_fault}
+use Rattle.image.specs.Faults.{fault_of, no_fault, is_none, sound, or_else, record_fault, registers_fault, page_fault, first_from, first_fault}
 use Rattle.image.proofs.Bytes.{number_two}
 use Rattle.image.proofs.Faults.{Low, faults_tell_low, other_length, found_first, found_behind, tested, untested, test_passed, test_failed}
 use Rattle.image.proofs.Parts.{part_add, length_part}

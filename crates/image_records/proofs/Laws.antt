@@ -1,8 +1,8 @@
 -- Two bytes of a list, a sum that goes on, and bytes put into a list. Assumes nothing.
-use Rattle.std.proofs.Common.{◌≡◌, ℕ, zero, suc, ◌+◌, ◌-◌, ◌*◌, ◌/◌, ◌%◌, ◌<◌, ◌≤◌, List, [], ◌∷◌, ◌++◌, length, get_or, take, drop, set, sym, refl, ap, ◌∙◌, append_assoc, append-nil, add-mul, arith, length-append, length-drop, take-append-drop, length-take-le, get_or-drop, take_all, drop-cons, get_or-take, take-suc, take-take, drop-drop, take_at, ext_get_or, take-add, drop_at}
-use lib.Seq.{paste, take-paste, sets-eq, take-append-le, drop-append-le, length_paste_head}
+use Rattle.std.proofs.Common.{◌≡◌, ℕ, suc, ◌+◌, ◌-◌, ◌*◌, ◌/◌, ◌%◌, ◌<◌, ◌≤◌, List, [], ◌∷◌, ◌++◌, length, get_or, take, drop, set, sym, ap, ◌∙◌, append_assoc, append-nil, add-mul, arith, length-append, length-drop, take-append-drop, length-take-le, get_or-drop, take_all, drop-cons, get_or-take, take-suc, take-take, drop-drop, take_at, ext_get_or, take-add, drop_at}
+use lib.Seq.{paste, take-paste, sets-eq, take-append-le, length_paste_head}
 use Rattle.memory.specs.Patched.{Patched}
-use Rattle.image.specs.Form.{high_first, number_from, number, total, sum, joined}
+use Rattle.image.specs.Form.{high_first, number, total, sum, joined}
 use Rattle.image.specs.Files.{part, body_in}
 use Rattle.image.proofs.Bytes.{length_high, number_two}
 use Rattle.image.proofs.Parts.{drop_take, length_part}

@@ -19,6 +19,7 @@ const REFUSED: u64 = 800;
 const FILES: u64 = 144;
 
 fn chips_tried(
+    rt: &impl Print,
     counts: &mut Counts,
     array: &mut Memory,
     security: &mut Identity,
@@ -29,12 +30,13 @@ fn chips_tried(
     let mut k: u64 = 0;
     while k < CHIPS {
         let odd = cases::chip_case(k, 0, counts, array, security, file, other, security2);
-        report::told(counts, b"chip", k, odd);
+        report::told(rt, counts, b"chip", k, odd);
         k += 1;
     }
 }
 
 fn refused_tried(
+    rt: &impl Print,
     counts: &mut Counts,
     array: &Memory,
     security: &Identity,
@@ -44,12 +46,13 @@ fn refused_tried(
     let mut k: u64 = 0;
     while k < REFUSED {
         let odd = cases::refused_case(k, 0, counts, array, security, file, other);
-        report::told(counts, b"refused chip", k, odd);
+        report::told(rt, counts, b"refused chip", k, odd);
         k += 1;
     }
 }
 
 fn files_tried(
+    rt: &impl Print,
     counts: &mut Counts,
     array: &mut Memory,
     security: &mut Identity,
@@ -60,7 +63,7 @@ fn files_tried(
     let mut k: u64 = 0;
     while k < FILES {
         let odd = cases::file_case(k, 0, counts, array, security, file, other, security2);
-        report::told(counts, b"file", k, odd);
+        report::told(rt, counts, b"file", k, odd);
         k += 1;
     }
 }
@@ -86,6 +89,7 @@ fn planted_case(
 
 // What is counted counts for nothing here.
 fn planted_tried(
+    rt: &impl Print,
     counts: &mut Counts,
     array: &mut Memory,
     security: &mut Identity,
@@ -96,12 +100,12 @@ fn planted_tried(
     let mut plant: u64 = 1;
     while plant < 18 {
         let odd = planted_case(plant, counts, array, security, file, other, security2);
-        report::planted_said(plant, odd);
+        report::planted_said(rt, plant, odd);
         plant += 1;
     }
 }
 
-fn main() {
+fn main(rt: HostRuntime) {
     let mut counts = [0u64; 512];
     let mut array = [255u8; 2097153];
     let mut security = [255u8; 2049];
@@ -109,6 +113,7 @@ fn main() {
     let mut other = [0u8; 2148375];
     let mut security2 = [0u8; 2049];
     worked::paper_shown(
+        &rt,
         &mut counts,
         &mut array,
         &mut security,
@@ -116,6 +121,7 @@ fn main() {
         &mut other,
     );
     chips_tried(
+        &rt,
         &mut counts,
         &mut array,
         &mut security,
@@ -123,8 +129,9 @@ fn main() {
         &mut other,
         &mut security2,
     );
-    refused_tried(&mut counts, &array, &security, &mut file, &mut other);
+    refused_tried(&rt, &mut counts, &array, &security, &mut file, &mut other);
     files_tried(
+        &rt,
         &mut counts,
         &mut array,
         &mut security,
@@ -132,8 +139,9 @@ fn main() {
         &mut other,
         &mut security2,
     );
-    report::counts_said(&counts);
+    report::counts_said(&rt, &counts);
     planted_tried(
+        &rt,
         &mut counts,
         &mut array,
         &mut security,

@@ -41,37 +41,38 @@ pub fn count(counts: &Counts, i: usize) -> u64 {
     0
 }
 
-pub fn say(text: &[u8]) {
-    io::write_all(1, text);
+// What cannot be written is lost.
+pub fn say(rt: &impl Print, text: &[u8]) {
+    let _ = rt.write_all(text);
 }
 
-pub fn say_number(text: &[u8], n: u64) {
-    io::write_all(1, text);
-    io::print_decimal(1, n);
+pub fn say_number(rt: &impl Print, text: &[u8], n: u64) {
+    say(rt, text);
+    let _ = rt.print(n);
 }
 
 // ---- comparisons
 
 // Each comparison has a bit, and a planted difference of its number.
-fn comparison_said(n: u64) {
+fn comparison_said(rt: &impl Print, n: u64) {
     match n {
-        1 => say(b" writing's number"),
-        2 => say(b" file"),
-        3 => say(b" buffer left"),
-        4 => say(b" reading's number"),
-        5 => say(b" record"),
-        6 => say(b" array"),
-        7 => say(b" Security ID"),
-        8 => say(b" array left"),
-        9 => say(b" Security ID left"),
-        10 => say(b" record left"),
-        11 => say(b" number that is due"),
-        12 => say(b" array given back"),
-        13 => say(b" Security ID given back"),
-        14 => say(b" record given back"),
-        15 => say(b" written again"),
-        16 => say(b" written again by the second"),
-        17 => say(b" part"),
+        1 => say(rt, b" writing's number"),
+        2 => say(rt, b" file"),
+        3 => say(rt, b" buffer left"),
+        4 => say(rt, b" reading's number"),
+        5 => say(rt, b" record"),
+        6 => say(rt, b" array"),
+        7 => say(rt, b" Security ID"),
+        8 => say(rt, b" array left"),
+        9 => say(rt, b" Security ID left"),
+        10 => say(rt, b" record left"),
+        11 => say(rt, b" number that is due"),
+        12 => say(rt, b" array given back"),
+        13 => say(rt, b" Security ID given back"),
+        14 => say(rt, b" record given back"),
+        15 => say(rt, b" written again"),
+        16 => say(rt, b" written again by the second"),
+        17 => say(rt, b" part"),
         _ => {}
     }
 }
@@ -84,35 +85,35 @@ pub fn bit(holds: bool, n: u64) -> u64 {
     1 << (n % 64)
 }
 
-fn odd_said(odd: u64) {
+fn odd_said(rt: &impl Print, odd: u64) {
     let mut n: u64 = 1;
     while n < 18 {
         if odd >> n & 1 != 0 {
-            comparison_said(n);
+            comparison_said(rt, n);
         }
         n += 1;
     }
 }
 
 // A case with a difference is told, and counted.
-pub fn told(counts: &mut Counts, name: &[u8], k: u64, odd: u64) {
+pub fn told(rt: &impl Print, counts: &mut Counts, name: &[u8], k: u64, odd: u64) {
     if odd != 0 {
         bump(counts, DIFFERENCES);
-        say(name);
-        say_number(b" ", k);
-        say(b", not the same:");
-        odd_said(odd);
-        say(b"\n");
+        say(rt, name);
+        say_number(rt, b" ", k);
+        say(rt, b", not the same:");
+        odd_said(rt, odd);
+        say(rt, b"\n");
     }
 }
 
 // With a planted difference.
-pub fn planted_said(plant: u64, odd: u64) {
-    say(b"planted,");
-    comparison_said(plant);
-    say(b": not the same:");
-    odd_said(odd);
-    say(b"\n");
+pub fn planted_said(rt: &impl Print, plant: u64, odd: u64) {
+    say(rt, b"planted,");
+    comparison_said(rt, plant);
+    say(rt, b": not the same:");
+    odd_said(rt, odd);
+    say(rt, b"\n");
 }
 
 // ---- rows
@@ -130,39 +131,40 @@ fn kinds(counts: &Counts, from: usize, n: usize) -> u64 {
     found
 }
 
-fn number_said(counts: &Counts, from: usize, number: u8) {
+fn number_said(rt: &impl Print, counts: &Counts, from: usize, number: u8) {
     let n = count(counts, std::num::wrapping_add_usize(from, number as usize));
     if n != 0 {
-        say_number(b", ", n);
-        say_number(b" times ", number as u64);
+        say_number(rt, b", ", n);
+        say_number(rt, b" times ", number as u64);
     }
 }
 
-fn numbers_said(counts: &Counts, from: usize) {
+fn numbers_said(rt: &impl Print, counts: &Counts, from: usize) {
     let mut i: u8 = 0;
     while i < 16 {
-        number_said(counts, from, i);
+        number_said(rt, counts, from, i);
         i += 1;
     }
-    say(b"\n");
+    say(rt, b"\n");
 }
 
-pub fn counts_said(counts: &Counts) {
-    say_number(b"the paper's values: ", count(counts, WORKED));
-    say_number(b"\nwritten by both: ", count(counts, WRITES));
-    numbers_said(counts, WRITE_NUMBERS);
-    say_number(b"read by both: ", count(counts, READS));
-    numbers_said(counts, READ_NUMBERS);
+pub fn counts_said(rt: &impl Print, counts: &Counts) {
+    say_number(rt, b"the paper's values: ", count(counts, WORKED));
+    say_number(rt, b"\nwritten by both: ", count(counts, WRITES));
+    numbers_said(rt, counts, WRITE_NUMBERS);
+    say_number(rt, b"read by both: ", count(counts, READS));
+    numbers_said(rt, counts, READ_NUMBERS);
     say_number(
+        rt,
         b"of the chips written: sorts by part ",
         kinds(counts, SORTS, 12),
     );
-    say_number(b" kinds, flags ", kinds(counts, FLAGS, 256));
-    say_number(b" kinds, bursts ", kinds(counts, BURSTS, 4));
-    say_number(b" kinds, running work ", kinds(counts, RUNNING, 9));
-    say_number(b" kinds, suspended work ", kinds(counts, SUSPENDED, 9));
-    say_number(b" kinds\n", count(counts, DIFFERENCES));
-    say(b" differences\n");
+    say_number(rt, b" kinds, flags ", kinds(counts, FLAGS, 256));
+    say_number(rt, b" kinds, bursts ", kinds(counts, BURSTS, 4));
+    say_number(rt, b" kinds, running work ", kinds(counts, RUNNING, 9));
+    say_number(rt, b" kinds, suspended work ", kinds(counts, SUSPENDED, 9));
+    say_number(rt, b" kinds\n", count(counts, DIFFERENCES));
+    say(rt, b" differences\n");
 }
 
 // ---- the paper's values
@@ -178,11 +180,11 @@ fn shown(file: &[u8], place: usize, text: &[u8]) -> bool {
 }
 
 // The file has these bytes at this place.
-pub fn shows(counts: &mut Counts, file: &[u8], place: usize, text: &[u8]) {
+pub fn shows(rt: &impl Print, counts: &mut Counts, file: &[u8], place: usize, text: &[u8]) {
     bump(counts, WORKED);
     if !shown(file, place, text) {
         bump(counts, DIFFERENCES);
-        say_number(b"not the paper's: the bytes at ", place as u64);
-        say(b"\n");
+        say_number(rt, b"not the paper's: the bytes at ", place as u64);
+        say(rt, b"\n");
     }
 }

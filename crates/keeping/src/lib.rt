@@ -10,6 +10,9 @@ ghost use Rattle.rules.specs.Commands.{new_of};
 
 use image::Posted;
 use rules::Chip;
+use std::fs::File;
+use std::io;
+use std::io::ErrorKind;
 use telling::{broken_told, refused_told};
 pub use telling::{part_told, told};
 
@@ -63,6 +66,7 @@ pub fn chip_of(came: Loaded, ba: bool) -> Chip
 // ---- reading
 
 fn image_taken(
+    rt: &HostRuntime,
     name: &[u8],
     file: &[u8],
     array: &mut [u8; 2097152],
@@ -75,102 +79,113 @@ fn image_taken(
         Posted::Done => came_in(chip),
         Posted::AtWork => refused(),
         Posted::Malformed => {
-            refused_told(name, 1, fault_rows::length(false, file.len()));
+            refused_told(rt, name, 1, fault_rows::length(false, file.len()));
             refused()
         }
         Posted::WrongFile => {
             let f = image_reading::fault(file);
-            refused_told(name, 15, fault_rows::fault(f));
+            refused_told(rt, name, 15, fault_rows::fault(f));
             refused()
         }
     }
 }
 
 // A new chip with this array.
-fn raw_taken(name: &[u8], file: &[u8], array: &mut [u8; 2097152]) -> Loaded
+fn raw_taken(rt: &HostRuntime, name: &[u8], file: &[u8], array: &mut [u8; 2097152]) -> Loaded
     ensures { result.kept ≡ false }
 {
     if raw_image::load(array, file) == 0 {
         return without_chip();
     }
-    refused_told(name, 1, fault_rows::length(true, file.len()));
+    refused_told(rt, name, 1, fault_rows::length(true, file.len()));
     refused()
 }
 
 // As many bytes as there is room for.
 fn taken_from(
-    fd: i32,
+    rt: &HostRuntime,
+    from: &mut File,
     raw: bool,
     name: &[u8],
     file: &mut [u8],
     array: &mut [u8; 2097152],
     security: &mut [u8; 2048],
 ) -> Loaded {
-    let n = io::read_full(fd, file);
+    let n = match filing::read_full(from, file) {
+        Ok(n) => n,
+        Err(e) => {
+            broken_told(rt, name, e);
+            return refused();
+        }
+    };
     if n < file.len() {
-        if !filing::has_ended(fd) {
-            broken_told(name);
+        if !filing::has_ended(from) {
+            broken_told(rt, name, io::Error::from(ErrorKind::UnexpectedEof));
             return refused();
         }
     }
     if raw {
-        return raw_taken(name, &file[..n], array);
+        return raw_taken(rt, name, &file[..n], array);
     }
-    image_taken(name, &file[..n], array, security)
+    image_taken(rt, name, &file[..n], array, security)
 }
 
 fn taken_by(
-    fd: i32,
+    rt: &HostRuntime,
+    from: &mut File,
     raw: bool,
     name: &[u8],
     file: &mut [u8; 2148375],
     array: &mut [u8; 2097152],
     security: &mut [u8; 2048],
 ) -> Loaded {
-    taken_from(fd, raw, name, file, array, security)
+    taken_from(rt, from, raw, name, file, array, security)
 }
 
 // One byte more than an image has, so that a longer file shows.
 fn taken(
-    fd: i32,
+    rt: &HostRuntime,
+    from: &mut File,
     raw: bool,
     name: &[u8],
     array: &mut [u8; 2097152],
     security: &mut [u8; 2048],
 ) -> Loaded {
     let mut file = [0u8; 2148375];
-    taken_by(fd, raw, name, &mut file, array, security)
+    taken_by(rt, from, raw, name, &mut file, array, security)
 }
 
 // A file that is not there is a new chip.
-fn unopened(name: &[u8]) -> Loaded
+fn unopened(rt: &HostRuntime, name: &[u8], e: io::Error) -> Loaded
     ensures { result.kept ≡ false }
 {
-    if os::errno() == libc::ENOENT {
-        told(name, b" is not there: a new chip, which is saved to it");
+    if e.kind() == ErrorKind::NotFound {
+        told(rt, name, b" is not there: a new chip, which is saved to it");
         return without_chip();
     }
-    broken_told(name);
+    broken_told(rt, name, e);
     refused()
 }
 
 fn load_named(
+    rt: &HostRuntime,
     raw: bool,
     name: &[u8],
     array: &mut [u8; 2097152],
     security: &mut [u8; 2048],
 ) -> Loaded {
-    let fd = os::open_read(name);
-    if fd < 0 {
-        return unopened(name);
+    match filing::opened(rt, name) {
+        Ok(file) => {
+            let mut from = file;
+            taken(rt, &mut from, raw, name, array, security)
+        }
+        Err(e) => unopened(rt, name, e),
     }
-    let came = taken(fd, raw, name, array, security);
-    libc::close(fd);
-    came
 }
 
 // The chip of a file, where it has a name; nothing right where it cannot be read, is refused or could not be saved, which is told.
 pub fn load(
+    rt: &HostRuntime,
     raw: bool,
     name: &[u8],
     array: &mut [u8; 2097152],
@@ -179,28 +194,32 @@ pub fn load(
     if name.len() == 0 {
         return without_chip();
     }
-    if filing::has_part(name) {
+    if filing::has_part(rt, name) {
         told(
+            rt,
             name,
             b".part is there: another session saves, or one was killed while it saved; remove it. Nothing is served",
         );
         return refused();
     }
-    load_named(raw, name, array, security)
+    load_named(rt, raw, name, array, security)
 }
 
 // ---- writing
 
-fn saved(name: &[u8], bytes: &[u8]) -> bool {
-    if filing::replace(name, bytes) {
-        return true;
+fn saved(rt: &HostRuntime, name: &[u8], bytes: &[u8]) -> bool {
+    match filing::replace(rt, name, bytes) {
+        Ok(()) => true,
+        Err(e) => {
+            broken_told(rt, name, e);
+            told(rt, name, b" is not saved, and stays as it was");
+            false
+        }
     }
-    broken_told(name);
-    told(name, b" is not saved, and stays as it was");
-    false
 }
 
 fn image_saved_by(
+    rt: &HostRuntime,
     name: &[u8],
     c: Chip,
     array: &[u8; 2097152],
@@ -209,9 +228,10 @@ fn image_saved_by(
 ) -> bool {
     let answer = image_writing::write(c, array, security, file);
     match answer {
-        Posted::Done => saved(name, file),
+        Posted::Done => saved(rt, name, file),
         Posted::AtWork => {
             told(
+                rt,
                 name,
                 b" is not saved, refused 14, and stays as it was: an operation is suspended; resume it with 30, and let it end",
             );
@@ -219,6 +239,7 @@ fn image_saved_by(
         }
         Posted::Malformed => {
             told(
+                rt,
                 name,
                 b" is not saved, refused 1, and stays as it was: the record is broken",
             );
@@ -228,18 +249,31 @@ fn image_saved_by(
     }
 }
 
-fn image_saved(name: &[u8], c: Chip, array: &[u8; 2097152], security: &[u8; 2048]) -> bool {
+fn image_saved(
+    rt: &HostRuntime,
+    name: &[u8],
+    c: Chip,
+    array: &[u8; 2097152],
+    security: &[u8; 2048],
+) -> bool {
     let mut file = [0u8; 2148374];
-    image_saved_by(name, c, array, security, &mut file)
+    image_saved_by(rt, name, c, array, security, &mut file)
 }
 
 // The chip into its file, where it has a name; false where that fails, which is told.
-pub fn save(raw: bool, name: &[u8], c: Chip, array: &[u8; 2097152], security: &[u8; 2048]) -> bool {
+pub fn save(
+    rt: &HostRuntime,
+    raw: bool,
+    name: &[u8],
+    c: Chip,
+    array: &[u8; 2097152],
+    security: &[u8; 2048],
+) -> bool {
     if name.len() == 0 {
         return true;
     }
     if raw {
-        return saved(name, array);
+        return saved(rt, name, array);
     }
-    image_saved(name, c, array, security)
+    image_saved(rt, name, c, array, security)
 }

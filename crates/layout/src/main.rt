@@ -5,6 +5,7 @@
 mod numbers;
 mod texts;
 
+use std::fs;
 use writing::Row;
 
 // How often the row stands in the text.
@@ -32,28 +33,32 @@ fn line(i: usize, rust: bool) -> Row {
     writing::pad(r, 1)
 }
 
-fn told(r: Row) {
+fn say<P: Print>(to: &P, text: &[u8]) {
+    let _ = to.write_all(text);
+}
+
+fn told<P: Print>(to: &P, r: Row) {
     let t = r.text;
     let n = texts::within(r.length, &t);
-    io::write_all(1, &t[..n]);
-    io::write_all(1, b"\n");
+    say(to, &t[..n]);
+    say(to, b"\n");
 }
 
 // A line that does not stand there once is told.
-fn line_wrong(text: &[u8], i: usize, rust: bool) -> bool {
+fn line_wrong<P: Print>(to: &P, text: &[u8], i: usize, rust: bool) -> bool {
     let r = line(i, rust);
     if times(text, r) == 1 {
         return false;
     }
-    told(r);
+    told(to, r);
     true
 }
 
-fn lines_wrong(text: &[u8], rust: bool) -> bool {
+fn lines_wrong<P: Print>(to: &P, text: &[u8], rust: bool) -> bool {
     let mut wrong = false;
     let mut i: usize = 0;
     while i < numbers::COUNT {
-        wrong = line_wrong(text, i, rust) | wrong;
+        wrong = line_wrong(to, text, i, rust) | wrong;
         i += 1;
     }
     wrong
@@ -73,29 +78,27 @@ fn names_wrong(text: &[u8], rust: bool) -> bool {
     !numbers::all(places, kinds, flags, stations)
 }
 
-fn compared(name: &[u8], rust: bool) {
-    let mut text = io::large_buffer();
-    let fd = os::open_read(name);
-    let n = io::read_full(fd, &mut text);
-    libc::close(fd);
-    let lines = lines_wrong(&text[..n], rust);
-    let others = names_wrong(&text[..n], rust);
-    io::write_all(1, name);
+fn compared(rt: &HostRuntime, name: &str, rust: bool) {
+    // A file that cannot be read has no line.
+    let text = fs::read(rt, name).unwrap_or(Vec::new(rt.alloc()));
+    let lines = lines_wrong(rt, text.as_slice(), rust);
+    let others = names_wrong(text.as_slice(), rust);
+    say(rt, name.as_bytes());
     if lines {
-        io::write_all(1, b" lacks the lines above, which the definitions have\n");
+        say(rt, b" lacks the lines above, which the definitions have\n");
         return;
     }
     if others {
-        io::write_all(1, b" has more names than the definitions\n");
+        say(rt, b" has more names than the definitions\n");
         return;
     }
-    io::write_all(
-        1,
+    say(
+        rt,
         b" has the numbers of record_code's layout and of the station list\n",
     );
 }
 
-fn main() {
-    compared(b"fulkibono.h", false);
-    compared(b"record.rs", true);
+fn main(rt: HostRuntime) {
+    compared(&rt, "fulkibono.h", false);
+    compared(&rt, "record.rs", true);
 }

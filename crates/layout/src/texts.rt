@@ -1,5 +1,5 @@
 // Words in a text. A place past the end reads 0.
-ghost use Rattle.io.specs.Counts.{IsPrefixLen};
+ghost use Rattle.std.specs.Prelude.{◌≡◌, ◌≤◌, length, take};
 
 fn at(s: &[u8], i: usize) -> u8 {
     if i < s.len() {
@@ -10,7 +10,8 @@ fn at(s: &[u8], i: usize) -> u8 {
 
 // The part of n that lies in the slice.
 pub fn within(n: usize, s: &[u8]) -> usize
-    ensures { IsPrefixLen result s.now }
+    ensures within { result ≤ length s.now }
+    ensures front { result ≡ length (take result s.now) }
 {
     if n < s.len() {
         return n;

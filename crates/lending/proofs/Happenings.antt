@@ -1,6 +1,6 @@
 -- The chip's promise, with the parts of the memories that were lent to it, is the line's. Assumes nothing.
 use Prim.Native.Nat.{ℕ, ◌≤◌, min}
-use mathlib.Core.Path.{◌≡◌, refl, sym, ap, ◌∙◌}
+use mathlib.Core.Path.{◌≡◌, sym, ap, ◌∙◌}
 use mathlib.Core.List.{List, [], ◌++◌}
 use native.Mathlib.Omega.{arith}
 use lib.ListN.{length, take, drop}
@@ -11,7 +11,7 @@ use Rattle.rules.specs.declared.Tear.{Tear}
 use Rattle.rules.specs.Words.{Lent, lent, written}
 use Rattle.rules.specs.Numbers.{answer_number, State}
 use Rattle.rules.specs.Machine.{Outcome, frame, completion, power_cut}
-use Rattle.rules.specs.Promises.{Returned, bench_of, carried_of, returned_of, state_of, outcome_of, FramePromise, CompletionPromise, CutPromise}
+use Rattle.rules.specs.Promises.{bench_of, carried_of, returned_of, state_of, outcome_of, FramePromise, CompletionPromise, CutPromise}
 use Rattle.script.specs.declared.Line.{Line}
 use Rattle.memory.specs.Patched.{Patched}
 use Rattle.standing.specs.declared.Bench.{Bench}

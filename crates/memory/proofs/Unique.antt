@@ -9,7 +9,7 @@ use lib.ListN.{get_or}
 use lib.Seq.{ext_get_or}
 use Rattle.rules.proofs.Promises.{one, lent_one}
 use Rattle.rules.proofs.Outcomes.{OneResult, OneList}
-use Rattle.memory.specs.Patched.{Patched, Repeated}
+use Rattle.memory.specs.Patched.{Patched}
 use Rattle.memory.proofs.set_all.Reads as set_all
 use Rattle.memory.proofs.copy.Reads as copy
 use Rattle.memory.proofs.repeat.Reads as repeat

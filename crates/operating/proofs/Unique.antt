@@ -4,6 +4,7 @@ use Prim.Native.Nat.{ℕ}
 use mathlib.Core.Path.{◌≡◌, ap}
 use mathlib.Core.List.{List}
 use denote.Ref.{Bor}
+use denote.MutBor.{MutBor}
 use Rattle.rules.specs.Numbers.{State}
 use Rattle.rules.specs.Promises.{bench_of}
 use Rattle.rules.specs.Promises as promises
@@ -30,7 +31,7 @@ reads_after_one κ a x y r r' p q = one p q
 -- ---- an operation
 
 abbrev pub Slices : Type 0
-Slices = Bor (List ℕ) × (Bor (List ℕ) × (Bor (List ℕ) × (Bor (List ℕ) × (Bor (List ℕ) × Unit {0}))))
+Slices = MutBor (List ℕ) × (MutBor (List ℕ) × (Bor (List ℕ) × (MutBor (List ℕ) × (MutBor (List ℕ) × Unit {0}))))
 
 -- the result, and the array, the Security ID, the reply and the marks at exit
 pub record Same (r r' : Bench) (x y : Slices) : Type 0 where

@@ -1,5 +1,5 @@
 -- The page of forms: rows as data, a form a line. Each number has its line in 01 or 02, in the words that a C program gets for it.
-use Rattle.std.specs.Prelude.{ℕ, List, [], ◌++◌}
+use Rattle.std.specs.Prelude.{ℕ, List, ◌++◌}
 use Rattle.rules.specs.Texts.{ascii}
 use Rattle.meanings.specs.Meanings.{meaning}
 use Rattle.writing.specs.declared.Row.{Row}

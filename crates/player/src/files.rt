@@ -1,10 +1,14 @@
 // Scripts from files and from standard input: each on a new chip, with counts of its own.
 use crate::parts::within;
-use crate::posts::carried;
+use crate::posts::{EACCES, ENOENT, carried};
 use calling::Account;
 use ordering::Place;
 use posting::Report;
 use standing::Playing;
+use std::env::{Env, FillError};
+use std::io;
+use std::io::Read;
+use std::rt::Files;
 use tallies::Tally;
 use telling::Argument;
 use writing::Row;
@@ -18,34 +22,42 @@ pub struct Session {
     pub tally: Tally,
 }
 
-fn say(text: &[u8]) {
-    io::write_all(1, text);
+// What cannot be written is lost.
+fn say(rt: &impl Print, text: &[u8]) {
+    let _ = rt.write_all(text);
 }
 
-fn say_row(r: Row) {
+fn say_row(rt: &impl Print, r: Row) {
     let t = r.text;
     let n = within(r.length, &t);
-    io::write_all(1, &t[..n]);
-    io::write_all(1, b"\n");
+    say(rt, &t[..n]);
+    say(rt, b"\n");
 }
 
 // The rows of a line; a row of no bytes is none.
-fn told(r: Row) {
+fn told(rt: &impl Print, r: Row) {
     if r.length != 0 {
-        say_row(r);
+        say_row(rt, r);
     }
 }
 
 // How many bytes came, after a prompt where that is asked for.
-fn refilled(fd: i32, prompt: bool, input: &mut [u8; 65536]) -> usize {
+fn refilled(
+    rt: &impl Print,
+    source: &mut impl Read,
+    prompt: bool,
+    input: &mut [u8; 65536],
+) -> usize {
     if prompt {
-        say(b"> ");
+        say(rt, b"> ");
     }
-    let got = libc::read(fd, input);
-    if got < 0 {
-        say(b"       cannot be read to its end\n");
+    match source.read(input) {
+        Ok(n) => n,
+        Err(_) => {
+            say(rt, b"       cannot be read to its end\n");
+            0
+        }
     }
-    io::count(got, input)
 }
 
 // Where nothing came, the line's end that the last line may lack.
@@ -79,7 +91,8 @@ struct Desk {
 
 // A row is told, or a byte is taken, or more bytes come.
 fn turn(
-    fd: i32,
+    rt: &(impl Files + Print),
+    source: &mut impl Read,
     prompt: bool,
     d: Desk,
     input: &mut [u8; 65536],
@@ -99,9 +112,12 @@ fn turn(
         let r = telling::row(
             now, at, frame, expected, known, remark, reply, marks, array, security,
         );
-        told(r);
-        told(post_rows::row(now, d.report, at, frame));
-        told(station_rows::row(now, d.account, at, expected, known, reply, marks));
+        told(rt, r);
+        told(rt, post_rows::row(now, d.report, at, frame));
+        told(
+            rt,
+            station_rows::row(now, d.account, at, expected, known, reply, marks),
+        );
         next.at = ordering::next(now, at);
         return next;
     }
@@ -110,7 +126,7 @@ fn turn(
         let now = playing::take(
             now, b, array, security, frame, expected, known, remark, reply, marks,
         );
-        let c = carried(now, array, security, frame);
+        let c = carried(rt, now, array, security, frame);
         let report = c.report;
         let called = calling::carry(
             c.playing, array, security, frame, expected, known, reply, marks,
@@ -128,7 +144,7 @@ fn turn(
         next.over = true;
         return next;
     }
-    let n = refilled(fd, prompt, input);
+    let n = refilled(rt, source, prompt, input);
     next.ended = n == 0;
     next.came = with_end(n, input);
     next.taken = 0;
@@ -160,9 +176,10 @@ fn tally_of(d: Desk) -> Tally {
     bench.tally
 }
 
-// A proved loop has to end, and nothing says that an input does: so it counts its turns down, from a number that no run uses up.
+// A proved loop has to end, and nothing says that an input does: so it counts its turns, up to a number that no run reaches.
 fn turned(
-    fd: i32,
+    rt: &(impl Files + Print),
+    source: &mut impl Read,
     prompt: bool,
     start: Desk,
     input: &mut [u8; 65536],
@@ -176,18 +193,25 @@ fn turned(
     marks: &mut [u8; 65537],
 ) -> Desk {
     let mut d = start;
-    let mut turns = u64::MAX;
-    while turns > 0 && !d.over {
-        turns -= 1;
+    for _ in 0..u64::MAX {
+        if d.over {
+            break;
+        }
         d = turn(
-            fd, prompt, d, input, array, security, frame, expected, known, remark, reply, marks,
+            rt, source, prompt, d, input, array, security, frame, expected, known, remark, reply,
+            marks,
         );
     }
     d
 }
 
 // The memories belong to a function without a loop: a loop's proof carries each of them.
-fn script_played(fd: i32, strict: bool, prompt: bool) -> Tally {
+fn script_played(
+    rt: &(impl Files + Print),
+    source: &mut impl Read,
+    strict: bool,
+    prompt: bool,
+) -> Tally {
     let mut input = [0u8; 65536];
     let mut array = [255u8; 2097153];
     let mut security = [255u8; 2049];
@@ -199,7 +223,8 @@ fn script_played(fd: i32, strict: bool, prompt: bool) -> Tally {
     let mut marks = [0u8; 65537];
     let start = begun(strict);
     let d = turned(
-        fd,
+        rt,
+        source,
         prompt,
         start,
         &mut input,
@@ -218,31 +243,22 @@ fn script_played(fd: i32, strict: bool, prompt: bool) -> Tally {
 // ---- the scripts
 
 // Why a file cannot be opened, where that is one of the usual reasons.
-fn unopened_told(name: &[u8]) {
-    let error = os::errno();
-    say(name);
-    say(b" cannot be opened");
-    if error == libc::ENOENT {
-        say(b", there is no such file");
+fn unopened_told(rt: &impl Print, name: &[u8], e: io::Error) {
+    say(rt, name);
+    say(rt, b" cannot be opened");
+    match e.raw_os_error() {
+        Some(ENOENT) => say(rt, b", there is no such file"),
+        Some(EACCES) => say(rt, b", that is not permitted"),
+        _ => {}
     }
-    if error == libc::EACCES {
-        say(b", that is not permitted");
-    }
-    say(b"\n");
+    say(rt, b"\n");
 }
 
-fn descriptor_of(input: bool, name: &[u8]) -> i32 {
-    if input {
-        return libc::STDIN_FILENO;
-    }
-    os::open_read(name)
-}
-
-// Its name, the heading and its rows; an empty row stands between two scripts.
-fn input_played(s: Session, fd: i32) -> Session {
-    say_row(telling::heading());
-    let t = script_played(fd, s.strict, s.prompt);
-    say_row(telling::total(t));
+// The heading and its rows.
+fn input_played(rt: &(impl Files + Print), s: Session, source: &mut impl Read) -> Session {
+    say_row(rt, telling::heading());
+    let t = script_played(rt, source, s.strict, s.prompt);
+    say_row(rt, telling::total(t));
     let sum = tallies::sum_of(s.tally, t);
     let mut next = s;
     next.scripts = std::num::wrapping_add_u64(s.scripts, 1);
@@ -250,24 +266,37 @@ fn input_played(s: Session, fd: i32) -> Session {
     next
 }
 
-fn file_played(s: Session, input: bool, name: &[u8]) -> Session {
+// Its name, the heading and its rows.
+fn source_played(
+    rt: &(impl Files + Print),
+    s: Session,
+    name: &[u8],
+    source: &mut impl Read,
+) -> Session {
+    say(rt, name);
+    say(rt, b"\n");
+    input_played(rt, s, source)
+}
+
+// An empty row stands between two scripts.
+fn file_played(rt: &HostRuntime, s: Session, input: bool, name: &[u8]) -> Session {
     if s.scripts != 0 {
-        say(b"\n");
+        say(rt, b"\n");
     }
-    let fd = descriptor_of(input, name);
-    if fd < 0 {
-        unopened_told(name);
-        return s;
+    if input {
+        return source_played(rt, s, name, &mut rt.stdin());
     }
-    say(name);
-    say(b"\n");
-    let next = input_played(s, fd);
-    libc::close(fd);
-    next
+    match filing::opened(rt, name) {
+        Ok(mut file) => source_played(rt, s, name, &mut file),
+        Err(e) => {
+            unopened_told(rt, name, e);
+            s
+        }
+    }
 }
 
 // An option, or a script.
-fn word_played(s: Session, word: &[u8]) -> Session {
+fn word_played(rt: &HostRuntime, s: Session, word: &[u8]) -> Session {
     let mut next = s;
     let argument = telling::argument_of(word);
     match argument {
@@ -279,52 +308,62 @@ fn word_played(s: Session, word: &[u8]) -> Session {
             next.prompt = true;
             next
         }
-        Argument::Input => file_played(s, true, word),
-        Argument::Script => file_played(s, false, word),
+        Argument::Input => file_played(rt, s, true, word),
+        Argument::Script => file_played(rt, s, false, word),
     }
 }
 
-fn argument_played(s: Session, i: usize) -> Session {
-    let mut name = io::buffer();
-    let n = os::arg(i, &mut name);
-    if os::errno() != 0 {
-        say(b"a name is too long\n");
-        return s;
+fn argument_played(rt: &HostRuntime, s: Session, i: usize) -> Session {
+    let mut name = [0u8; 4096];
+    match rt.arg(i, &mut name) {
+        Ok(n) => word_played(rt, s, &name[..n]),
+        Err(_) => {
+            say(rt, b"a name is too long\n");
+            s
+        }
     }
-    word_played(s, &name[..n])
 }
 
 // The arguments but the program's own name.
-fn arguments_played(s: Session, n: usize) -> Session {
+fn arguments_played(rt: &HostRuntime, s: Session, n: usize) -> Session {
     let mut now = s;
-    let mut i: usize = 1;
-    while i < n {
-        now = argument_played(now, i);
-        i += 1;
+    for i in 1..n {
+        now = argument_played(rt, now, i);
     }
     now
 }
 
+// How many arguments there are, the program's own name among them.
+fn argument_count(rt: &impl Env) -> usize {
+    for i in 0..usize::MAX {
+        let mut none = [0u8; 1];
+        if let Err(FillError::NotPresent) = rt.arg(i, &mut none) {
+            return i;
+        }
+    }
+    usize::MAX
+}
+
 // Several scripts have a row for all of them.
-fn all_told(s: Session) {
+fn all_told(rt: &impl Print, s: Session) {
     if s.scripts < 2 {
         return;
     }
-    say(b"\n");
-    say_row(telling::total_of(s.scripts, s.tally));
+    say(rt, b"\n");
+    say_row(rt, telling::total_of(s.scripts, s.tally));
 }
 
-pub fn all_played() {
+pub fn all_played(rt: &HostRuntime) {
     let s = Session {
         strict: false,
         prompt: false,
         scripts: 0,
         tally: tallies::no_events(),
     };
-    let n = os::arg_count();
+    let n = argument_count(rt);
     if n < 2 {
-        input_played(s, libc::STDIN_FILENO);
+        input_played(rt, s, &mut rt.stdin());
         return;
     }
-    all_told(arguments_played(s, n));
+    all_told(rt, arguments_played(rt, s, n));
 }

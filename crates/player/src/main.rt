@@ -6,6 +6,6 @@ mod files;
 mod parts;
 mod posts;
 
-fn main() {
-    files::all_played();
+fn main(rt: HostRuntime) {
+    files::all_played(&rt);
 }

@@ -1,9 +1,10 @@
 // Parts of lent bytes.
-ghost use Rattle.io.specs.Counts.{IsPrefixLen};
+ghost use Rattle.std.specs.Prelude.{◌≡◌, ◌≤◌, length, take};
 
 // The part of n that lies in the slice.
 pub fn within(n: usize, s: &[u8]) -> usize
-    ensures { IsPrefixLen result s.now }
+    ensures within { result ≤ length s.now }
+    ensures front { result ≡ length (take result s.now) }
 {
     if n < s.len() {
         return n;

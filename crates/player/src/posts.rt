@@ -2,30 +2,35 @@
 use crate::parts::within;
 use posting::{Carried, Errand, Trouble};
 use standing::{Playing, Post};
+use std::io;
+use std::io::Read;
+use std::rt::Files;
+
+// The system's numbers of the usual reasons, by C's names.
+pub const ENOENT: i32 = 2;
+
+pub const EACCES: i32 = 13;
+
+const EEXIST: i32 = 17;
 
 // ---- writing
 
 // Why a file cannot be made.
-fn unmade() -> Trouble {
-    let error = os::errno();
-    if error == libc::ENOENT {
-        return Trouble::Folderless;
+fn unmade(e: io::Error) -> Trouble {
+    match e.raw_os_error() {
+        Some(ENOENT) => Trouble::Folderless,
+        Some(EACCES) => Trouble::Forbidden,
+        Some(EEXIST) => Trouble::Taken,
+        _ => Trouble::Unwritten,
     }
-    if error == libc::EACCES {
-        return Trouble::Forbidden;
-    }
-    if error == libc::EEXIST {
-        return Trouble::Taken;
-    }
-    Trouble::Unwritten
 }
 
 // The name has the old file or the whole new one.
-fn written(name: &[u8], bytes: &[u8]) -> Trouble {
-    if filing::replace(name, bytes) {
-        return Trouble::Nothing;
+fn written(rt: &impl Files, name: &[u8], bytes: &[u8]) -> Trouble {
+    match filing::replace(rt, name, bytes) {
+        Ok(()) => Trouble::Nothing,
+        Err(e) => unmade(e),
     }
-    unmade()
 }
 
 // ---- reading
@@ -36,44 +41,32 @@ struct Came {
     length: usize,
 }
 
+fn came_to(trouble: Trouble, length: usize) -> Came {
+    Came { trouble, length }
+}
+
 // Why a file cannot be opened.
-fn unopened() -> Trouble {
-    let error = os::errno();
-    if error == libc::ENOENT {
-        return Trouble::Missing;
+fn unopened(e: io::Error) -> Trouble {
+    match e.raw_os_error() {
+        Some(ENOENT) => Trouble::Missing,
+        Some(EACCES) => Trouble::Denied,
+        _ => Trouble::Unopened,
     }
-    if error == libc::EACCES {
-        return Trouble::Denied;
-    }
-    Trouble::Unopened
 }
 
 // As many bytes as there is room for.
-fn read_from(fd: i32, file: &mut [u8]) -> Came {
-    let length = io::read_full(fd, file);
-    if length < file.len() {
-        if !filing::has_ended(fd) {
-            return Came {
-                trouble: Trouble::Unread,
-                length,
-            };
-        }
-    }
-    Came {
-        trouble: Trouble::Nothing,
-        length,
+fn read_from(from: &mut impl Read, file: &mut [u8]) -> Came {
+    match filing::read_full(from, file) {
+        Ok(length) => came_to(Trouble::Nothing, length),
+        Err(_) => came_to(Trouble::Unread, 0),
     }
 }
 
-fn read_into(name: &[u8], file: &mut [u8; 2148375]) -> Came {
-    let fd = os::open_read(name);
-    if fd < 0 {
-        let trouble = unopened();
-        return Came { trouble, length: 0 };
+fn read_into(rt: &impl Files, name: &[u8], file: &mut [u8; 2148375]) -> Came {
+    match filing::opened(rt, name) {
+        Ok(mut from) => read_from(&mut from, file),
+        Err(e) => came_to(unopened(e), 0),
     }
-    let came = read_from(fd, file);
-    libc::close(fd);
-    came
 }
 
 // ---- the lines
@@ -82,27 +75,27 @@ fn image_of(p: Playing, array: &[u8], security: &[u8], file: &mut [u8; 2148374])
     image_posts::save(p, array, security, file)
 }
 
-fn image_written(name: &[u8], file: &[u8; 2148374]) -> Trouble {
-    written(name, file)
+fn image_written(rt: &impl Files, name: &[u8], file: &[u8; 2148374]) -> Trouble {
+    written(rt, name, file)
 }
 
-fn saved(p: Playing, array: &[u8], security: &[u8], name: &[u8]) -> Carried {
+fn saved(rt: &impl Files, p: Playing, array: &[u8], security: &[u8], name: &[u8]) -> Carried {
     let mut file = [0u8; 2148374];
     let number = image_of(p, array, security, &mut file);
     if number != 0 {
         return posting::end(p, Trouble::Nothing, number, 0);
     }
-    let t = image_written(name, &file);
+    let t = image_written(rt, name, &file);
     posting::end(p, t, 0, 2148374)
 }
 
-fn raw_saved(p: Playing, array: &[u8], name: &[u8]) -> Carried {
+fn raw_saved(rt: &impl Files, p: Playing, array: &[u8], name: &[u8]) -> Carried {
     let number = posting::raw_number(p, array);
     if number != 0 {
         return posting::end(p, Trouble::Nothing, number, 0);
     }
     let n = within(2097152, array);
-    let t = written(name, &array[..n]);
+    let t = written(rt, name, &array[..n]);
     posting::end(p, t, 0, n)
 }
 
@@ -136,9 +129,16 @@ fn came_used(
 }
 
 // One byte more than an image has, so that a longer file shows.
-fn taken(p: Playing, f: Post, array: &mut [u8], security: &mut [u8], name: &[u8]) -> Carried {
+fn taken(
+    rt: &impl Files,
+    p: Playing,
+    f: Post,
+    array: &mut [u8],
+    security: &mut [u8],
+    name: &[u8],
+) -> Carried {
     let mut file = [0u8; 2148375];
-    let came = read_into(name, &mut file);
+    let came = read_into(rt, name, &mut file);
     let t = came.trouble;
     if posting::is_troubled(t) {
         return posting::end(p, t, 0, 0);
@@ -146,23 +146,36 @@ fn taken(p: Playing, f: Post, array: &mut [u8], security: &mut [u8], name: &[u8]
     came_used(p, f, array, security, &file, came.length)
 }
 
-fn posted(p: Playing, f: Post, array: &mut [u8], security: &mut [u8], name: &[u8]) -> Carried {
+fn posted(
+    rt: &impl Files,
+    p: Playing,
+    f: Post,
+    array: &mut [u8],
+    security: &mut [u8],
+    name: &[u8],
+) -> Carried {
     match f {
-        Post::Save => saved(p, array, security, name),
-        Post::SaveRaw => raw_saved(p, array, name),
-        Post::Load => taken(p, f, array, security, name),
-        Post::LoadRaw => taken(p, f, array, security, name),
-        Post::CompareRaw => taken(p, f, array, security, name),
+        Post::Save => saved(rt, p, array, security, name),
+        Post::SaveRaw => raw_saved(rt, p, array, name),
+        Post::Load => taken(rt, p, f, array, security, name),
+        Post::LoadRaw => taken(rt, p, f, array, security, name),
+        Post::CompareRaw => taken(rt, p, f, array, security, name),
     }
 }
 
 // What becomes of the bench where the line that ended has a file; its name is what the line stored.
-pub fn carried(p: Playing, array: &mut [u8], security: &mut [u8], frame: &[u8]) -> Carried {
+pub fn carried(
+    rt: &impl Files,
+    p: Playing,
+    array: &mut [u8],
+    security: &mut [u8],
+    frame: &[u8],
+) -> Carried {
     let reading = p.reading;
     let n = within(reading.sent, frame);
     let errand = posting::asked(p);
     match errand {
         Errand::Nothing => posting::nothing(p),
-        Errand::Post(f) => posted(p, f, array, security, &frame[..n]),
+        Errand::Post(f) => posted(rt, p, f, array, security, &frame[..n]),
     }
 }

@@ -2,8 +2,11 @@
 // answered with is decided by `serving`.
 #![tactic(auto)]
 
-use check::same;
+ghost use Rattle.std.specs.Prelude.{◌≤◌, length};
+
 use keeping::told;
+use std::env::{Env, FillError};
+use std::io::{Read, Write};
 
 // What the words so far ask for: the part that a new chip is, where the name of the chip's file stands among them (0: nowhere), and whether the next word is
 // that name.
@@ -18,12 +21,8 @@ struct Session {
     wrong: bool,
 }
 
-// `-` is standard input.
-fn descriptor_of(name: &[u8]) -> i32 {
-    if same(name, b"-") {
-        return 0;
-    }
-    os::open_read(name)
+fn same(a: &[u8], b: &[u8]) -> bool {
+    a == b
 }
 
 fn starts_dashed(word: &[u8]) -> bool {
@@ -41,79 +40,110 @@ fn is_name(word: &[u8]) -> bool {
     (0 < word.len()) & !starts_dashed(word)
 }
 
-fn usage_told() {
-    io::write_all(2, b"usage: programmer [OPTION..] [SESSION..]\n");
-    io::write_all(
-        2,
+fn say(rt: &HostRuntime, text: &[u8]) {
+    let _ = rt.stderr().write_all(text);
+}
+
+fn usage_told(rt: &HostRuntime) {
+    say(rt, b"usage: programmer [OPTION..] [SESSION..]\n");
+    say(
+        rt,
         b"  SESSION                     a file of what was sent, or - for standard input, which is served where none is named\n",
     );
-    io::write_all(
-        2,
+    say(
+        rt,
         b"  --chip FILE                 the chip of the sessions behind it is in FILE, an image: read before each, saved behind each\n",
     );
-    io::write_all(
-        2,
+    say(
+        rt,
         b"  --raw FILE                  the same with FILE the array alone, 2097152 bytes\n",
     );
-    io::write_all(
-        2,
+    say(
+        rt,
         b"  --old                       a new chip of the sessions behind it is the old part, SST26WF016B; one in a file stays what it is\n",
     );
-    io::write_all(
-        2,
+    say(
+        rt,
         b"  --identity-of-sst26vf016b   the sessions behind it show the sibling's identity\n",
     );
 }
 
-fn wrong_told(s: Session, word: &[u8], text: &[u8]) -> Session {
+fn wrong_told(rt: &HostRuntime, s: Session, word: &[u8], text: &[u8]) -> Session {
     let mut next = s;
     next.wrong = true;
-    told(word, text);
-    usage_told();
+    told(rt, word, text);
+    usage_told(rt);
     next
 }
 
 // On the chip of a file, or on a new one, all FF, where the file has no name; false where it cannot be read or saved.
-fn served(s: Session, fd: i32, name: &[u8]) -> bool {
+fn served<R: Read>(rt: &HostRuntime, s: Session, from: &mut R, name: &[u8]) -> bool {
     let mut array = [255u8; 2097152];
     let mut security = [255u8; 2048];
-    let came = keeping::load(s.raw, name, &mut array, &mut security);
+    let came = keeping::load(rt, s.raw, name, &mut array, &mut security);
     if !came.right {
         return false;
     }
     let before = keeping::chip_of(came, s.ba);
-    keeping::part_told(before, came.kept, name);
-    let c = sessions::serve(fd, before, s.disguise, &mut array, &mut security);
-    keeping::save(s.raw, name, c, &array, &security)
+    keeping::part_told(rt, before, came.kept, name);
+    let mut to = rt.stdout();
+    let c = sessions::serve(from, &mut to, before, s.disguise, &mut array, &mut security);
+    keeping::save(rt, s.raw, name, c, &array, &security)
 }
 
-fn descriptor_served(s: Session, fd: i32) -> bool {
-    if s.file == 0 {
-        return served(s, fd, b"");
+// How many words the command line has, the program's own name among them.
+fn word_count(rt: &HostRuntime) -> usize {
+    for i in 0..usize::MAX {
+        let mut none = [0u8; 1];
+        if let Err(FillError::NotPresent) = rt.arg(i, &mut none) {
+            return i;
+        }
     }
-    let mut name = io::buffer();
-    let n = os::arg(s.file, &mut name);
-    served(s, fd, &name[..n])
+    usize::MAX
 }
 
-fn session_served(s: Session, word: &[u8]) -> Session {
+// Word i of the command line, in front of the buffer; nothing where it is too long for a name.
+fn word_of(rt: &HostRuntime, i: usize, word: &mut [u8]) -> usize
+    ensures { result ≤ length word.new }
+{
+    rt.arg(i, word).unwrap_or(0)
+}
+
+fn source_served<R: Read>(rt: &HostRuntime, s: Session, from: &mut R) -> bool {
+    if s.file == 0 {
+        return served(rt, s, from, b"");
+    }
+    let mut name = [0u8; 4096];
+    let n = word_of(rt, s.file, &mut name);
+    served(rt, s, from, &name[..n])
+}
+
+// `-` is standard input.
+fn session_served(rt: &HostRuntime, s: Session, word: &[u8]) -> Session {
     let mut next = s;
     next.served = true;
-    let fd = descriptor_of(word);
-    if fd < 0 {
-        told(word, b" cannot be opened");
-        next.wrong = true;
+    if same(word, b"-") {
+        let mut from = rt.stdin();
+        next.wrong = !source_served(rt, s, &mut from);
         return next;
     }
-    next.wrong = !descriptor_served(s, fd);
-    libc::close(fd);
+    match filing::opened(rt, word) {
+        Ok(file) => {
+            let mut from = file;
+            next.wrong = !source_served(rt, s, &mut from);
+        }
+        Err(_) => {
+            told(rt, word, b" cannot be opened");
+            next.wrong = true;
+        }
+    }
     next
 }
 
 // The name of the chip's file.
-fn file_named(s: Session, i: usize, word: &[u8]) -> Session {
+fn file_named(rt: &HostRuntime, s: Session, i: usize, word: &[u8]) -> Session {
     if !is_name(word) {
-        return wrong_told(s, word, b" is no name of a chip's file");
+        return wrong_told(rt, s, word, b" is no name of a chip's file");
     }
     let mut next = s;
     next.file = i;
@@ -122,10 +152,10 @@ fn file_named(s: Session, i: usize, word: &[u8]) -> Session {
 }
 
 // An option, or a session.
-fn word_taken(s: Session, i: usize, word: &[u8]) -> Session {
+fn word_taken(rt: &HostRuntime, s: Session, i: usize, word: &[u8]) -> Session {
     let mut next = s;
     if s.naming {
-        return file_named(s, i, word);
+        return file_named(rt, s, i, word);
     }
     if same(word, b"--identity-of-sst26vf016b") {
         next.disguise = true;
@@ -146,19 +176,19 @@ fn word_taken(s: Session, i: usize, word: &[u8]) -> Session {
         return next;
     }
     if is_option(word) {
-        return wrong_told(s, word, b" is no option");
+        return wrong_told(rt, s, word, b" is no option");
     }
-    session_served(s, word)
+    session_served(rt, s, word)
 }
 
-fn argument_taken(s: Session, i: usize) -> Session {
-    let mut word = io::buffer();
-    let n = os::arg(i, &mut word);
-    word_taken(s, i, &word[..n])
+fn argument_taken(rt: &HostRuntime, s: Session, i: usize) -> Session {
+    let mut word = [0u8; 4096];
+    let n = word_of(rt, i, &mut word);
+    word_taken(rt, s, i, &word[..n])
 }
 
 // Up to the first word that is wrong.
-fn arguments_taken(n: usize) -> Session {
+fn arguments_taken(rt: &HostRuntime, n: usize) -> Session {
     let mut s = Session {
         ba: true,
         disguise: false,
@@ -168,26 +198,24 @@ fn arguments_taken(n: usize) -> Session {
         served: false,
         wrong: false,
     };
-    let mut i: usize = 1;
-    while i < n {
+    for i in 1..n {
         if !s.wrong {
-            s = argument_taken(s, i);
+            s = argument_taken(rt, s, i);
         }
-        i += 1;
     }
     s
 }
 
-fn main() {
-    let s = arguments_taken(os::arg_count());
+fn main(rt: HostRuntime) {
+    let s = arguments_taken(&rt, word_count(&rt));
     if s.wrong {
         return;
     }
     if s.naming {
-        wrong_told(s, b"--chip or --raw", b" lacks the name of a file");
+        wrong_told(&rt, s, b"--chip or --raw", b" lacks the name of a file");
         return;
     }
     if !s.served {
-        session_served(s, b"-");
+        session_served(&rt, s, b"-");
     }
 }

@@ -1,6 +1,6 @@
 -- What is counted, and what is first, told of the bytes as a whole. Assumes nothing.
-use Prim.Native.Nat.{ℕ, suc, ◌+◌, ◌≤◌, ◌<◌}
-use mathlib.Core.Path.{◌≡◌, refl, sym, ap, ◌∙◌}
+use Prim.Native.Nat.{ℕ, ◌+◌, ◌≤◌}
+use mathlib.Core.Path.{◌≡◌, sym, ap, ◌∙◌}
 use mathlib.Core.Bool.{Bool, true, false, ◌&&◌}
 use mathlib.Core.List.{List}
 use native.Mathlib.Omega.{arith}
@@ -13,7 +13,7 @@ use Rattle.rules.specs.Words.{pick}
 use Rattle.rules.proofs.Bools.{and_split}
 use Rattle.memory.specs.Patched.{Patched}
 use Rattle.raw_image.specs.declared.Difference.{Difference}
-use Rattle.raw_image.specs.Raw.{no_difference, difference_of, differs_at, compared}
+use Rattle.raw_image.specs.Raw.{difference_of, differs_at, compared}
 
 -- all bytes of a list are replaced
 pub replaced : (l l₀ s : List ℕ) (n : ℕ) → length l₀ ≡ n → length s ≡ n → Patched l l₀ 0 n (λ i. get_or s (0 + i) 0) → l ≡ s

@@ -1,16 +1,16 @@
 -- A comparison tells the first place that differs, and how many do. Assumes nothing.
 use Prim.Native.Nat.{ℕ, zero, suc, ◌+◌, ◌<◌}
-use mathlib.Core.Path.{◌≡◌, refl, sym, ap, ◌∙◌}
-use mathlib.Core.Bool.{Bool, true, false, not}
+use mathlib.Core.Path.{◌≡◌, refl, ◌∙◌}
+use mathlib.Core.Bool.{Bool, true, false}
 use mathlib.Core.List.{List}
 use native.Mathlib.Omega.{arith}
 use native.Mathlib.Decide.{ℕ_discrete}
 use lib.Dec.{eqb}
 use lib.ListN.{get_or}
-use borrow.Author.Tests.{eqb-true, eqb-false, ne_eqb, eq-eqb}
-use Rattle.rules.specs.Words.{num, pick}
+use borrow.Author.Tests.{eqb-true, eqb-false}
+use Rattle.rules.specs.Words.{pick}
 use Rattle.raw_image.specs.declared.Difference.{Difference}
-use Rattle.raw_image.specs.Raw.{no_difference, difference_of, differs_at, compared, differing, Tells}
+use Rattle.raw_image.specs.Raw.{difference_of, differs_at, compared, differing, Tells}
 
 -- one place more
 more : (n : ℕ) (file array : List ℕ) (d : Difference) (x y : Bool) → eqb (get_or file n 0) (get_or array n 0) ≡ x → eqb d.count 0 ≡ y → Tells n file array d

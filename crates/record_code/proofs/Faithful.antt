@@ -15,7 +15,7 @@ use Rattle.rules.specs.declared.Rest.{Rest}
 use Rattle.rules.specs.Bursts.{burst_byte, last_burst, burst_of}
 use Rattle.rules.specs.Fields.{locks_of, works_of, rest_of, chip_of, flags_number, flags_in}
 use Rattle.rules.specs.Words.{bit}
-use Rattle.rules.proofs.Bools.{and_split, and_both, upto, upto_at}
+use Rattle.rules.proofs.Bools.{and_split, upto, upto_at}
 use Rattle.rules.proofs.Fields.{flags_back, flags_kept, burst_back, burst_kept}
 use Rattle.numbering.specs.Numbering.{kind_of, number_of, work_right, work_of}
 use Rattle.numbering.proofs.Works.{work_back, work_small, work_kept}

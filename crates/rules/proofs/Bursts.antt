@@ -3,7 +3,7 @@ use Prim.Native.Nat.{ℕ, zero, suc, ◌+◌, ◌-◌, ◌*◌, ◌/◌, ◌%◌
 use mathlib.Core.Path.{◌≡◌, refl, sym, ap, ◌∙◌, subst}
 use native.Mathlib.Nat.{add_assoc, add-zero, zero-mul, mul_assoc, mul-mod_left, mul-div_cancel, add-mod_left, mod-lt, mod-eq_of_lt, mod_self, mod-add-mod, add-mod-mod, add-mod_right, div-add-mod', div-lt_iff_lt-mul}
 use native.Mathlib.Omega.{arith}
-use lib.Arith.{digits_lt, digits_div, digits_mod, mod-mul}
+use lib.Arith.{digits_lt, digits_div, mod-mul}
 use Rattle.rules.specs.declared.Burst.{Burst}
 use Rattle.rules.specs.Blocks.{array_size_lem}
 use Rattle.rules.specs.Bursts.{burst_length, group_start, burst_place, Divides}

@@ -1,4 +1,4 @@
--- Demand 3 is not empty, and it is wrong with power cuts, without the lock-down, without the read lock or without the write lock: runs of a two_keyed
+-- Demand 3 is not empty, and it is wrong with power cuts, without the lock-down, without the read lock or without the write lock: runs of a two-keyed
 -- of chips, which antt computes. That the chips are idle with nothing suspended is not needed (proofs/Keys). Assumes nothing.
 use Prim.Native.Nat.{ℕ, ◌<◌}
 use mathlib.Core.Path.{◌≡◌, refl, sym, ap, ◌∙◌}
@@ -20,7 +20,7 @@ use Rattle.rules.specs.Cases.{outcome_after}
 use Rattle.rules.specs.KeyCases.{keyed, KeyRead, both_locks, read_lock_only, write_lock_only, read_across, read_after_cut, read_after_write, erased_keys, WithPowerCuts, WithNoLockDown, WithReadLockOnly, WithWriteLockOnly}
 use Rattle.rules.proofs.Blocks.{holds_intro, block_only}
 
--- ---- the two_keyed
+-- ---- the two-keyed
 
 -- a place of the first block is one of block 7 of the table
 first_block : (key : ℕ → ℕ → Bool) (p a : ℕ) → a < 0x2000 → (7 ≡ block_of a → key p a ≡ true) → key p a ≡ true
@@ -58,7 +58,7 @@ write_only : (a : ℕ) → 7 ≡ block_of a → write_locked write_lock_only a �
 unfolding write_locked block_at blocks bit
 write_only a e = rw (sym e)
 
--- a two_keyed that meets the demand's hypotheses; its records are well-formed
+-- a two-keyed that meets the demand's hypotheses; its records are well-formed
 pub two_chips : TwoChips key_place true (keyed both_locks true 0x11) (keyed both_locks true 0x22)
 two_chips = two_keyed key_place both_locks both_read true
 

@@ -78,7 +78,7 @@ masked_low x = lt_of_le_of_lt (and_le_r x all_locks) (lit< tt)
 pub read_locks_low : (p q : ℕ) → Registers p q → bit_and p read_locks < 2 ^ 48
 read_locks_low p q h = lt_of_le_of_lt (and_le_l p read_locks) h.low
 
--- E8: both registers take the same write_lock bits more
+-- E8: both registers take the same write-lock bits more
 pub registers_more : (p q v : ℕ) → Registers p q → Registers (bit_or p (bit_and v write_locks)) (bit_or q (bit_and v write_locks))
 registers_more p q v h =
     record {

@@ -1,7 +1,7 @@
 -- The sentences of 01 on "Suspension", "Reset" and "Power cut k", and on the numbers given back, each on both sides. A power cut and a reset are 01's where m is FF for a
 -- program and 00 for an erase, a reset with k 0 (02, W-205). Proved in proofs/Sentences.
 use Rattle.std.specs.Prelude.{◌+◌, List, [], ◌∷◌}
-use Rattle.rules.specs.Cases.{Section, old, section, ◌on◌, ◌gives◌, ◌is◌, number, byte, mark, place, secured, from, to, flags, protected, permanent, runs, aside, buffered, replies, marked, leaves, WEL, IOC, WPEN, WPLD, SEC, ENABLE}
+use Rattle.rules.specs.Cases.{Section, old, section, ◌on◌, ◌gives◌, ◌is◌, number, byte, mark, place, secured, from, to, flags, protected, permanent, runs, aside, buffered, replies, marked, leaves, WEL, WPEN, WPLD, SEC, ENABLE}
 
 unfoldable pub sentences_of_ending : List Section
 sentences_of_ending =

@@ -1,6 +1,6 @@
 -- The sentences of 01 from "The chip on the bench" to "Reads", each on both sides. Proved in proofs/Sentences.
-use Rattle.std.specs.Prelude.{◌+◌, List, [], ◌∷◌, ◌++◌}
-use Rattle.rules.specs.Cases.{Section, old, section, ◌on◌, ◌gives◌, ◌is◌, number, byte, mark, place, secured, from, to, protected, permanent, buffered, replies, marked, leaves, WEL}
+use Rattle.std.specs.Prelude.{List, [], ◌∷◌, ◌++◌}
+use Rattle.rules.specs.Cases.{Section, old, section, ◌on◌, ◌gives◌, ◌is◌, number, byte, mark, place, secured, from, to, protected, permanent, buffered, replies, marked, leaves}
 
 unfoldable pub sentences_of_reading : List Section
 sentences_of_reading =

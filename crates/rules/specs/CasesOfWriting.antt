@@ -1,6 +1,6 @@
 -- The sentences of 01 on "Programs" and on "Long and short", what each frame does to the record, each on both sides. Proved in proofs/Sentences.
 use Rattle.std.specs.Prelude.{◌+◌, List, [], ◌∷◌}
-use Rattle.rules.specs.Cases.{Section, old, section, ◌on◌, ◌gives◌, ◌is◌, byte, place, secured, from, to, flags, permanent, buffered, leaves, SQI, WEL, IOC, WPEN, WPLD, SEC, ENABLE}
+use Rattle.rules.specs.Cases.{Section, old, section, ◌on◌, ◌gives◌, ◌is◌, place, secured, from, to, buffered, leaves, SQI, WEL, IOC, WPEN, WPLD, SEC, ENABLE}
 
 unfoldable pub sentences_of_writing : List Section
 sentences_of_writing =

@@ -186,7 +186,7 @@ pub struct Form {
     pub more: bool,
 }
 
-// A protection block: its places, its write_lock bit, and whether the bit above that is its read lock.
+// A protection block: its places, its write-lock bit, and whether the bit above that is its read lock.
 #[derive(Clone, Copy)]
 pub struct Block {
     pub start: usize,

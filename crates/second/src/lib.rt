@@ -842,7 +842,7 @@ fn finish_bytes(s: Flat, array: &mut [u8], security: &mut [u8], k: u64, m: u8) {
     }
 }
 
-// What 85, 01 and E8 do: "lock Security ID"; "sets IOC and WPEN"; "E8 adds its write_lock bits to the permanent register
+// What 85, 01 and E8 do: "lock Security ID"; "sets IOC and WPEN"; "E8 adds its write-lock bits to the permanent register
 // and to the protection register; WPLD does not stop it."
 fn finish_registers(s: Flat) -> Flat {
     let mut next = s;

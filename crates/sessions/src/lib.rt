@@ -5,6 +5,7 @@
 use operating::Bench;
 use rules::Chip;
 use serving::Serving;
+use std::io::{Read, Write};
 
 // The session, how much of the input is taken, and whether it is over: no byte comes any more, or nobody takes an answer.
 #[derive(Clone, Copy)]
@@ -23,16 +24,22 @@ fn byte_at(input: &[u8; 65536], i: usize) -> u8 {
 }
 
 // In one write, since a socket may hold a second one back.
-fn written(answer: &[u8; 65537], n: usize) -> bool {
+fn written<W: Write>(to: &mut W, answer: &[u8; 65537], n: usize) -> bool {
     if n == 0 {
         return true;
     }
-    filing::front_written(1, answer, n)
+    filing::front_written(to, answer, n)
+}
+
+// How many bytes come; none where they end, or cannot be read.
+fn came<R: Read>(from: &mut R, input: &mut [u8]) -> usize {
+    from.read(input).unwrap_or(0)
 }
 
 // A byte is taken, or more come.
-fn turn(
-    fd: i32,
+fn turn<R: Read, W: Write>(
+    from: &mut R,
+    to: &mut W,
     d: Desk,
     input: &mut [u8; 65536],
     array: &mut [u8; 2097152],
@@ -47,11 +54,11 @@ fn turn(
         let b = byte_at(input, d.taken);
         let now = serving::take(now, b, array, security, sent, answer, marks);
         next.taken = std::num::wrapping_add_usize(d.taken, 1);
-        next.over = !written(answer, now.written);
+        next.over = !written(to, answer, now.written);
         next.now = now;
         return next;
     }
-    let n = io::count(libc::read(fd, input), input);
+    let n = came(from, input);
     next.taken = 0;
     next.came = n;
     next.over = n == 0;
@@ -68,9 +75,10 @@ fn begun(c: Chip, disguise: bool) -> Desk {
     }
 }
 
-// A proved loop has to end, and nothing says that an input does: so it counts its turns down, from a number that no session uses up.
-fn turned(
-    fd: i32,
+// A proved loop has to end, and nothing says that an input does: so it counts its turns, up to a number that no session reaches.
+fn turned<R: Read, W: Write>(
+    from: &mut R,
+    to: &mut W,
     start: Desk,
     input: &mut [u8; 65536],
     array: &mut [u8; 2097152],
@@ -80,10 +88,11 @@ fn turned(
     marks: &mut [u8; 65536],
 ) -> Desk {
     let mut d = start;
-    let mut turns = u64::MAX;
-    while turns > 0 && !d.over {
-        turns -= 1;
-        d = turn(fd, d, input, array, security, sent, answer, marks);
+    for _ in 0..u64::MAX {
+        if d.over {
+            break;
+        }
+        d = turn(from, to, d, input, array, security, sent, answer, marks);
     }
     d
 }
@@ -94,8 +103,9 @@ fn bench_left(d: Desk) -> Bench {
 }
 
 // A session on a chip; the chip that it leaves, with what ran at its end done.
-pub fn serve(
-    fd: i32,
+pub fn serve<R: Read, W: Write>(
+    from: &mut R,
+    to: &mut W,
     c: Chip,
     disguise: bool,
     array: &mut [u8; 2097152],
@@ -107,7 +117,8 @@ pub fn serve(
     let mut marks = [0u8; 65536];
     let start = begun(c, disguise);
     let d = turned(
-        fd,
+        from,
+        to,
         start,
         &mut input,
         array,

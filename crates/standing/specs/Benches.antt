@@ -1,5 +1,5 @@
 -- The bench between two lines: where a script begins, and where its next line does.
-use Rattle.std.specs.Prelude.{ℕ, ◌+◌, ◌%◌, min, Bool, true, false, List, length, take}
+use Rattle.std.specs.Prelude.{ℕ, ◌+◌, ◌%◌, min, Bool, false, List, length, take}
 use Rattle.rules.specs.declared.Chip.{Chip}
 use Rattle.rules.specs.Blocks.{array_size_lem, security_size_lem}
 use Rattle.rules.specs.Commands.{new_chip}

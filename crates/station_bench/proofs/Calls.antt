@@ -5,22 +5,20 @@ use mathlib.Core.Bool.{Bool, true, false}
 use mathlib.Core.List.{List, ◌++◌}
 use native.Mathlib.Omega.{arith}
 use lib.Dec.{eqb, ltb}
-use lib.ListN.{length, get_or, take, drop, length-append, length-drop, take-append-drop, get_or-append}
+use lib.ListN.{length, get_or, take, drop, length-append, length-drop, get_or-append}
 use lib.Seq.{ext_get_or, get_or-take, get_or-drop, get_or-append-add, length-take-le, take-append_seam}
 use borrow.Author.Tests.{ltb-true, ltb-false, eqb-true}
 use Rattle.rules.specs.declared.Chip.{Chip}
 use Rattle.rules.specs.Words.{pick, lent}
-use Rattle.rules.specs.Fields.{chip_of}
 use Rattle.rules.specs.Promises.{bench_of, state_of}
 use Rattle.rules.proofs.Bools.{and_split}
 use Rattle.memory.specs.Patched.{Patched}
-use Rattle.record_code.specs.Layout.{record_size, NothingReserved, code, is_code, rest_code, chip_in, decode}
-use Rattle.record_code.proofs.Faithful.{known_reserved, reserved_kept}
+use Rattle.record_code.specs.Layout.{record_size, NothingReserved, code, is_code, rest_code, chip_in}
+use Rattle.record_code.proofs.Faithful.{reserved_kept}
 use Rattle.stations.specs.declared.StoreRecord.{StoreRecord}
-use Rattle.stations.specs.Promises.{Desk, Came, came_of, stored, Looked, looked_of, looked_up, StorePromise, LookupPromise}
+use Rattle.stations.specs.Promises.{Desk, came_of, stored, Looked, looked_up, StorePromise, LookupPromise}
 use Rattle.stations.specs.Calls.{Ended}
 use Rattle.stations.proofs.Given.{lookup_given}
-use Rattle.station_bench.specs.declared.Stored.{Stored}
 use Rattle.station_bench.specs.Boundary.{Told, told_of, told_by, stored_in, Found, found_of, found_by, found_in}
 use Rattle.station_bench.specs.Boundary as boundary
 

@@ -3,7 +3,7 @@
 use Prim.Native.Nat.{ℕ}
 use mathlib.Core.Path.{◌≡◌, ap}
 use mathlib.Core.List.{List}
-use denote.Ref.{Bor}
+use denote.MutBor.{MutBor}
 use Rattle.rules.proofs.Promises.{one, lent_one}
 use Rattle.rules.proofs.Outcomes.{OneOutcome}
 use Rattle.stations.specs.Promises.{Desk, desk_of}
@@ -14,7 +14,7 @@ use Rattle.station_bench.proofs.fulkibono_station_store.Reads as store
 
 -- the record's bytes and the four slices
 abbrev Lent : Type 0 → Type 0
-Lent X = Bor (List ℕ) × (Bor (List ℕ) × (Bor (List ℕ) × (Bor (List ℕ) × (Bor (List ℕ) × X))))
+Lent X = MutBor (List ℕ) × (MutBor (List ℕ) × (MutBor (List ℕ) × (MutBor (List ℕ) × (MutBor (List ℕ) × X))))
 
 abbrev desk_in : {X : Type 0} → Lent X → Desk
 desk_in a = desk_of a.1.0.now a.1.1.0.now a.1.1.1.0.now a.1.1.1.1.0.now

@@ -37,5 +37,7 @@ pub extern "C" fn fulkibono_station_store(
 ) -> Stored
     ensures { StorePromise bytes.old (desk_of array.old security.old reply.old marks.old) station «data».now allowance list.now result bytes.new (desk_of array.new security.new reply.new marks.new) }
 {
-    station_bench::fulkibono_station_store(bytes, array, security, reply, marks, station, data, allowance, list)
+    station_bench::fulkibono_station_store(
+        bytes, array, security, reply, marks, station, data, allowance, list,
+    )
 }

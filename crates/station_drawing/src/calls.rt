@@ -1,5 +1,5 @@
 // Calls and events that are drawn.
-ghost use Rattle.io.specs.Counts.{IsPrefixLen};
+ghost use Rattle.std.specs.Prelude.{◌≡◌, ◌≤◌, length, take};
 
 use crate::both::{Call, Event, Lengths};
 use crate::lists::station_of;
@@ -10,7 +10,8 @@ pub type Entries = [u64; 2304];
 
 // The part of n that lies in the list.
 pub fn entries_within(n: usize, s: &[u64]) -> usize
-    ensures { IsPrefixLen result s.now }
+    ensures within { result ≤ length s.now }
+    ensures front { result ≡ length (take result s.now) }
 {
     if n < s.len() {
         return n;

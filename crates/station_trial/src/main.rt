@@ -11,7 +11,7 @@ mod worked;
 
 const RUNS: u64 = 1600;
 
-fn main() {
+fn main(rt: HostRuntime) {
     let mut counts = [0u64; 256];
     let mut array = [255u8; 2097153];
     let mut security = [0x5au8; 2049];
@@ -23,6 +23,7 @@ fn main() {
     let mut marks2 = [0u8; 65537];
     worked::both_filled(&mut array, &mut array2);
     worked::paper_shown(
+        &rt,
         &mut counts,
         &mut array,
         &mut security,
@@ -34,6 +35,7 @@ fn main() {
         &mut marks2,
     );
     runs::runs_tried(
+        &rt,
         RUNS,
         &mut counts,
         &mut array,
@@ -45,8 +47,9 @@ fn main() {
         &mut reply2,
         &mut marks2,
     );
-    report::counts_said(&mut counts);
+    report::counts_said(&rt, &mut counts);
     planted::planted_tried(
+        &rt,
         &mut array,
         &mut security,
         &mut reply,

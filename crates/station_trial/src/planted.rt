@@ -133,6 +133,7 @@ fn tried(
 }
 
 pub fn planted_tried(
+    rt: &impl Print,
     array: &mut Memory,
     security: &mut Identity,
     reply: &mut Reply,
@@ -147,7 +148,7 @@ pub fn planted_tried(
         let odd = tried(
             plant, array, security, reply, marks, array2, security2, reply2, marks2,
         );
-        report::planted_said(plant, odd);
+        report::planted_said(rt, plant, odd);
         plant += 1;
     }
 }

@@ -34,6 +34,7 @@ struct At {
 }
 
 fn looks(
+    rt: &impl Print,
     p: Pair,
     l: Lengths,
     t: At,
@@ -54,12 +55,13 @@ fn looks(
     );
     let next = w.pair;
     lookup_counted(counts, both::number_of(next));
-    report::told(counts, b"lookup of run", t.run, t.step, w.odd);
+    report::told(rt, counts, b"lookup of run", t.run, t.step, w.odd);
     next
 }
 
 // So many entries of a list are lent.
 fn stores_by(
+    rt: &impl Print,
     p: Pair,
     l: Lengths,
     t: At,
@@ -94,11 +96,12 @@ fn stores_by(
     );
     let next = w.pair;
     store_counted(counts, both::number_of(next), c.station, reply);
-    report::told(counts, b"store of run", t.run, t.step, w.odd);
+    report::told(rt, counts, b"store of run", t.run, t.step, w.odd);
     next
 }
 
 fn stores_of(
+    rt: &impl Print,
     p: Pair,
     l: Lengths,
     t: At,
@@ -116,12 +119,13 @@ fn stores_of(
     marks2: &mut Reply,
 ) -> Pair {
     stores_by(
-        p, l, t, c, list, entries, counts, array, security, reply, marks, array2, security2,
+        rt, p, l, t, c, list, entries, counts, array, security, reply, marks, array2, security2,
         reply2, marks2,
     )
 }
 
 fn stores(
+    rt: &impl Print,
     p: Pair,
     l: Lengths,
     t: At,
@@ -141,6 +145,7 @@ fn stores(
     let entries = calls::entries(seed);
     calls::fill_entries(&mut list, entries, seed, c.allowance);
     stores_of(
+        rt,
         p,
         calls::lengths(l, seed),
         t,
@@ -161,6 +166,7 @@ fn stores(
 
 // What was just stored is looked up.
 fn stores_and_looks(
+    rt: &impl Print,
     p: Pair,
     l: Lengths,
     t: At,
@@ -177,19 +183,21 @@ fn stores_and_looks(
 ) -> Pair {
     let c = calls::call(seed);
     let next = stores(
-        p, l, t, c, seed, counts, array, security, reply, marks, array2, security2, reply2, marks2,
+        rt, p, l, t, c, seed, counts, array, security, reply, marks, array2, security2, reply2,
+        marks2,
     );
     let wanted = Wanted {
         known: both::number_of(next) == 0,
         from: c.from,
     };
     looks(
-        next, l, t, c.station, wanted, counts, array, security, reply, marks, array2, security2,
-        reply2, marks2,
+        rt, next, l, t, c.station, wanted, counts, array, security, reply, marks, array2,
+        security2, reply2, marks2,
     )
 }
 
 fn looks_drawn(
+    rt: &impl Print,
     p: Pair,
     l: Lengths,
     t: At,
@@ -209,6 +217,7 @@ fn looks_drawn(
         from: 0,
     };
     looks(
+        rt,
         p,
         calls::lengths(l, seed),
         t,
@@ -229,6 +238,7 @@ fn looks_drawn(
 // ---- events
 
 fn happens(
+    rt: &impl Print,
     p: Pair,
     l: Lengths,
     t: At,
@@ -241,11 +251,12 @@ fn happens(
     security2: &mut Identity,
 ) -> Pair {
     let w = both::happened(p, l, e, sent, 0, array, security, array2, security2);
-    report::told(counts, b"event of run", t.run, t.step, w.odd);
+    report::told(rt, counts, b"event of run", t.run, t.step, w.odd);
     w.pair
 }
 
 fn sends(
+    rt: &impl Print,
     p: Pair,
     l: Lengths,
     t: At,
@@ -258,6 +269,7 @@ fn sends(
 ) -> Pair {
     let sent = [opcode];
     happens(
+        rt,
         p,
         l,
         t,
@@ -272,6 +284,7 @@ fn sends(
 }
 
 fn cuts(
+    rt: &impl Print,
     p: Pair,
     l: Lengths,
     t: At,
@@ -284,6 +297,7 @@ fn cuts(
 ) -> Pair {
     bump(counts, report::CUTS);
     happens(
+        rt,
         p,
         l,
         t,
@@ -299,6 +313,7 @@ fn cuts(
 
 // A power cut, and 06 and 98, which open the list again.
 fn cuts_and_opens(
+    rt: &impl Print,
     p: Pair,
     l: Lengths,
     t: At,
@@ -309,9 +324,15 @@ fn cuts_and_opens(
     array2: &mut Memory,
     security2: &mut Identity,
 ) -> Pair {
-    let a = cuts(p, l, t, seed, counts, array, security, array2, security2);
-    let b = sends(a, l, t, 0x06, counts, array, security, array2, security2);
-    sends(b, l, t, 0x98, counts, array, security, array2, security2)
+    let a = cuts(
+        rt, p, l, t, seed, counts, array, security, array2, security2,
+    );
+    let b = sends(
+        rt, a, l, t, 0x06, counts, array, security, array2, security2,
+    );
+    sends(
+        rt, b, l, t, 0x98, counts, array, security, array2, security2,
+    )
 }
 
 // The reset enable, suspension, resumption, WEL.
@@ -325,6 +346,7 @@ fn opcode(seed: u64) -> u8 {
 }
 
 fn event(
+    rt: &impl Print,
     kind: u64,
     p: Pair,
     l: Lengths,
@@ -337,8 +359,11 @@ fn event(
     security2: &mut Identity,
 ) -> Pair {
     match kind {
-        11 | 12 => cuts_and_opens(p, l, t, seed, counts, array, security, array2, security2),
+        11 | 12 => cuts_and_opens(
+            rt, p, l, t, seed, counts, array, security, array2, security2,
+        ),
         13 => happens(
+            rt,
             p,
             l,
             t,
@@ -351,6 +376,7 @@ fn event(
             security2,
         ),
         14 => sends(
+            rt,
             p,
             l,
             t,
@@ -361,11 +387,14 @@ fn event(
             array2,
             security2,
         ),
-        _ => cuts(p, l, t, seed, counts, array, security, array2, security2),
+        _ => cuts(
+            rt, p, l, t, seed, counts, array, security, array2, security2,
+        ),
     }
 }
 
 fn step(
+    rt: &impl Print,
     p: Pair,
     l: Lengths,
     t: At,
@@ -383,13 +412,15 @@ fn step(
     let kind = draw(seed, 42, 16);
     match kind {
         0..=6 => stores_and_looks(
-            p, l, t, seed, counts, array, security, reply, marks, array2, security2, reply2, marks2,
+            rt, p, l, t, seed, counts, array, security, reply, marks, array2, security2, reply2,
+            marks2,
         ),
         7..=10 => looks_drawn(
-            p, l, t, seed, counts, array, security, reply, marks, array2, security2, reply2, marks2,
+            rt, p, l, t, seed, counts, array, security, reply, marks, array2, security2, reply2,
+            marks2,
         ),
         _ => event(
-            kind, p, l, t, seed, counts, array, security, array2, security2,
+            rt, kind, p, l, t, seed, counts, array, security, array2, security2,
         ),
     }
 }
@@ -414,6 +445,7 @@ fn filled(k: u64, counts: &mut Counts, array: &mut Memory, array2: &mut Memory) 
 }
 
 fn run(
+    rt: &impl Print,
     k: u64,
     counts: &mut Counts,
     array: &mut Memory,
@@ -440,6 +472,7 @@ fn run(
     while n < 6 {
         let t = At { run: k, step: n };
         p = step(
+            rt,
             p,
             l,
             t,
@@ -459,6 +492,7 @@ fn run(
 }
 
 pub fn runs_tried(
+    rt: &impl Print,
     runs: u64,
     counts: &mut Counts,
     array: &mut Memory,
@@ -473,7 +507,7 @@ pub fn runs_tried(
     let mut k: u64 = 0;
     while k < runs {
         run(
-            k, counts, array, security, reply, marks, array2, security2, reply2, marks2,
+            rt, k, counts, array, security, reply, marks, array2, security2, reply2, marks2,
         );
         k += 1;
     }

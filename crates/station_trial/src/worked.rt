@@ -314,6 +314,7 @@ fn is_value(kind: u64) -> bool {
 
 // The steps of all sentences, one after the other.
 pub fn paper_shown(
+    rt: &impl Print,
     counts: &mut Counts,
     array: &mut Memory,
     security: &mut Identity,
@@ -332,9 +333,9 @@ pub fn paper_shown(
             p, d, array, security, reply, marks, array2, security2, reply2, marks2,
         );
         p = r.pair;
-        report::told(counts, b"the paper's sentence", n / 32, n % 32, r.odd);
+        report::told(rt, counts, b"the paper's sentence", n / 32, n % 32, r.odd);
         if is_value(d.kind) {
-            report::shows(counts, n / 32, n % 32, r.right);
+            report::shows(rt, counts, n / 32, n % 32, r.right);
         }
         n += 1;
     }

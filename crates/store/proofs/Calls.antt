@@ -1,10 +1,10 @@
 -- A call: 1 before anything is sent, the read, what it shows, and then the writes. By the definitions of a call. Assumes nothing.
-use Prim.Native.Nat.{ℕ, zero, suc, ◌+◌, ◌*◌, ◌<◌, ◌≤◌}
+use Prim.Native.Nat.{ℕ, ◌+◌, ◌*◌, ◌<◌}
 use mathlib.Core.Path.{◌≡◌, refl, sym, ap, ◌∙◌}
 use mathlib.Core.Bool.{Bool, true, false, ◌&&◌}
-use mathlib.Core.List.{List, [], ◌∷◌}
+use mathlib.Core.List.{List, []}
 use native.Mathlib.Omega.{arith}
-use lib.Dec.{eqb, ltb}
+use lib.Dec.{eqb}
 use lib.ListN.{length, get_or}
 use borrow.Author.Tests.{eqb-true, lt-ltb, le-ltb}
 use Rattle.rules.specs.Words.{pick, Lent, lent}
@@ -14,10 +14,10 @@ use Rattle.rules.specs.Promises.{Bench, Returned, zeroed, bench_of, carried_of, 
 use Rattle.rules.proofs.Bools.{and_split}
 use Rattle.memory.specs.Patched.{Patched}
 use Rattle.stations.specs.declared.StoreRecord.{StoreRecord}
-use Rattle.stations.specs.Slots.{Shown, slot_count, data_size, shown_in, byte_of, bytes_of, slot_of, found, free_slot}
+use Rattle.stations.specs.Slots.{Shown, shown_in, byte_of, bytes_of, slot_of, found, free_slot}
 use Rattle.stations.specs.Plans.{Plan, refused, writing, storing_at, storing, looking_up}
-use Rattle.stations.specs.Calls.{Script, ends, Ended, ended_of, played, on_done, writes, reading, shown_by, carried_out, calling, store_right, lookup_right, store_call, lookup_call}
-use Rattle.stations.specs.Promises.{Desk, desk_of, state_at, Came, came_of, came_by, stored, Looked, looked_of, looked_up, StorePromise, LookupPromise}
+use Rattle.stations.specs.Calls.{Script, Ended, ended_of, played, on_done, writes, reading, shown_by, carried_out, calling, store_right, lookup_right, store_call, lookup_call}
+use Rattle.stations.specs.Promises.{Desk, desk_of, state_at, Came, came_by, stored, looked_of, looked_up, StorePromise, LookupPromise}
 use Rattle.stations.proofs.Same.{bytes_are}
 use Rattle.store.specs.Steps.{read_frame, leaves}
 use Rattle.store.proofs.Steps.{stops_there, goes_on}

@@ -1,5 +1,5 @@
 -- What the calls of a step come to: one frame of the machine, a poll, the polls of a write. By the definitions of a call. Assumes nothing.
-use Prim.Native.Nat.{ℕ, zero, suc, ◌+◌, ◌-◌, ◌/◌, ◌%◌, ◌^◌, ◌<◌, ◌≤◌}
+use Prim.Native.Nat.{ℕ, suc, ◌+◌, ◌-◌, ◌/◌, ◌%◌, ◌<◌, ◌≤◌}
 use mathlib.Core.Path.{◌≡◌, refl, sym, ap, ◌∙◌, subst}
 use mathlib.Core.Bool.{Bool, true, false, true≢false}
 use mathlib.Core.List.{List, [], ◌∷◌, ◌++◌}
@@ -14,7 +14,7 @@ use Rattle.rules.proofs.Promises.{answer_one}
 use Rattle.rules.specs.declared.Circumstances.{Circumstances}
 use Rattle.rules.specs.Words.{bit, pick}
 use Rattle.rules.specs.Numbers.{State, answer_number}
-use Rattle.rules.specs.Machine.{Outcome, completion, step, left}
+use Rattle.rules.specs.Machine.{Outcome, step, left}
 use Rattle.rules.specs.Promises.{Bench, Returned, zeroed, bench_of, carried_of, state_of, FramePromise, CompletionPromise}
 use Rattle.memory.specs.Patched.{Patched}
 use Rattle.stations.specs.Calls.{Script, ends, does, Ended, ended_of, played, short, on_done, arriving, polling, write}

@@ -3,7 +3,7 @@
 use Prim.Native.Nat.{ℕ}
 use mathlib.Core.Path.{ap}
 use mathlib.Core.List.{List}
-use denote.Ref.{Bor}
+use denote.MutBor.{MutBor}
 use Rattle.rules.proofs.Promises.{one}
 use Rattle.rules.proofs.Outcomes.{OneOutcome}
 use Rattle.stations.specs.declared.StoreRecord.{StoreRecord}
@@ -14,7 +14,7 @@ use Rattle.store.proofs.store.Reads as store
 
 -- what is lent to both: the four slices, behind the record
 abbrev Lent : Type 0 → Type 0
-Lent X = StoreRecord × (Bor (List ℕ) × (Bor (List ℕ) × (Bor (List ℕ) × (Bor (List ℕ) × X))))
+Lent X = StoreRecord × (MutBor (List ℕ) × (MutBor (List ℕ) × (MutBor (List ℕ) × (MutBor (List ℕ) × X))))
 
 abbrev desk_in : {X : Type 0} → Lent X → Desk
 desk_in a = desk_of a.1.0.now a.1.1.0.now a.1.1.1.0.now a.1.1.1.1.0.now

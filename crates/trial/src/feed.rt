@@ -7,6 +7,9 @@ use drawing::dice::{once_in, seed_of};
 use drawing::source;
 use drawing::source::Counts;
 use standing::Playing;
+use std::env::{Env, FillError};
+use std::fs::File;
+use std::io::Read;
 
 // What comes next: another argument, a part of a script, what its end asks, a file of forms, a random line, nothing.
 pub const NEXT: u8 = 0;
@@ -26,9 +29,8 @@ pub type Input = [u8; 65536];
 #[derive(Clone, Copy)]
 pub struct Feed {
     pub phase: u8,
-    // the argument, and the file that it names
+    // the argument
     pub word: usize,
-    pub fd: i32,
     // it names the forms of random lines
     pub random: bool,
     // no line of it is played yet
@@ -62,7 +64,6 @@ pub fn first() -> Feed {
     Feed {
         phase: NEXT,
         word: 0,
-        fd: 0,
         random: false,
         fresh: true,
         plant: 0,
@@ -153,15 +154,21 @@ fn differences(f: Feed, now: Playing) -> u64 {
 // ---- arguments
 
 // A script begins with a new chip and blank memories.
-fn opened(f: Feed, name: &[u8], input: &mut Input) -> Feed {
+fn opened(
+    rt: &HostRuntime,
+    f: Feed,
+    name: &[u8],
+    file: &mut Option<File>,
+    input: &mut Input,
+) -> Feed {
     let mut next = in_phase(f, NEXT);
-    next.fd = os::open_read(name);
+    *file = filing::opened(rt, name).ok();
     next.cases = 0;
     next.odd = 0;
     next.fresh = true;
-    if next.fd < 0 {
-        say(name);
-        say(b" cannot be opened\n");
+    if file.is_none() {
+        say(rt, name);
+        say(rt, b" cannot be opened\n");
         next.differences = std::num::wrapping_add_u64(f.differences, 1);
         return next;
     }
@@ -175,7 +182,13 @@ fn opened(f: Feed, name: &[u8], input: &mut Input) -> Feed {
     with_bytes(next, PART, 4)
 }
 
-fn next_word(f: Feed, name: &[u8], input: &mut Input) -> Feed {
+fn next_word(
+    rt: &HostRuntime,
+    f: Feed,
+    name: &[u8],
+    file: &mut Option<File>,
+    input: &mut Input,
+) -> Feed {
     let mut next = in_phase(f, NEXT);
     if same(name, b"--planted") {
         next.plant = 1;
@@ -185,29 +198,45 @@ fn next_word(f: Feed, name: &[u8], input: &mut Input) -> Feed {
         next.random = true;
         return next;
     }
-    opened(f, name, input)
+    opened(rt, f, name, file, input)
 }
 
-fn next_argument(f: Feed, counts: &Counts, input: &mut Input) -> Feed {
+// One that is too long names no file.
+fn next_argument(
+    rt: &HostRuntime,
+    f: Feed,
+    counts: &Counts,
+    file: &mut Option<File>,
+    input: &mut Input,
+) -> Feed {
     let mut next = f;
     next.word = std::num::wrapping_add_usize(f.word, 1);
-    if next.word < os::arg_count() {
-        let mut name = io::buffer();
-        let n = os::arg(next.word, &mut name);
-        return next_word(next, &name[..n], input);
+    let mut name = [0u8; 4096];
+    match rt.arg(next.word, &mut name) {
+        Ok(n) => next_word(rt, next, &name[..n], file, input),
+        Err(FillError::TooLong) => next_word(rt, next, b"", file, input),
+        Err(FillError::NotPresent) => {
+            report::counts_said(rt, counts);
+            say_number(rt, b"", f.events);
+            say_number(rt, b" events compared, ", f.differences);
+            say(rt, b" differences\n");
+            in_phase(next, OVER)
+        }
     }
-    report::counts_said(counts);
-    say_number(b"", f.events);
-    say_number(b" events compared, ", f.differences);
-    say(b" differences\n");
-    in_phase(next, OVER)
 }
 
 // ---- scripts
 
-fn part(f: Feed, input: &mut Input) -> Feed {
-    let got = libc::read(f.fd, input);
-    let n = io::count(got, input);
+// A file that cannot be read ends there.
+fn came(file: &mut Option<File>, input: &mut Input) -> usize {
+    match file {
+        Some(from) => from.read(input).unwrap_or(0),
+        None => 0,
+    }
+}
+
+fn part(f: Feed, file: &mut Option<File>, input: &mut Input) -> Feed {
+    let n = came(file, input);
     if n == 0 {
         input[0] = b'\n';
         return with_bytes(f, ENDED, 1);
@@ -215,33 +244,33 @@ fn part(f: Feed, input: &mut Input) -> Feed {
     with_bytes(f, PART, n)
 }
 
-fn plant_said(plant: u64) {
+fn plant_said(rt: &impl Print, plant: u64) {
     match plant {
-        1 => say(b", another number"),
-        2 => say(b", another record"),
-        3 => say(b", another reply"),
-        4 => say(b", other marks"),
-        5 => say(b", another array"),
-        6 => say(b", another Security ID"),
-        7 => say(b", another part"),
+        1 => say(rt, b", another number"),
+        2 => say(rt, b", another record"),
+        3 => say(rt, b", another reply"),
+        4 => say(rt, b", other marks"),
+        5 => say(rt, b", another array"),
+        6 => say(rt, b", another Security ID"),
+        7 => say(rt, b", another part"),
         _ => {}
     }
 }
 
-fn compared_said(f: Feed, now: Playing) {
-    say_number(b" events, memories compared ", f.compared);
-    say_number(b" times, ", differences(f, now));
-    say(b" differences\n");
+fn compared_said(rt: &impl Print, f: Feed, now: Playing) {
+    say_number(rt, b" events, memories compared ", f.compared);
+    say_number(rt, b" times, ", differences(f, now));
+    say(rt, b" differences\n");
 }
 
 // Its row; with a planted difference it is played once more for each comparison, and counts for nothing else.
-fn ended(f: Feed, now: Playing) -> Feed {
-    libc::close(f.fd);
-    say_word(f.word);
-    plant_said(f.plant);
-    say_number(b": ", f.cases);
-    say_number(b" cases, ", report::events(now));
-    compared_said(f, now);
+fn ended(rt: &HostRuntime, f: Feed, file: &mut Option<File>, now: Playing) -> Feed {
+    *file = None;
+    say_word(rt, f.word);
+    plant_said(rt, f.plant);
+    say_number(rt, b": ", f.cases);
+    say_number(rt, b" cases, ", report::events(now));
+    compared_said(rt, f, now);
     let mut next = in_phase(f, NEXT);
     if f.plant == 0 {
         next.events = std::num::wrapping_add_u64(f.events, report::events(now));
@@ -278,10 +307,17 @@ fn forms_of(series: u64) -> u64 {
     }
 }
 
+fn forms_read(file: &mut Option<File>, forms: &mut [u8]) -> usize {
+    match file {
+        Some(from) => filing::read_full(from, forms).unwrap_or(0),
+        None => 0,
+    }
+}
+
 // The forms of a file.
-fn indexed(f: Feed, forms: &mut [u8], index: &mut Counts) -> Feed {
-    let got = io::read_full(f.fd, forms);
-    libc::close(f.fd);
+fn indexed(f: Feed, file: &mut Option<File>, forms: &mut [u8], index: &mut Counts) -> Feed {
+    let got = forms_read(file, forms);
+    *file = None;
     let n = within(got, forms);
     source::indexed(&forms[..n], index);
     let mut next = in_phase(f, RANDOM);
@@ -294,14 +330,14 @@ fn indexed(f: Feed, forms: &mut [u8], index: &mut Counts) -> Feed {
 }
 
 // The next series; the last one has a planted difference, and counts for nothing.
-fn next_series(f: Feed, now: Playing) -> Feed {
+fn next_series(rt: &HostRuntime, f: Feed, now: Playing) -> Feed {
     let mut next = f;
     next.run = 0;
     next.series = std::num::wrapping_add_u64(f.series, 1);
     if next.series == 3 {
-        say_word(f.word);
-        say_number(b": ", report::events(now));
-        compared_said(f, now);
+        say_word(rt, f.word);
+        say_number(rt, b": ", report::events(now));
+        compared_said(rt, f, now);
         next.events = std::num::wrapping_add_u64(f.events, report::events(now));
         next.differences = std::num::wrapping_add_u64(f.differences, differences(f, now));
         next.plant = 2;
@@ -315,14 +351,14 @@ fn next_series(f: Feed, now: Playing) -> Feed {
 }
 
 // The next run; or the same one again, printed as a script, where it had a difference.
-fn next_run(f: Feed, now: Playing, broken: u64) -> Feed {
+fn next_run(rt: &HostRuntime, f: Feed, now: Playing, broken: u64) -> Feed {
     let mut next = f;
     next.line = 0;
     next.seen = differences(f, now);
     if (f.seen != next.seen) & !f.printed {
-        say_number(b"# a difference in series ", f.series);
-        say_number(b", run ", f.run);
-        say(b"\n");
+        say_number(rt, b"# a difference in series ", f.series);
+        say_number(rt, b", run ", f.run);
+        say(rt, b"\n");
         next.printed = true;
         return next;
     }
@@ -331,7 +367,7 @@ fn next_run(f: Feed, now: Playing, broken: u64) -> Feed {
     if next.run < runs_of(f.series, broken) {
         return next;
     }
-    next_series(next, now)
+    next_series(rt, next, now)
 }
 
 fn is_sqi(now: Playing) -> bool {
@@ -369,16 +405,23 @@ fn begun(f: Feed, now: Playing, counts: &mut Counts) {
     }
 }
 
-fn random(f: Feed, now: Playing, forms: &[u8], index: &Counts, input: &mut [u8]) -> Feed {
+fn random(
+    rt: &HostRuntime,
+    f: Feed,
+    now: Playing,
+    forms: &[u8],
+    index: &Counts,
+    input: &mut [u8],
+) -> Feed {
     if forms_of(f.series) < f.line {
-        return next_run(f, now, source::total(index, b'x'));
+        return next_run(rt, f, now, source::total(index, b'x'));
     }
     let seed = seed_of(seed_of(f.series, f.run), f.line);
     let z = within(f.forms, forms);
     let n = any_form(f, seed, is_sqi(now), &forms[..z], index, input);
     if f.printed {
         let m = within(n, input);
-        say(&input[..m]);
+        say(rt, &input[..m]);
     }
     let mut next = with_bytes(f, RANDOM, n);
     next.line = std::num::wrapping_add_u64(f.line, 1);
@@ -390,21 +433,23 @@ fn random(f: Feed, now: Playing, forms: &[u8], index: &Counts, input: &mut [u8])
 
 // What follows the bytes that are taken.
 pub fn more(
+    rt: &HostRuntime,
     f: Feed,
     now: Playing,
+    file: &mut Option<File>,
     input: &mut Input,
     forms: &mut Input,
     counts: &mut Counts,
 ) -> Feed {
     let phase = f.phase;
     match phase {
-        NEXT => next_argument(f, counts, input),
-        PART => part(f, input),
-        ENDED => ended(f, now),
-        FORMS => indexed(f, forms, counts),
+        NEXT => next_argument(rt, f, counts, file, input),
+        PART => part(f, file, input),
+        ENDED => ended(rt, f, file, now),
+        FORMS => indexed(f, file, forms, counts),
         _ => {
             begun(f, now, counts);
-            random(f, now, forms, counts, input)
+            random(rt, f, now, forms, counts, input)
         }
     }
 }

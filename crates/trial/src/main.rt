@@ -12,6 +12,7 @@ use feed::{Feed, Input};
 use script::Line;
 use second::Flat;
 use standing::Playing;
+use std::fs::File;
 
 type Memory = [u8; 2097153];
 
@@ -43,11 +44,11 @@ fn plant_of(f: Feed, verb: u8) -> u64 {
 }
 
 // What is not as it should be after a line is told, and counted; of random lines and planted differences it is only counted, but where they are printed.
-fn told(f: Feed, before: Playing, now: Playing, odd: u64) -> Feed {
+fn told(rt: &HostRuntime, f: Feed, before: Playing, now: Playing, odd: u64) -> Feed {
     let unmet = report::unmet(before) != report::unmet(now);
     let bench = now.bench;
     if feed::shows(f) {
-        report::line_said(f.word, bench.line, unmet, odd);
+        report::line_said(rt, f.word, bench.line, unmet, odd);
     }
     feed::with_line(f, odd)
 }
@@ -78,6 +79,7 @@ fn counted(
 
 // A line that the first model has played.
 fn tried(
+    rt: &HostRuntime,
     t: Trial,
     now: Playing,
     counts: &mut Counts,
@@ -114,7 +116,7 @@ fn tried(
     );
     let f = counted(f, flat, l, s.number, counts, frame, remark);
     let before = t.now;
-    let feed = told(f, before, now, odd);
+    let feed = told(rt, f, before, now, odd);
     let flat = s.state;
     Trial { feed, now, flat }
 }
@@ -129,7 +131,9 @@ fn fresh(f: Feed, now: Playing) -> Playing {
 
 // A byte is taken, or more come.
 fn turn(
+    rt: &HostRuntime,
     t: Trial,
+    file: &mut Option<File>,
     counts: &mut Counts,
     input: &mut Input,
     forms: &mut Input,
@@ -159,8 +163,8 @@ fn turn(
         let reading = now.reading;
         if reading.ended {
             return tried(
-                next, now, counts, array, security, frame, remark, reply, marks, array2, security2,
-                reply2, marks2,
+                rt, next, now, counts, array, security, frame, remark, reply, marks, array2,
+                security2, reply2, marks2,
             );
         }
         next.now = now;
@@ -168,14 +172,16 @@ fn turn(
     }
     let now = fresh(f, now);
     let f = feed::started(f);
-    let feed = feed::more(f, now, input, forms, counts);
+    let feed = feed::more(rt, f, now, file, input, forms, counts);
     next.feed = feed;
     next.now = now;
     next
 }
 
-// A proved loop has to end, and nothing says that an input does: so it counts its turns down, from a number that no run uses up.
+// A proved loop has to end, and nothing says that an input does: so it counts its turns, up to a number that no run reaches.
 fn turned(
+    rt: &HostRuntime,
+    file: &mut Option<File>,
     counts: &mut Counts,
     input: &mut Input,
     forms: &mut Input,
@@ -193,12 +199,13 @@ fn turned(
     marks2: &mut Bytes,
 ) {
     let mut t = begun();
-    let mut turns = u64::MAX;
-    while turns > 0 && t.feed.phase != feed::OVER {
-        turns -= 1;
+    for _ in 0..u64::MAX {
+        if t.feed.phase == feed::OVER {
+            break;
+        }
         t = turn(
-            t, counts, input, forms, array, security, frame, expected, known, remark, reply, marks,
-            array2, security2, reply2, marks2,
+            rt, t, file, counts, input, forms, array, security, frame, expected, known, remark,
+            reply, marks, array2, security2, reply2, marks2,
         );
     }
 }
@@ -210,7 +217,8 @@ fn begun() -> Trial {
     Trial { feed, now, flat }
 }
 
-fn main() {
+fn main(rt: HostRuntime) {
+    let mut file = None;
     let mut counts = [0u64; 5120];
     let mut input = [0u8; 65536];
     let mut forms = [0u8; 65536];
@@ -227,6 +235,8 @@ fn main() {
     let mut reply2 = [0u8; 65537];
     let mut marks2 = [0u8; 65537];
     turned(
+        &rt,
+        &mut file,
         &mut counts,
         &mut input,
         &mut forms,

@@ -4,6 +4,7 @@ use drawing::source::Counts;
 use script::Line;
 use second::Flat;
 use standing::Playing;
+use std::rt::Env;
 
 // Places of what is counted: frames by opcode; done ones, of the old part and of BA; events by number, by what runs, by what is suspended; burst reads by
 // their length; runs by how they begin and by the part; the checklist's lines; resets and power cuts by what they stop.
@@ -111,30 +112,31 @@ pub fn case_counted(tally: &mut Counts, l: Line, remark: &[u8]) {
 
 // ---- what is said
 
-pub fn say(text: &[u8]) {
-    io::write_all(1, text);
+// What cannot be written is lost.
+pub fn say(rt: &impl Print, text: &[u8]) {
+    let _ = rt.write_all(text);
 }
 
-pub fn say_number(text: &[u8], n: u64) {
-    io::write_all(1, text);
-    io::print_decimal(1, n);
+pub fn say_number(rt: &impl Print, text: &[u8], n: u64) {
+    say(rt, text);
+    let _ = rt.print(n);
 }
 
-fn seldom_said(name: &[u8], kind: u8, n: u64) {
-    say(name);
-    say_number(b", too seldom: ", kind as u64);
-    say_number(b" came ", n);
-    say(b" times\n");
+fn seldom_said(rt: &impl Print, name: &[u8], kind: u8, n: u64) {
+    say(rt, name);
+    say_number(rt, b", too seldom: ", kind as u64);
+    say_number(rt, b" came ", n);
+    say(rt, b" times\n");
 }
 
 // How many of the kinds came up too seldom; these are named.
-fn seldom(tally: &Counts, base: usize, kinds: &[u8], name: &[u8]) -> u64 {
+fn seldom(rt: &impl Print, tally: &Counts, base: usize, kinds: &[u8], name: &[u8]) -> u64 {
     let mut seldom: u64 = 0;
     let mut i: usize = 0;
     while i < kinds.len() {
         let n = count(tally, plus(base, at(kinds, i) as usize));
         if n < 100 {
-            seldom_said(name, at(kinds, i), n);
+            seldom_said(rt, name, at(kinds, i), n);
             seldom = std::num::wrapping_add_u64(seldom, 1);
         }
         i += 1;
@@ -142,26 +144,26 @@ fn seldom(tally: &Counts, base: usize, kinds: &[u8], name: &[u8]) -> u64 {
     seldom
 }
 
-fn kinds_said(tally: &Counts, base: usize, kinds: &[u8], name: &[u8]) {
-    let n = seldom(tally, base, kinds, name);
-    say(name);
-    say_number(b": ", kinds.len() as u64);
-    say_number(b" kinds, too seldom ", n);
-    say(b"\n");
+fn kinds_said(rt: &impl Print, tally: &Counts, base: usize, kinds: &[u8], name: &[u8]) {
+    let n = seldom(rt, tally, base, kinds, name);
+    say(rt, name);
+    say_number(rt, b": ", kinds.len() as u64);
+    say_number(rt, b" kinds, too seldom ", n);
+    say(rt, b"\n");
 }
 
-fn untried_said(i: usize) {
-    say_number(b"the checklist's line without a case: ", i as u64);
-    say(b"\n");
+fn untried_said(rt: &impl Print, i: usize) {
+    say_number(rt, b"the checklist's line without a case: ", i as u64);
+    say(rt, b"\n");
 }
 
 // How many lines of the checklist have no case; these are named.
-fn untried(tally: &Counts) -> u64 {
+fn untried(rt: &impl Print, tally: &Counts) -> u64 {
     let mut n: u64 = 0;
     let mut i: usize = 1;
     while i < 82 {
         if count(tally, plus(LINES, i)) == 0 {
-            untried_said(i);
+            untried_said(rt, i);
             n = std::num::wrapping_add_u64(n, 1);
         }
         i += 1;
@@ -170,47 +172,55 @@ fn untried(tally: &Counts) -> u64 {
 }
 
 // How many runs of a series began with each part.
-fn runs_said(tally: &Counts, series: usize, name: &[u8]) {
+fn runs_said(rt: &impl Print, tally: &Counts, series: usize, name: &[u8]) {
     let n = plus(RUNS, plus(series, series));
-    say(name);
-    say_number(b": old part ", count(tally, n));
-    say_number(b", BA ", count(tally, plus(n, 1)));
-    say(b"\n");
+    say(rt, name);
+    say_number(rt, b": old part ", count(tally, n));
+    say_number(rt, b", BA ", count(tally, plus(n, 1)));
+    say(rt, b"\n");
 }
 
-pub fn counts_said(tally: &Counts) {
+pub fn counts_said(rt: &impl Print, tally: &Counts) {
     let listed =
         b"\x00\x66\x99\x38\xff\x05\x35\x72\x9f\xaf\x03\x0b\x6b\x88\x06\x04\x20\xd8\xc7\x02\x32\xa5\x85\x01\x42\xe8\x8d\x98\xb0\x30\xc0\x0c\xec";
-    let n = untried(tally);
-    say_number(b"checklist: lines 1 to 81, not tried: ", n);
-    say(b"\n");
-    kinds_said(tally, SENT, listed, b"opcodes sent");
-    kinds_said(tally, DONE, listed, b"opcodes done, old part");
-    kinds_said(tally, DONE_BA, listed, b"opcodes done, BA");
+    let n = untried(rt, tally);
+    say_number(rt, b"checklist: lines 1 to 81, not tried: ", n);
+    say(rt, b"\n");
+    kinds_said(rt, tally, SENT, listed, b"opcodes sent");
+    kinds_said(rt, tally, DONE, listed, b"opcodes done, old part");
+    kinds_said(rt, tally, DONE_BA, listed, b"opcodes done, BA");
     let numbers = b"\x00\x01\x02\x03\x04\x05\x06\x07\x08\x09\x0a\x0b\x0c\x0d";
-    kinds_said(tally, NUMBERS, numbers, b"numbers, old part");
-    kinds_said(tally, NUMBERS_BA, numbers, b"numbers, BA");
+    kinds_said(rt, tally, NUMBERS, numbers, b"numbers, old part");
+    kinds_said(rt, tally, NUMBERS_BA, numbers, b"numbers, BA");
     kinds_said(
+        rt,
         tally,
         RUNNING,
         b"\x00\x01\x02\x03\x04\x05\x06\x07\x08",
         b"running work",
     );
-    kinds_said(tally, SUSPENDED, b"\x00\x01\x02\x04", b"suspended work");
+    kinds_said(rt, tally, SUSPENDED, b"\x00\x01\x02\x04", b"suspended work");
     kinds_said(
+        rt,
         tally,
         BESIDE,
         b"\x00\x01\x02\x04\x05",
         b"work beside a suspension",
     );
-    kinds_said(tally, BURSTS, b"\x00\x01\x02\x03", b"burst reads");
+    kinds_said(rt, tally, BURSTS, b"\x00\x01\x02\x03", b"burst reads");
     let kinds = b"\x01\x02\x03\x04\x05\x06\x07\x08";
-    kinds_said(tally, RESETS, kinds, b"work stopped by a reset");
-    kinds_said(tally, CUTS, kinds, b"work stopped by a power cut");
-    runs_said(tally, 0, b"runs from new chips");
-    runs_said(tally, 1, b"runs from records");
-    runs_said(tally, 2, b"runs from broken records");
-    kinds_said(tally, RUNS, b"\x00\x01\x02\x03\x04\x05", b"runs by part");
+    kinds_said(rt, tally, RESETS, kinds, b"work stopped by a reset");
+    kinds_said(rt, tally, CUTS, kinds, b"work stopped by a power cut");
+    runs_said(rt, tally, 0, b"runs from new chips");
+    runs_said(rt, tally, 1, b"runs from records");
+    runs_said(rt, tally, 2, b"runs from broken records");
+    kinds_said(
+        rt,
+        tally,
+        RUNS,
+        b"\x00\x01\x02\x03\x04\x05",
+        b"runs by part",
+    );
 }
 
 // ---- a line
@@ -228,45 +238,47 @@ pub fn events(p: Playing) -> u64 {
     t.events
 }
 
-fn named(odd: u64, bit: u64, name: &[u8]) {
+fn named(rt: &impl Print, odd: u64, bit: u64, name: &[u8]) {
     if odd & bit != 0 {
-        say(name);
+        say(rt, name);
     }
 }
 
 // In what the models differ.
-fn odd_said(odd: u64) {
-    say(b"the models differ:");
-    named(odd, 1, b" number");
-    named(odd, 2, b" record");
-    named(odd, 4, b" reply");
-    named(odd, 8, b" marks");
-    named(odd, 16, b" array");
-    named(odd, 32, b" Security ID");
-    say(b"\n");
+fn odd_said(rt: &impl Print, odd: u64) {
+    say(rt, b"the models differ:");
+    named(rt, odd, 1, b" number");
+    named(rt, odd, 2, b" record");
+    named(rt, odd, 4, b" reply");
+    named(rt, odd, 8, b" marks");
+    named(rt, odd, 16, b" array");
+    named(rt, odd, 32, b" Security ID");
+    say(rt, b"\n");
 }
 
-pub fn say_word(i: usize) {
-    let mut name = io::buffer();
-    let n = os::arg(i, &mut name);
-    say(&name[..n]);
+// The argument of this number.
+pub fn say_word(rt: &(impl Env + Print), i: usize) {
+    let mut name = [0u8; 4096];
+    if let Ok(n) = rt.arg(i, &mut name) {
+        say(rt, &name[..n]);
+    }
 }
 
-fn place_said(word: usize, line: u64) {
-    say(b"# ");
-    say_word(word);
-    say_number(b":", line);
-    say(b": ");
+fn place_said(rt: &(impl Env + Print), word: usize, line: u64) {
+    say(rt, b"# ");
+    say_word(rt, word);
+    say_number(rt, b":", line);
+    say(rt, b": ");
 }
 
 // What is wrong after a line of the script that an argument names.
-pub fn line_said(word: usize, line: u64, unmet: bool, odd: u64) {
+pub fn line_said(rt: &(impl Env + Print), word: usize, line: u64, unmet: bool, odd: u64) {
     if unmet {
-        place_said(word, line);
-        say(b"not what it expects\n");
+        place_said(rt, word, line);
+        say(rt, b"not what it expects\n");
     }
     if odd != 0 {
-        place_said(word, line);
-        odd_said(odd);
+        place_said(rt, word, line);
+        odd_said(rt, odd);
     }
 }

@@ -1,9 +1,8 @@
 -- Why a number was given, behind a row: from the record before the event and the frame.
-use Rattle.std.specs.Prelude.{ℕ, ◌^◌, Bool, true, false, not, ◌&&◌, ◌||◌, List, [], ◌∷◌, eqb, ltb, length}
+use Rattle.std.specs.Prelude.{ℕ, ◌^◌, Bool, not, List, [], ◌∷◌, eqb, ltb, length}
 use Rattle.std.specs.Int.Bits.{bit_and}
 use Rattle.rules.specs.declared.Chip.{Chip}
 use Rattle.rules.specs.declared.Rest.{Rest}
-use Rattle.rules.specs.declared.Work.{Work}
 use Rattle.rules.specs.declared.Works.{Works}
 use Rattle.rules.specs.declared.Locks.{Locks}
 use Rattle.rules.specs.Words.{pick, one_of}

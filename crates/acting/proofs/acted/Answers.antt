@@ -1,5 +1,4 @@
 -- Each kind has its clause. Assumes nothing.
-use borrow.Author.Rules.{rules}
 use Rattle.acting.proofs.acted.Goals as goal
 
 pub returns-in-Show : goal.returns-in-Show

@@ -1,5 +1,4 @@
 -- Each command has its clause. Assumes nothing.
-use borrow.Author.Rules.{rules}
 use Rattle.acting.proofs.at_once.Goals as goal
 
 pub returns-in-Nothing : goal.returns-in-Nothing

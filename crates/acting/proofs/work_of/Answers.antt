@@ -1,5 +1,4 @@
 -- Each long command has its work. Assumes nothing.
-use borrow.Author.Rules.{rules}
 use Rattle.acting.proofs.work_of.Goals as goal
 
 pub returns-in-Sector : goal.returns-in-Sector

@@ -1,6 +1,5 @@
 -- Nothing to refuse, or the clause's tests. Assumes nothing.
-use Rattle.beside.proofs.Clauses.{found_inside, other_kind_lem}
-use borrow.Author.Rules.{rules}
+use Rattle.beside.proofs.Clauses.{found_inside}
 use Rattle.beside.proofs.beside_erase.Goals as goal
 
 pub holds_place-into-requires : goal.holds_place-into-requires

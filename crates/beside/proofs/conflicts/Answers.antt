@@ -1,7 +1,6 @@
 -- With nothing suspended two opcodes are left. Assumes nothing.
 use mathlib.Core.Path.{sym, ◌∙◌}
 use Rattle.beside.proofs.Clauses.{none_beside}
-use borrow.Author.Rules.{rules}
 use Rattle.beside.proofs.conflicts.Goals as goal
 
 pub returns-then-is_nothing : goal.returns-then-is_nothing

@@ -1,6 +1,4 @@
 -- As in the rule; an opcode that goes to no block meets the first three clauses only. Assumes nothing.
-use Rattle.beside.proofs.Clauses.{no_block}
-use borrow.Author.Rules.{rules}
 use Rattle.beside.proofs.conflicts_beside.Goals as goal
 
 pub returns : goal.returns

@@ -4,7 +4,6 @@ use Prim.Native.Nat.{ℕ, ◌/◌, ◌^◌}
 use lib.Dec.{eqb}
 use lib.Bits.{and_mask}
 use Rattle.rules.specs.Words.{bit}
-use borrow.Author.Rules.{rules}
 use Rattle.blocks.proofs.bit_at.Goals as goal
 
 pub returns : goal.returns

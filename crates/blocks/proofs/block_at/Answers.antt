@@ -1,7 +1,6 @@
 -- Five cases by the number, each with its row of the table. Assumes nothing.
 use native.Mathlib.Omega.{arith}
 use Rattle.blocks.proofs.Shape.{row_top, row_bottom, row_high, row_low, row_wide}
-use borrow.Author.Rules.{rules}
 use Rattle.blocks.proofs.block_at.Goals as goal
 
 pub returns-then-n-lt4 : goal.returns-then-n-lt4

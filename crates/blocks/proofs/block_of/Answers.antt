@@ -1,7 +1,6 @@
 -- Five stretches from the bottom up, each with the number that is counted in it. Assumes nothing.
 use native.Mathlib.Omega.{arith}
-use Rattle.blocks.proofs.Shape.{Counted, at_bottom, at_low, at_middle, at_high, at_top}
-use borrow.Author.Rules.{rules}
+use Rattle.blocks.proofs.Shape.{at_bottom, at_low, at_middle, at_high, at_top}
 use Rattle.blocks.proofs.block_of.Goals as goal
 
 pub overflow_sub-result : goal.overflow_sub-result

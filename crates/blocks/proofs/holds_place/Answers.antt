@@ -1,7 +1,6 @@
 -- The two tests of the rule. Assumes nothing.
 use mathlib.Core.Path.{refl}
 use Rattle.rules.specs.Words.{holds}
-use borrow.Author.Rules.{rules}
 use Rattle.blocks.proofs.holds_place.Goals as goal
 
 pub returns : goal.returns

@@ -6,7 +6,6 @@ use Rattle.blocks.proofs.Ranges.{sector_number, block_number, page_number, unloc
 use Rattle.rules.proofs.Blocks.{block_placed}
 use borrow.Enum.Refused.{opened}
 use native.Mathlib.Omega.{arith}
-use borrow.Author.Rules.{rules}
 use Rattle.blocks.proofs.is_unlocked.Goals as goal
 
 pub overflow_mul-n : goal.overflow_mul-n

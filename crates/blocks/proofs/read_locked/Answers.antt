@@ -1,7 +1,6 @@
 -- The read lock of the block that holds the place, if it has one. Assumes nothing.
 use native.Mathlib.Omega.{arith}
 use Rattle.blocks.proofs.Shape.{number_small, lock_small, read_lock}
-use borrow.Author.Rules.{rules}
 use Rattle.blocks.proofs.read_locked.Goals as goal
 
 pub block_at-b-requires : goal.block_at-b-requires

@@ -1,7 +1,6 @@
 -- The write lock of the block that holds the place. Assumes nothing.
 use native.Mathlib.Omega.{arith}
 use Rattle.blocks.proofs.Shape.{number_small, lock_small, write_lock}
-use borrow.Author.Rules.{rules}
 use Rattle.blocks.proofs.write_locked.Goals as goal
 
 pub block_at-b-requires : goal.block_at-b-requires

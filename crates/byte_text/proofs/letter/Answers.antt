@@ -1,8 +1,6 @@
 -- From 20 to 7E the byte itself, else a dot. Assumes nothing.
 use borrow.Author.Tests.{lt-ltb, le-ltb, lt-leb, le-leb}
 use Rattle.byte_text.specs.Bytes.{printed}
-use borrow.Author.Rules.{rules}
-use native.Mathlib.Omega.{arith}
 use Rattle.byte_text.proofs.letter.Goals as goal
 
 pub returns-then-b-lt32 : goal.returns-then-b-lt32

@@ -1,10 +1,9 @@
-use Prim.Native.Nat.{ℕ, ◌≤◌, ◌-◌}
+use Prim.Native.Nat.{ℕ}
 use mathlib.Core.Path.{◌≡◌, ap, ◌∙◌}
 use Rattle.writing.specs.Rows.{put}
 use Rattle.byte_text.specs.Bytes.{marked, within}
 use Rattle.writing.proofs.Laws.{nothing_more}
 use Rattle.byte_text.proofs.Laws.{marked_next}
-use borrow.Author.Rules.{rules}
 use native.Mathlib.Omega.{arith}
 use Rattle.byte_text.proofs.marked_bytes.Goals as goal
 

@@ -1,10 +1,9 @@
-use Prim.Native.Nat.{ℕ, ◌≤◌, ◌-◌}
-use mathlib.Core.Path.{◌≡◌, refl, sym, ap, ◌∙◌}
+use Prim.Native.Nat.{ℕ}
+use mathlib.Core.Path.{◌≡◌, ap, ◌∙◌}
 use Rattle.writing.specs.Rows.{put}
 use Rattle.byte_text.specs.Bytes.{letters}
 use Rattle.writing.proofs.Laws.{nothing_more}
 use Rattle.byte_text.proofs.Laws.{letters_next}
-use borrow.Author.Rules.{rules}
 use native.Mathlib.Omega.{arith}
 use Rattle.byte_text.proofs.printed_bytes.Goals as goal
 

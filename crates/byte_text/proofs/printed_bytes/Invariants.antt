@@ -1,12 +1,8 @@
 -- After i turns i bytes are put as they are printed. Assumes nothing.
-use Prim.Native.Nat.{ℕ, ◌≤◌, ◌-◌}
-use mathlib.Core.Path.{◌≡◌, refl, sym, ap, ◌∙◌}
+use Prim.Native.Nat.{◌≤◌, ◌-◌}
+use mathlib.Core.Path.{◌≡◌}
 use Rattle.writing.specs.Rows.{put}
 use Rattle.byte_text.specs.Bytes.{letters}
-use Rattle.writing.proofs.Laws.{nothing_more}
-use Rattle.byte_text.proofs.Laws.{letters_next}
-use borrow.Author.Rules.{rules}
-use native.Mathlib.Omega.{arith}
 use Rattle.byte_text.proofs.printed_bytes.Given as goal
 
 abbrev pub invariant-loop-i : goal.invariant-loop-i

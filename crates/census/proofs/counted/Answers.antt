@@ -1,8 +1,5 @@
-use Prim.Native.Nat.{◌≤◌, ◌-◌}
 use mathlib.Core.Path.{◌≡◌, refl, ap, ◌∙◌}
-use Rattle.stations.specs.Slots.{shown_in}
 use Rattle.census.specs.Census.{count_below, counts_below}
-use borrow.Author.Rules.{rules}
 use native.Mathlib.Omega.{arith}
 use Rattle.census.proofs.counted.Goals as goal
 

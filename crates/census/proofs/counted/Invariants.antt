@@ -1,10 +1,8 @@
 -- The counts of the first i slots. Assumes nothing.
 use Prim.Native.Nat.{◌≤◌, ◌-◌}
-use mathlib.Core.Path.{◌≡◌, refl, ap, ◌∙◌}
+use mathlib.Core.Path.{◌≡◌}
 use Rattle.stations.specs.Slots.{shown_in}
-use Rattle.census.specs.Census.{count_below, counts_below}
-use borrow.Author.Rules.{rules}
-use native.Mathlib.Omega.{arith}
+use Rattle.census.specs.Census.{counts_below}
 use Rattle.census.proofs.counted.Given as goal
 
 abbrev pub invariant-loop-i : goal.invariant-loop-i

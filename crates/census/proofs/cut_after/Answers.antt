@@ -1,12 +1,8 @@
-use Prim.Native.Nat.{◌≤◌, ◌-◌}
-use mathlib.Core.Path.{◌≡◌, refl, sym, ap, ◌∙◌}
+use mathlib.Core.Path.{◌≡◌, refl, sym, ◌∙◌}
 use borrow.Author.Tests.{le-leb, lt-leb}
 use Rattle.stations.proofs.Next.{first_hit, first_miss, first_end}
 use Rattle.census.proofs.Numbers.{count_hit, count_miss}
-use lib.Dec.{leb}
-use Rattle.stations.specs.Slots.{shown_in, first_from}
-use Rattle.census.specs.Census.{found, count_below, cut_after}
-use borrow.Author.Rules.{rules}
+use Rattle.census.specs.Census.{count_below, cut_after}
 use native.Mathlib.Omega.{arith}
 use Rattle.census.proofs.cut_after.Goals as goal
 use Rattle.census.proofs.cut_after.Goals.{then-is_found, else-is_found}

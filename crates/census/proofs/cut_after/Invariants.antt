@@ -1,15 +1,9 @@
 -- So many are found below i, and the first slot below which k are is none of those before. Assumes nothing.
 use Prim.Native.Nat.{◌≤◌, ◌-◌}
-use mathlib.Core.Path.{◌≡◌, refl, sym, ap, ◌∙◌}
-use mathlib.Core.Logic.{⊎_elim}
-use borrow.Author.Tests.{le-leb, lt-leb}
-use Rattle.stations.proofs.Next.{first_hit, first_miss, first_end}
-use Rattle.census.proofs.Numbers.{count_hit, count_miss}
+use mathlib.Core.Path.{◌≡◌}
 use lib.Dec.{leb}
 use Rattle.stations.specs.Slots.{shown_in, first_from}
 use Rattle.census.specs.Census.{found, count_below, cut_after}
-use borrow.Author.Rules.{rules}
-use native.Mathlib.Omega.{arith}
 use Rattle.census.proofs.cut_after.Given as goal
 
 abbrev pub invariant-loop-i : goal.invariant-loop-i

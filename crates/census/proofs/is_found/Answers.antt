@@ -1,8 +1,6 @@
 -- Live, and not passed over. Assumes nothing.
 use mathlib.Core.Bool.{not, ◌&&◌}
 use Rattle.census.specs.Census.{found}
-use native.Mathlib.Omega.{arith}
-use borrow.Author.Rules.{rules}
 use Rattle.census.proofs.is_found.Goals as goal
 
 pub returns : goal.returns

@@ -1,7 +1,5 @@
 -- Live, and of that number. Assumes nothing.
 use Rattle.slots.proofs.Slots.{live_numbered, not_live}
-use native.Mathlib.Omega.{arith}
-use borrow.Author.Rules.{rules}
 use Rattle.census.proofs.is_numbered.Goals as goal
 
 pub returns-then-is_live : goal.returns-then-is_live

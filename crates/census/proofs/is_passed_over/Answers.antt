@@ -1,9 +1,8 @@
-use Prim.Native.Nat.{ℕ, ◌≤◌, ◌-◌}
+use Prim.Native.Nat.{ℕ}
 use mathlib.Core.Path.{◌≡◌, refl, sym, ap, ◌∙◌}
-use mathlib.Core.Bool.{true, false, not}
+use mathlib.Core.Bool.{not}
 use Rattle.stations.specs.Slots.{shown_in, some_below, live_of}
 use Rattle.census.proofs.Numbers.{some_hit, some_next, passed_not, passed_by_lem}
-use borrow.Author.Rules.{rules}
 use native.Mathlib.Omega.{arith}
 use Rattle.census.proofs.is_passed_over.Goals as goal
 

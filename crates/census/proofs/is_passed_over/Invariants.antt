@@ -1,11 +1,8 @@
 -- No live slot of its number lies below j. Assumes nothing.
-use Prim.Native.Nat.{ℕ, ◌≤◌, ◌-◌}
-use mathlib.Core.Path.{◌≡◌, refl, sym, ap, ◌∙◌}
-use mathlib.Core.Bool.{true, false}
+use Prim.Native.Nat.{◌≤◌, ◌-◌}
+use mathlib.Core.Path.{◌≡◌}
+use mathlib.Core.Bool.{false}
 use Rattle.stations.specs.Slots.{shown_in, some_below, live_of}
-use Rattle.census.proofs.Numbers.{some_hit, some_next, passed_not, passed_by_lem}
-use borrow.Author.Rules.{rules}
-use native.Mathlib.Omega.{arith}
 use Rattle.census.proofs.is_passed_over.Given as goal
 
 abbrev pub invariant-loop-j : goal.invariant-loop-j

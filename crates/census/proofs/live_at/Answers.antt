@@ -1,9 +1,5 @@
-use Prim.Native.Nat.{ℕ, ◌≤◌, ◌-◌}
-use mathlib.Core.Path.{◌≡◌, refl, sym, ap, ◌∙◌}
-use lib.ListN.{get_or}
-use Rattle.stations.specs.Slots.{shown_in, those_from, live_of}
+use mathlib.Core.Path.{◌≡◌, refl, sym, ◌∙◌}
 use Rattle.census.proofs.Numbers.{nth_hit, nth_next, nth_miss, nth_end}
-use borrow.Author.Rules.{rules}
 use native.Mathlib.Omega.{arith}
 use Rattle.census.proofs.live_at.Goals as goal
 use Rattle.census.proofs.live_at.Goals.{then-is_live_of+else-left-eq0, else-is_live_of}

@@ -1,12 +1,8 @@
 -- So many of those are left as are to be passed. Assumes nothing.
-use Prim.Native.Nat.{ℕ, ◌≤◌, ◌-◌}
-use mathlib.Core.Path.{◌≡◌, refl, sym, ap, ◌∙◌}
-use mathlib.Core.Logic.{⊎_elim}
+use Prim.Native.Nat.{◌≤◌, ◌-◌}
+use mathlib.Core.Path.{◌≡◌}
 use lib.ListN.{get_or}
 use Rattle.stations.specs.Slots.{shown_in, those_from, live_of}
-use Rattle.census.proofs.Numbers.{nth_hit, nth_next, nth_miss, nth_end}
-use borrow.Author.Rules.{rules}
-use native.Mathlib.Omega.{arith}
 use Rattle.census.proofs.live_at.Given as goal
 
 abbrev pub invariant-loop-i : goal.invariant-loop-i

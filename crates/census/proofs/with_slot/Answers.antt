@@ -1,7 +1,6 @@
 -- Each count is that of one slot more. Assumes nothing.
 use native.Mathlib.Omega.{arith}
 use Rattle.census.proofs.Numbers.{at_most, counts_next}
-use borrow.Author.Rules.{rules}
 use Rattle.census.proofs.with_slot.Goals as goal
 
 pub overflow_add-result : goal.overflow_add-result

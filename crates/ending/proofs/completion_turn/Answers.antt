@@ -2,7 +2,6 @@
 use mathlib.Core.Path.{sym, ◌∙◌}
 use Rattle.turns.proofs.Events.{state_parts, running_right}
 use Rattle.ending.proofs.Outcomes.{completion_malformed, completion_idle, completion_done}
-use borrow.Author.Rules.{rules}
 use Rattle.ending.proofs.completion_turn.Goals as goal
 
 pub returns-then-not-known : goal.returns-then-not-known

@@ -1,8 +1,6 @@
 -- Where bytes are expected, the shorter of the two; else none. Assumes nothing.
 use mathlib.Core.Path.{◌∙◌}
-use borrow.Author.Tests.{eq-eqb, ne_eqb}
-use native.Mathlib.Omega.{arith}
-use borrow.Author.Rules.{rules}
+use borrow.Author.Tests.{ne_eqb}
 use Rattle.expecting.proofs.compared.Goals as goal
 
 pub returns-then-expects-eq1 : goal.returns-then-expects-eq1

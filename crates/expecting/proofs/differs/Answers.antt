@@ -1,5 +1,4 @@
 -- The four bytes are those of the definition. Assumes nothing.
-use borrow.Author.Rules.{rules}
 use Rattle.expecting.specs.Expectations.{differs}
 use Rattle.expecting.proofs.differs.Goals as goal
 

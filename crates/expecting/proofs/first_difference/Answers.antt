@@ -1,11 +1,6 @@
 use mathlib.Core.Path.{sym, ◌∙◌}
 use borrow.Author.Count.{below_more}
-use borrow.Author.Rules.{rules}
 use native.Mathlib.Omega.{arith}
-use Prim.Native.Nat.{ℕ, ◌≤◌, ◌<◌, ◌-◌}
-use mathlib.Core.Path.{◌≡◌}
-use mathlib.Core.Bool.{false}
-use Rattle.expecting.specs.Expectations.{differs}
 use Rattle.expecting.proofs.first_difference.Goals as goal
 
 pub loop-i-init : goal.loop-i-init

@@ -1,12 +1,8 @@
 -- No place below i differs; at the return the place i does, or all are passed, or no byte is expected. Assumes nothing.
 use Prim.Native.Nat.{ℕ, ◌≤◌, ◌<◌, ◌-◌}
-use mathlib.Core.Path.{◌≡◌, sym, ◌∙◌}
+use mathlib.Core.Path.{◌≡◌}
 use mathlib.Core.Bool.{false}
-use borrow.Author.Count.{below_more}
-use borrow.Author.Tests.{eq-eqb, ne_eqb}
 use Rattle.expecting.specs.Expectations.{unheld}
-use borrow.Author.Rules.{rules}
-use native.Mathlib.Omega.{arith}
 use Rattle.expecting.proofs.first_unheld.Given as goal
 
 abbrev pub invariant-loop-i : goal.invariant-loop-i

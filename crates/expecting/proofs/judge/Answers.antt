@@ -2,8 +2,6 @@
 use Prim.Native.Nat.{ℕ}
 use mathlib.Core.Path.{refl, subst}
 use Rattle.expecting.specs.Expectations.{differs, First}
-use native.Mathlib.Omega.{arith}
-use borrow.Author.Rules.{rules}
 use Rattle.expecting.proofs.judge.Goals as goal
 
 pub returns : goal.returns

@@ -1,7 +1,5 @@
 -- The three bytes are those of the definition. Assumes nothing.
 use Rattle.expecting.specs.Expectations.{unheld_at}
-use native.Mathlib.Omega.{arith}
-use borrow.Author.Rules.{rules}
 use Rattle.expecting.proofs.unheld.Goals as goal
 
 pub returns : goal.returns

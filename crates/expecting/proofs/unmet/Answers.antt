@@ -4,7 +4,6 @@ use lib.Dec.{ltb}
 use Rattle.expecting.specs.Expectations.{unmet}
 use Rattle.expecting.proofs.Firsts.{num_small}
 use native.Mathlib.Omega.{arith}
-use borrow.Author.Rules.{rules}
 use Rattle.expecting.proofs.unmet.Goals as goal
 
 pub overflow_add-result : goal.overflow_add-result

@@ -1,8 +1,6 @@
 -- Field by field. Assumes nothing.
 use Rattle.fields.specs.Records.{record_of}
 use Rattle.rules.specs.Programs.{blank}
-use native.Mathlib.Omega.{arith}
-use borrow.Author.Rules.{rules}
 use Rattle.fields.proofs.record_of.Goals as goal
 
 pub returns : goal.returns

@@ -1,6 +1,4 @@
 -- Both flags are compared as numbers. Assumes nothing.
-use native.Mathlib.Omega.{arith}
-use borrow.Author.Rules.{rules}
 use Rattle.fields.proofs.same_flag.Goals as goal
 
 pub returns : goal.returns

@@ -1,7 +1,5 @@
 -- Flag by flag. Assumes nothing.
 use Rattle.fields.specs.Records.{same_flags_lem}
-use native.Mathlib.Omega.{arith}
-use borrow.Author.Rules.{rules}
 use Rattle.fields.proofs.same_flags.Goals as goal
 
 pub returns : goal.returns

@@ -1,7 +1,5 @@
 -- Field by field. Assumes nothing.
 use Rattle.fields.specs.Records.{same_rest_lem}
-use native.Mathlib.Omega.{arith}
-use borrow.Author.Rules.{rules}
 use Rattle.fields.proofs.same_rest.Goals as goal
 
 pub returns : goal.returns

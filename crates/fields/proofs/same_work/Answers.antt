@@ -1,7 +1,5 @@
 -- Kinds and numbers are compared. Assumes nothing.
 use Rattle.fields.specs.Records.{same_work}
-use native.Mathlib.Omega.{arith}
-use borrow.Author.Rules.{rules}
 use Rattle.fields.proofs.same_work.Goals as goal
 
 pub returns : goal.returns

@@ -1,7 +1,6 @@
 -- By the letter. Assumes nothing.
 use borrow.Author.Tests.{ne_eqb}
 use Rattle.forms.specs.Forms.{digits_at}
-use borrow.Author.Rules.{rules}
 use Rattle.forms.proofs.digits_at.Goals as goal
 
 pub returns-in-98 : goal.returns-in-98

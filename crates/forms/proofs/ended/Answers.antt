@@ -4,9 +4,8 @@ use Rattle.forms.specs.Forms.{ended}
 use Rattle.writing.proofs.Picks.{yes, no}
 use mathlib.Core.Path.{refl, ap}
 use Prim.Native.Nat.{ℕ}
-use mathlib.Core.Bool.{true, false}
-use mathlib.Core.Bool.{true, false}
-use borrow.Author.Rules.{rules}
+use mathlib.Core.Bool.{true}
+use mathlib.Core.Bool.{true}
 use Rattle.forms.proofs.ended.Goals as goal
 
 pub returns-then-f-eq0 : goal.returns-then-f-eq0

@@ -1,12 +1,7 @@
-use Prim.Native.Nat.{ℕ, ◌≤◌, ◌-◌, ◌+◌}
-use mathlib.Core.Path.{◌≡◌, refl, sym, ap, ◌∙◌}
-use mathlib.Core.Bool.{true}
-use mathlib.Core.List.{List, [], ◌∷◌}
-use lib.ListN.{length, drop}
+use mathlib.Core.Path.{refl, sym, ap, ◌∙◌}
 use Rattle.forms.specs.declared.Filling.{Filling}
-use Rattle.forms.specs.Forms.{taken, fills, begun, filled}
+use Rattle.forms.specs.Forms.{filled}
 use Rattle.forms.proofs.Fills.{fills_over, fills_next, fills_none}
-use borrow.Author.Rules.{rules}
 use native.Mathlib.Omega.{arith}
 use Rattle.forms.proofs.fill.Goals as goal
 

@@ -1,14 +1,8 @@
 -- After i bytes the form is filled by the first i of the page; once its line is over no more is taken. Assumes nothing.
-use Prim.Native.Nat.{ℕ, ◌≤◌, ◌-◌, ◌+◌}
-use mathlib.Core.Path.{◌≡◌, refl, sym, ap, ◌∙◌}
-use mathlib.Core.Bool.{true}
-use mathlib.Core.List.{List, [], ◌∷◌}
+use Prim.Native.Nat.{◌≤◌, ◌-◌}
+use mathlib.Core.Path.{◌≡◌}
 use lib.ListN.{length, drop}
-use Rattle.forms.specs.declared.Filling.{Filling}
-use Rattle.forms.specs.Forms.{taken, fills, begun, filled}
-use Rattle.forms.proofs.Fills.{fills_over, fills_next, fills_none}
-use borrow.Author.Rules.{rules}
-use native.Mathlib.Omega.{arith}
+use Rattle.forms.specs.Forms.{fills}
 use Rattle.forms.proofs.fill.Given as goal
 
 abbrev pub invariant-loop-i : goal.invariant-loop-i

@@ -5,7 +5,6 @@ use Rattle.writing.proofs.Picks.{yes, no}
 use mathlib.Core.Path.{ap, ◌∙◌}
 use Rattle.writing.specs.declared.Row.{Row}
 use Rattle.forms.specs.Forms.{formed}
-use borrow.Author.Rules.{rules}
 use Rattle.forms.proofs.formed.Goals as goal
 
 pub returns-then-f : goal.returns-then-f

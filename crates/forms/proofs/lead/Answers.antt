@@ -2,8 +2,6 @@
 use borrow.Author.Tests.{le-ltb, lt-ltb}
 use Rattle.forms.specs.Forms.{lead}
 use Rattle.writing.proofs.Laws.{nothing_more}
-use Rattle.writing.proofs.Picks.{yes, no}
-use borrow.Author.Rules.{rules}
 use Rattle.forms.proofs.lead.Goals as goal
 
 pub returns-then-n-lt10 : goal.returns-then-n-lt10

@@ -5,8 +5,6 @@ use Rattle.writing.proofs.Laws.{then}
 use mathlib.Core.Path.{◌∙◌, ap}
 use Prim.Native.Nat.{ℕ}
 use Rattle.writing.specs.Rows.{put, hex}
-use Rattle.writing.proofs.Picks.{yes, no}
-use borrow.Author.Rules.{rules}
 use Rattle.forms.proofs.number_text.Goals as goal
 
 pub returns-then-kind-eq110 : goal.returns-then-kind-eq110

@@ -1,15 +1,14 @@
 -- By the letter. Assumes nothing.
 use borrow.Author.Tests.{eq-eqb, ne_eqb}
-use Rattle.forms.specs.Forms.{piece, with_row, number_text}
+use Rattle.forms.specs.Forms.{piece, with_row}
 use Rattle.writing.proofs.Picks.{yes, no}
 use mathlib.Core.Path.{ap, ◌∙◌}
 use Rattle.writing.specs.declared.Row.{Row}
 use Rattle.writing.specs.Rows.{put, blanks}
 use Prim.Native.Nat.{ℕ}
-use mathlib.Core.Bool.{true, false}
-use mathlib.Core.Bool.{true, false}
+use mathlib.Core.Bool.{false}
+use mathlib.Core.Bool.{false}
 use Rattle.forms.specs.Forms.{piece}
-use borrow.Author.Rules.{rules}
 use Rattle.forms.proofs.piece.Goals as goal
 
 pub returns-then-kind-eq115 : goal.returns-then-kind-eq115

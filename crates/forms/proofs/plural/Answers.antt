@@ -2,7 +2,6 @@
 use borrow.Author.Tests.{eq-eqb, ne_eqb}
 use Rattle.forms.specs.Forms.{plural}
 use Rattle.writing.proofs.Laws.{nothing_more}
-use borrow.Author.Rules.{rules}
 use Rattle.forms.proofs.plural.Goals as goal
 
 pub returns-then-n-eq1 : goal.returns-then-n-eq1

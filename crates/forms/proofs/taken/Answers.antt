@@ -3,7 +3,6 @@ use borrow.Author.Tests.{eq-eqb, ne_eqb}
 use Rattle.forms.specs.Forms.{taken}
 use Rattle.writing.proofs.Picks.{yes, no}
 use mathlib.Core.Path.{refl}
-use borrow.Author.Rules.{rules}
 use Rattle.forms.proofs.taken.Goals as goal
 
 pub returns-then-f : goal.returns-then-f

@@ -5,7 +5,6 @@ use Rattle.rules.specs.Numbers.{answer_number}
 use Rattle.rules.specs.Promises.{zeroed}
 use Rattle.turns.proofs.Events.{suspended_right}
 use Rattle.framing.proofs.Outcomes.{frame_parts, showable, frame_done, frame_refused}
-use borrow.Author.Rules.{rules}
 use Rattle.framing.proofs.command.Goals as goal
 
 pub judge-answer-requires : goal.judge-answer-requires

@@ -6,7 +6,6 @@ use lib.ListN.{length}
 use Rattle.rules.specs.declared.Circumstances.{Circumstances}
 use Rattle.rules.specs.Promises.{Bench, Returned, carried_of, FramePromise}
 use Rattle.rules.proofs.Tears.{reset_99}
-use borrow.Author.Rules.{rules}
 use Rattle.framing.proofs.frame_turn.Goals as goal
 
 -- the one byte that was sent

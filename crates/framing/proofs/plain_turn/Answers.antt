@@ -9,7 +9,6 @@ use borrow.Author.Tests.{ltb-true}
 use Rattle.rules.specs.Tears.{resets}
 use Rattle.rules.proofs.Bools.{and_split}
 use Rattle.framing.proofs.Outcomes.{frame_turned_away}
-use borrow.Author.Rules.{rules}
 use Rattle.framing.proofs.plain_turn.Goals as goal
 
 some_byte : (k n : ℕ) → ltb k n ≡ true → 0 < n

@@ -1,7 +1,6 @@
 -- What runs is stopped, the page is blank, and there is no reply. Assumes nothing.
 use Rattle.turns.proofs.Events.{state_parts, running_right}
 use Rattle.framing.proofs.Outcomes.{frame_reset}
-use borrow.Author.Rules.{rules}
 use Rattle.framing.proofs.reset_turn.Goals as goal
 
 pub finish_array-requires : goal.finish_array-requires

@@ -9,8 +9,6 @@ use borrow.Author.Tests.{ne_eqb}
 use Rattle.rules.specs.declared.Rest.{Rest}
 use Rattle.rules.specs.Frames.{opcode}
 use Rattle.rules.specs.Tears.{resets}
-use borrow.Author.Rules.{rules}
-use Rattle.framing.proofs.resets.Goals as goal
 
 and_none : (a : Bool) → false ≡ (a && false)
 and_none true = refl

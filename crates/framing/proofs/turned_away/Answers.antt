@@ -1,6 +1,5 @@
 -- Filled where the record and the lengths are right, untouched where they are not. Assumes nothing.
 use mathlib.Core.Path.{refl}
-use borrow.Author.Rules.{rules}
 use Rattle.framing.proofs.turned_away.Goals as goal
 
 pub returns-then-right : goal.returns-then-right

@@ -1,7 +1,6 @@
 -- By whether parameters follow. Assumes nothing.
 use borrow.Author.Tests.{eq-eqb, ne_eqb}
 use Rattle.hearing.specs.Heard.{after_code}
-use borrow.Author.Rules.{rules}
 use Rattle.hearing.proofs.after_code.Goals as goal
 
 pub returns-then-n-eq0 : goal.returns-then-n-eq0

@@ -1,7 +1,6 @@
 -- By whether the lengths fit, and whether a byte follows. Assumes nothing.
 use borrow.Author.Tests.{eq-eqb, ne_eqb}
 use Rattle.hearing.specs.Heard.{after_lengths}
-use borrow.Author.Rules.{rules}
 use Rattle.hearing.proofs.after_lengths.Goals as goal
 
 pub returns-then-send-eq0 : goal.returns-then-send-eq0

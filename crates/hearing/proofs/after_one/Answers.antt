@@ -1,7 +1,6 @@
 -- By whether this was the last byte. Assumes nothing.
 use borrow.Author.Tests.{le-leb, lt-leb}
 use Rattle.hearing.specs.Heard.{after_one}
-use borrow.Author.Rules.{rules}
 use Rattle.hearing.proofs.after_one.Goals as goal
 
 pub returns-then-left-le1 : goal.returns-then-left-le1

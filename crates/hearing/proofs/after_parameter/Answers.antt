@@ -1,7 +1,6 @@
 -- By whether this was the last parameter, and whether bytes to send follow. Assumes nothing.
 use borrow.Author.Tests.{le-leb, lt-leb}
 use Rattle.hearing.specs.Heard.{after_parameter}
-use borrow.Author.Rules.{rules}
 use Rattle.hearing.proofs.after_parameter.Goals as goal
 
 pub returns-then-h : goal.returns-then-h

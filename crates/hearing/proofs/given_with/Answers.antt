@@ -1,6 +1,5 @@
 -- A place past the six is no place. Assumes nothing.
 use borrow.Author.Tests.{lt-ltb, le-ltb}
-use borrow.Author.Rules.{rules}
 use Rattle.hearing.proofs.given_with.Goals as goal
 
 pub returns-then-at-lt6 : goal.returns-then-at-lt6

@@ -1,5 +1,4 @@
 -- By what the byte is. Assumes nothing.
-use borrow.Author.Rules.{rules}
 use Rattle.hearing.proofs.in_mode.Goals as goal
 
 pub returns-in-Code : goal.returns-in-Code

@@ -1,5 +1,4 @@
 -- Only a byte to send is kept. Assumes nothing.
-use borrow.Author.Rules.{rules}
 use Rattle.hearing.proofs.keep_in.Goals as goal
 
 pub returns-in-Code : goal.returns-in-Code

@@ -1,6 +1,5 @@
 -- A place past the last is no place. Assumes nothing.
 use borrow.Author.Tests.{lt-ltb, le-ltb}
-use borrow.Author.Rules.{rules}
 use Rattle.hearing.proofs.put_sent.Goals as goal
 
 pub returns-then-at-lt65536 : goal.returns-then-at-lt65536

@@ -4,7 +4,6 @@ use Rattle.grammar.proofs.Picks.{picked, passed_over}
 use mathlib.Core.Path.{ap, ◌∙◌}
 use mathlib.Core.Bool.{◌&&◌}
 use Prim.Native.Nat.{ℕ}
-use borrow.Author.Rules.{rules}
 use Rattle.hinting.proofs.hint_of.Goals as goal
 
 pub returns-then-length : goal.returns-then-length

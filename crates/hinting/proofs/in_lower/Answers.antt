@@ -1,10 +1,5 @@
 use Rattle.hinting.proofs.Hinted.{lowered_next, lowered_end}
-use Rattle.hinting.specs.Hints.{lowered, part}
-use Rattle.spelling.specs.Words.{no_word}
-use lib.ListN.{length}
-use mathlib.Core.Path.{◌≡◌, ◌∙◌}
-use Prim.Native.Nat.{◌-◌, min}
-use borrow.Author.Rules.{rules}
+use mathlib.Core.Path.{◌∙◌}
 use native.Mathlib.Omega.{arith}
 use Rattle.hinting.proofs.in_lower.Goals as goal
 

@@ -1,12 +1,9 @@
 -- What is still to come, read from here, is the whole part read from its start. Assumes nothing.
-use Rattle.hinting.proofs.Hinted.{lowered_next, lowered_end}
 use Rattle.hinting.specs.Hints.{lowered, part}
 use Rattle.spelling.specs.Words.{no_word}
 use lib.ListN.{length}
-use mathlib.Core.Path.{◌≡◌, ◌∙◌}
+use mathlib.Core.Path.{◌≡◌}
 use Prim.Native.Nat.{◌-◌, min}
-use borrow.Author.Rules.{rules}
-use native.Mathlib.Omega.{arith}
 use Rattle.hinting.proofs.in_lower.Given as goal
 
 abbrev pub invariant-loop-i : goal.invariant-loop-i

@@ -1,7 +1,6 @@
 -- The tests are the definition's. Assumes nothing.
 use Rattle.hinting.specs.Hints.{lower}
 use borrow.Author.Tests.{lt-ltb, le-ltb}
-use borrow.Author.Rules.{rules}
 use Rattle.hinting.proofs.lower.Goals as goal
 
 pub returns-then-b-lt65 : goal.returns-then-b-lt65

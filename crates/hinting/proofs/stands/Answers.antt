@@ -1,6 +1,5 @@
 -- By the row that follows. Assumes nothing.
 use Rattle.hinting.specs.Hints.{stands}
-use borrow.Author.Rules.{rules}
 use Rattle.hinting.proofs.stands.Goals as goal
 
 pub returns : goal.returns

@@ -1,6 +1,5 @@
 -- By the row of a byte. Assumes nothing.
 use Rattle.hinting.specs.Hints.{takes_byte}
-use borrow.Author.Rules.{rules}
 use Rattle.hinting.proofs.takes_byte.Goals as goal
 
 pub returns : goal.returns

@@ -1,12 +1,8 @@
-use borrow.Author.Rules.{rules}
-use Prim.Native.Nat.{◌+◌, ◌*◌, ◌-◌, ◌≤◌, ◌<◌}
+use Prim.Native.Nat.{◌+◌, ◌*◌, ◌<◌}
 use mathlib.Core.Path.{◌≡◌, refl, sym, ap, ◌∙◌}
-use mathlib.Core.List.{◌++◌}
 use native.Mathlib.Omega.{arith}
 use lib.ListN.{length, take}
 use lib.Seq.{paste, take_all, length-paste}
-use Rattle.rules.specs.Blocks.{array_size_lem}
-use Rattle.image.specs.Form.{joined, file_size_lem}
 use Rattle.image.specs.Files.{page_in, page_place, array_in}
 use Rattle.image.proofs.Parts.{length_part}
 use Rattle.image_records.proofs.Laws.{paste_patched, pieces_none, pieces_more}

@@ -7,7 +7,6 @@ use lib.Seq.{paste, take_all}
 use Rattle.image.specs.Files.{part}
 use Rattle.image.proofs.Parts.{length_part}
 use Rattle.image_records.proofs.Laws.{paste_patched}
-use borrow.Author.Rules.{rules}
 use Rattle.image_reading.proofs.fill_security.Goals as goal
 
 -- put over all of it

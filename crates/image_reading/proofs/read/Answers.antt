@@ -1,6 +1,5 @@
 use mathlib.Core.Path.{◌≡◌, sym, ap, ◌∙◌}
 use mathlib.Core.Bool.{true, false, not}
-use native.Mathlib.Omega.{arith}
 use Rattle.rules.specs.Words.{pick}
 use Rattle.rules.specs.Fields.{chip_of}
 use Rattle.rules.specs.Programs.{blank}
@@ -8,7 +7,6 @@ use Rattle.image.specs.Files.{right, chip_in, array_in, security_in}
 use Rattle.image.specs.Promises.{read_of}
 use Rattle.image.proofs.Outcomes.{sizes_of, sized, unsized, read_sizes, read_wrong, read_done}
 use Rattle.image_reading.proofs.Found.{is_sound}
-use borrow.Author.Rules.{rules}
 use Rattle.image_reading.proofs.read.Goals as goal
 
 pub returns-then-not-sizes_right : goal.returns-then-not-sizes_right

@@ -1,8 +1,6 @@
-use native.Mathlib.Omega.{arith}
 use Rattle.rules.specs.declared.Work.{Work}
 use Rattle.rules.specs.Fields.{works_of, rest_of}
 use Rattle.image.specs.Files.{rest_in}
-use borrow.Author.Rules.{rules}
 use Rattle.image_reading.proofs.rest_in.Goals as goal
 
 pub returns : goal.returns

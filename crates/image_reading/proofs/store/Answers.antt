@@ -1,5 +1,3 @@
-use native.Mathlib.Omega.{arith}
-use borrow.Author.Rules.{rules}
 use Rattle.image_reading.proofs.store.Goals as goal
 
 pub returns-then-right : goal.returns-then-right

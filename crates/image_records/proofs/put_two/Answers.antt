@@ -1,5 +1,5 @@
 -- Assumes nothing.
-use Rattle.std.proofs.Common.{arith, length-set, rules}
+use Rattle.std.proofs.Common.{arith, length-set}
 use Rattle.image_records.proofs.Laws.{put_two}
 use Rattle.image_records.proofs.put_two.Goals as goal
 

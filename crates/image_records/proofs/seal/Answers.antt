@@ -1,5 +1,5 @@
 -- The mark in front, then the sum of the body, which the mark did not change. Assumes nothing.
-use Rattle.std.proofs.Common.{◌+◌, ◌-◌, ap, ◌∙◌, arith, rules}
+use Rattle.std.proofs.Common.{◌+◌, ◌-◌, ap, ◌∙◌}
 use lib.Seq.{paste}
 use Rattle.image.specs.Form.{high_first, sum}
 use Rattle.image.specs.Files.{part}

@@ -1,6 +1,4 @@
-use Rattle.std.proofs.Common.{◌≡◌, ◌-◌, ◌≤◌, length, sym, ◌∙◌, arith, rules}
-use Rattle.image.specs.Form.{sum}
-use Rattle.image.specs.Files.{part}
+use Rattle.std.proofs.Common.{◌≡◌, sym, ◌∙◌, arith}
 use Rattle.image_records.proofs.Laws.{sum_none, sum_more}
 use Rattle.image_records.proofs.sum.Goals as goal
 

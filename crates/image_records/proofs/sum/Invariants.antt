@@ -1,8 +1,7 @@
 -- The sum so far is that of the bytes so far, modulo 65,536. Assumes nothing.
-use Rattle.std.proofs.Common.{◌≡◌, ◌-◌, ◌≤◌, length, sym, ◌∙◌, arith, rules}
+use Rattle.std.proofs.Common.{◌≡◌, ◌-◌, ◌≤◌, length}
 use Rattle.image.specs.Form.{sum}
 use Rattle.image.specs.Files.{part}
-use Rattle.image_records.proofs.Laws.{sum_none, sum_more}
 use Rattle.image_records.proofs.sum.Given as goal
 
 abbrev pub invariant-loop-i : goal.invariant-loop-i

@@ -1,5 +1,5 @@
 -- Assumes nothing.
-use Rattle.std.proofs.Common.{◌∙◌, rules}
+use Rattle.std.proofs.Common.{◌∙◌}
 use Rattle.image_records.proofs.Laws.{number_at}
 use Rattle.image_records.proofs.two.Goals as goal
 

@@ -1,7 +1,6 @@
 -- A5, and the others. Assumes nothing.
 use borrow.Author.Tests.{ne_eqb}
 use Rattle.judging.proofs.Judged.{closed_other}
-use borrow.Author.Rules.{rules}
 use Rattle.judging.proofs.is_closed.Goals as goal
 
 pub returns-then-op-eq165 : goal.returns-then-op-eq165

@@ -1,8 +1,4 @@
 -- C7, the four that go to one block, and the others. Assumes nothing.
-use mathlib.Core.Path.{sym, ◌∙◌}
-use borrow.Author.Tests.{ne_eqb, not-true, not-false}
-use Rattle.judging.proofs.Judged.{locked_block_lem, locked_none}
-use borrow.Author.Rules.{rules}
 use Rattle.judging.proofs.is_locked.Goals as goal
 
 pub returns-then-op-eq199 : goal.returns-then-op-eq199

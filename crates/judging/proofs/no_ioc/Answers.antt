@@ -1,5 +1,4 @@
 -- As in the rule. Assumes nothing.
-use borrow.Author.Rules.{rules}
 use Rattle.judging.proofs.no_ioc.Goals as goal
 
 pub returns : goal.returns

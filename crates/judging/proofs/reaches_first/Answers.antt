@@ -1,7 +1,6 @@
 -- By arithmetic: the page, the first place and the last. Assumes nothing.
 use Rattle.judging.proofs.Reaches.{reaches_first_lem}
 use Rattle.judging.proofs.Judged.{no_data}
-use borrow.Author.Rules.{rules}
 use Rattle.judging.proofs.reaches_first.Goals as goal
 
 pub returns-then-sent-lt4 : goal.returns-then-sent-lt4

@@ -1,13 +1,11 @@
 -- Its range, its bit, and what opens it. Assumes nothing.
 use Rattle.locked.specs.Locked.{block_why}
-use mathlib.Core.Path.{refl, sym, ap, ◌∙◌}
+use mathlib.Core.Path.{ap, ◌∙◌}
 use Rattle.page.specs.Page.{form}
 use Prim.Native.Nat.{ℕ, ◌+◌, ◌-◌}
-use mathlib.Core.Bool.{Bool, not}
+use mathlib.Core.Bool.{Bool}
 use Rattle.rules.specs.Words.{pick}
 use Prim.Native.Nat.{ℕ}
-use Rattle.writing.proofs.Picks.{yes, no}
-use borrow.Author.Rules.{rules}
 use Rattle.locked.proofs.block.Goals as goal
 
 pub returns : goal.returns

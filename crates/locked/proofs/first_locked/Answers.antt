@@ -1,11 +1,8 @@
-use Prim.Native.Nat.{ℕ, ◌≤◌, ◌<◌, ◌-◌, ◌+◌}
-use mathlib.Core.Path.{◌≡◌, refl, sym, ap, ◌∙◌}
+use mathlib.Core.Path.{refl, sym, ap, ◌∙◌}
 use Rattle.rules.specs.declared.Block.{Block}
 use Rattle.rules.specs.Words.{bit}
 use Rattle.rules.proofs.Blocks.{block_placed}
-use Rattle.locked.specs.Locked.{locked_from}
 use Rattle.locked.proofs.First.{locked_here, locked_later, locked_none}
-use borrow.Author.Rules.{rules}
 use native.Mathlib.Omega.{arith}
 use Rattle.locked.proofs.first_locked.Goals as goal
 

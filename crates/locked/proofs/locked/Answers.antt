@@ -1,11 +1,9 @@
 -- The block by its number. Assumes nothing.
-use Rattle.locked.specs.Locked.{locked_why, block_why}
-use mathlib.Core.Path.{refl, sym, ap, ◌∙◌}
+use Rattle.locked.specs.Locked.{block_why}
+use mathlib.Core.Path.{ap, ◌∙◌}
 use Rattle.rules.specs.declared.Block.{Block}
 use Rattle.rules.specs.Blocks.{block_at}
 use Rattle.rules.proofs.Blocks.{block_placed}
-use Prim.Native.Nat.{ℕ}
-use borrow.Author.Rules.{rules}
 use Rattle.locked.proofs.locked.Goals as goal
 
 pub block-requires : goal.block-requires

@@ -1,12 +1,10 @@
 -- The first of all, or the one of the address. Assumes nothing.
 use borrow.Author.Tests.{eq-eqb, ne_eqb}
 use Rattle.locked.specs.Locked.{locked_block}
-use mathlib.Core.Path.{refl, sym, ap, ◌∙◌}
+use mathlib.Core.Path.{ap, ◌∙◌}
 use Rattle.writing.proofs.Picks.{yes, no}
 use Rattle.rules.specs.Blocks.{block_of}
 use Rattle.rules.proofs.Blocks.{block_of_lt}
-use Prim.Native.Nat.{ℕ}
-use borrow.Author.Rules.{rules}
 use Rattle.locked.proofs.locked_block.Goals as goal
 
 pub returns-then-op-eq199 : goal.returns-then-op-eq199

@@ -1,7 +1,6 @@
 -- The whole page is patched with FF. Assumes nothing.
 use Rattle.rules.specs.Programs.{blank}
 use Rattle.memory.proofs.Patched.{patched_whole}
-use borrow.Author.Rules.{rules}
 use Rattle.memory.proofs.blank_page.Goals as goal
 
 pub returns : goal.returns

@@ -1,10 +1,8 @@
-use Prim.Native.Nat.{ℕ, ◌≤◌, ◌-◌, ◌+◌}
+use Prim.Native.Nat.{ℕ, ◌+◌}
 use mathlib.Core.Path.{◌≡◌, sym, ap}
-use lib.ListN.{length, get_or}
+use lib.ListN.{get_or}
 use lib.Bits.{bit_and}
-use Rattle.memory.specs.Patched.{Patched}
 use Rattle.memory.proofs.Patched.{patched_none, patched_more, patched_next}
-use borrow.Author.Rules.{rules}
 use native.Mathlib.Omega.{arith}
 use Rattle.memory.proofs.clear_bits.Goals as goal
 

@@ -1,12 +1,8 @@
 -- The loop patches the slice from `from` on: a byte that it has not reached is still the old one. Assumes nothing.
-use Prim.Native.Nat.{ℕ, ◌≤◌, ◌-◌, ◌+◌}
-use mathlib.Core.Path.{◌≡◌, sym, ap}
+use Prim.Native.Nat.{◌≤◌, ◌-◌, ◌+◌}
 use lib.ListN.{length, get_or}
 use lib.Bits.{bit_and}
 use Rattle.memory.specs.Patched.{Patched}
-use Rattle.memory.proofs.Patched.{patched_none, patched_more, patched_next}
-use borrow.Author.Rules.{rules}
-use native.Mathlib.Omega.{arith}
 use Rattle.memory.proofs.clear_bits.Given as goal
 
 abbrev pub invariant-loop-i : goal.invariant-loop-i

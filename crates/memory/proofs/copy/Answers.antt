@@ -1,9 +1,7 @@
-use Prim.Native.Nat.{◌≤◌, ◌-◌, ◌+◌}
+use Prim.Native.Nat.{◌+◌}
 use mathlib.Core.Path.{◌≡◌, refl, sym}
-use lib.ListN.{length, get_or}
-use Rattle.memory.specs.Patched.{Patched}
+use lib.ListN.{get_or}
 use Rattle.memory.proofs.Patched.{patched_none, patched_more}
-use borrow.Author.Rules.{rules}
 use native.Mathlib.Omega.{arith}
 use Rattle.memory.proofs.copy.Goals as goal
 

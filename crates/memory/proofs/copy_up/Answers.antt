@@ -1,9 +1,6 @@
-use Prim.Native.Nat.{ℕ, ◌≤◌, ◌-◌, ◌+◌}
 use mathlib.Core.Path.{◌≡◌, sym}
-use lib.ListN.{length, get_or}
-use Rattle.memory.specs.Patched.{Patched}
+use lib.ListN.{get_or}
 use Rattle.memory.proofs.Patched.{patched_none, patched_more}
-use borrow.Author.Rules.{rules}
 use native.Mathlib.Omega.{arith}
 use Rattle.memory.proofs.copy_up.Goals as goal
 

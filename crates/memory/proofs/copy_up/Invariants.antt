@@ -1,11 +1,7 @@
 -- The loop patches the slice from `to` on, and the bytes that it copies lie before that. Assumes nothing.
-use Prim.Native.Nat.{ℕ, ◌≤◌, ◌-◌, ◌+◌}
-use mathlib.Core.Path.{◌≡◌, sym}
+use Prim.Native.Nat.{◌≤◌, ◌-◌, ◌+◌}
 use lib.ListN.{length, get_or}
 use Rattle.memory.specs.Patched.{Patched}
-use Rattle.memory.proofs.Patched.{patched_none, patched_more}
-use borrow.Author.Rules.{rules}
-use native.Mathlib.Omega.{arith}
 use Rattle.memory.proofs.copy_up.Given as goal
 
 abbrev pub invariant-loop-i : goal.invariant-loop-i

@@ -4,7 +4,6 @@ use mathlib.Core.List.{[]}
 use Rattle.rules.specs.declared.Work.{Work}
 use Rattle.rules.specs.Works.{tear_of}
 use Rattle.memory.proofs.Finishes.{patched_whole, patched_torn}
-use borrow.Author.Rules.{rules}
 use Rattle.memory.proofs.erase.Goals as goal
 
 pub returns-then-whole-n : goal.returns-then-whole-n

@@ -1,11 +1,8 @@
 -- What is still to come, put into the page so far, is the whole buffer. Assumes nothing.
-use Prim.Native.Nat.{ℕ, ◌≤◌, ◌-◌, ◌+◌, ◌%◌}
-use mathlib.Core.Path.{◌≡◌, sym, ap, ◌∙◌}
-use lib.ListN.{length, get_or, drop, set, length-set}
+use Prim.Native.Nat.{◌≤◌, ◌-◌, ◌+◌}
+use mathlib.Core.Path.{◌≡◌}
+use lib.ListN.{length, drop}
 use Rattle.rules.specs.Programs.{blank, fill}
-use Rattle.memory.proofs.Buffers.{fill_next, fill_end}
-use borrow.Author.Rules.{rules}
-use native.Mathlib.Omega.{arith}
 use Rattle.memory.proofs.fill_page.Given as goal
 
 abbrev pub invariant-loop-i : goal.invariant-loop-i

@@ -1,10 +1,6 @@
-use Prim.Native.Nat.{◌≤◌, ◌-◌}
 use mathlib.Core.Path.{◌≡◌, refl, sym}
-use lib.Dec.{eqb}
-use lib.ListN.{length}
 use Rattle.rules.specs.WellFormed.{first_ff}
 use Rattle.memory.proofs.Buffers.{ff_next}
-use borrow.Author.Rules.{rules}
 use native.Mathlib.Omega.{arith}
 use Rattle.memory.proofs.first_ff.Goals as goal
 

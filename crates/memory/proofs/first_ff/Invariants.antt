@@ -1,12 +1,9 @@
 -- The bits in which some byte so far differs from FF are none exactly where each byte is FF. Assumes nothing.
 use Prim.Native.Nat.{◌≤◌, ◌-◌}
-use mathlib.Core.Path.{◌≡◌, refl, sym}
+use mathlib.Core.Path.{◌≡◌}
 use lib.Dec.{eqb}
 use lib.ListN.{length}
 use Rattle.rules.specs.WellFormed.{first_ff}
-use Rattle.memory.proofs.Buffers.{ff_next}
-use borrow.Author.Rules.{rules}
-use native.Mathlib.Omega.{arith}
 use Rattle.memory.proofs.first_ff.Given as goal
 
 abbrev pub invariant-loop-i : goal.invariant-loop-i

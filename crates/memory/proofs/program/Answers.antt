@@ -3,7 +3,6 @@ use mathlib.Core.Path.{refl}
 use Rattle.rules.specs.declared.Work.{Work}
 use Rattle.rules.specs.Works.{tear_of}
 use Rattle.memory.proofs.Finishes.{patched_whole, patched_torn}
-use borrow.Author.Rules.{rules}
 use Rattle.memory.proofs.program.Goals as goal
 
 pub returns-then-whole-lt256 : goal.returns-then-whole-lt256

@@ -1,10 +1,9 @@
-use Prim.Native.Nat.{ℕ, ◌≤◌, ◌<◌, ◌-◌, ◌+◌, ◌%◌}
+use Prim.Native.Nat.{◌%◌}
 use mathlib.Core.Path.{◌≡◌, refl, ◌∙◌}
 use native.Mathlib.Nat.{mod_self}
-use mathlib.Core.Logic.{◌⊎◌, inr, ⊎_elim}
-use lib.ListN.{length, get_or}
+use mathlib.Core.Logic.{inr, ⊎_elim}
+use lib.ListN.{length}
 use Rattle.memory.proofs.Repeated.{turned_first, turned_more, turns_more}
-use borrow.Author.Rules.{rules}
 use native.Mathlib.Omega.{arith}
 use Rattle.memory.proofs.repeat.Goals as goal
 

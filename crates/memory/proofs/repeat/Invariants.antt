@@ -1,12 +1,8 @@
 -- What is there is a whole number of turns, or all of it; a round copies it behind itself. Assumes nothing.
-use Prim.Native.Nat.{ℕ, ◌≤◌, ◌<◌, ◌-◌, ◌+◌, ◌%◌}
-use mathlib.Core.Path.{◌≡◌, refl, ◌∙◌}
-use native.Mathlib.Nat.{mod_self}
-use mathlib.Core.Logic.{◌⊎◌, inr, ⊎_elim}
+use Prim.Native.Nat.{ℕ, ◌≤◌, ◌<◌, ◌-◌, ◌%◌}
+use mathlib.Core.Path.{◌≡◌}
+use mathlib.Core.Logic.{◌⊎◌}
 use lib.ListN.{length, get_or}
-use Rattle.memory.proofs.Repeated.{turned_first, turned_more, turns_more}
-use borrow.Author.Rules.{rules}
-use native.Mathlib.Omega.{arith}
 use Rattle.memory.proofs.repeat.Given as goal
 
 abbrev pub invariant-loop-done : goal.invariant-loop-done

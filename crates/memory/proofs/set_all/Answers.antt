@@ -1,9 +1,5 @@
-use Prim.Native.Nat.{◌≤◌, ◌-◌, ◌+◌}
 use mathlib.Core.Path.{◌≡◌, refl, sym}
-use lib.ListN.{length}
-use Rattle.memory.specs.Patched.{Patched}
 use Rattle.memory.proofs.Patched.{patched_none, patched_more}
-use borrow.Author.Rules.{rules}
 use native.Mathlib.Omega.{arith}
 use Rattle.memory.proofs.set_all.Goals as goal
 

@@ -1,11 +1,7 @@
 -- The loop patches the slice from `from` on, one byte a turn. Assumes nothing.
 use Prim.Native.Nat.{◌≤◌, ◌-◌, ◌+◌}
-use mathlib.Core.Path.{◌≡◌, refl, sym}
 use lib.ListN.{length}
 use Rattle.memory.specs.Patched.{Patched}
-use Rattle.memory.proofs.Patched.{patched_none, patched_more}
-use borrow.Author.Rules.{rules}
-use native.Mathlib.Omega.{arith}
 use Rattle.memory.proofs.set_all.Given as goal
 
 abbrev pub invariant-loop-i : goal.invariant-loop-i

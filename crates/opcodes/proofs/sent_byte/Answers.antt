@@ -1,8 +1,5 @@
 -- A byte of the slice is below 256; past its end a frame counts as 0. Assumes nothing.
-use mathlib.Core.Path.{refl, sym}
 use native.Mathlib.Omega.{arith}
-use borrow.Author.Rules.{rules}
-use Rattle.rules.proofs.Rows.{sent_past}
 use Rattle.opcodes.proofs.sent_byte.Goals as goal
 
 pub overflow_cast-result : goal.overflow_cast-result

@@ -1,7 +1,6 @@
 -- The page in code is the page of the definitions. Assumes nothing.
 use Rattle.meanings.specs.Meanings.{meaning}
 use Rattle.page.specs.Page.{page, form}
-use borrow.Author.Rules.{rules}
 use Rattle.page.proofs.form.Goals as goal
 
 pub returns : goal.returns

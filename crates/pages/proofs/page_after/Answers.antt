@@ -1,5 +1,4 @@
 -- Each kind has its clause. Assumes nothing.
-use borrow.Author.Rules.{rules}
 use Rattle.pages.proofs.page_after.Goals as goal
 
 pub returns-in-Begin : goal.returns-in-Begin

@@ -1,5 +1,4 @@
 -- A reset blanks it; the others leave it. Assumes nothing.
-use borrow.Author.Rules.{rules}
 use Rattle.pages.proofs.page_at_once.Goals as goal
 
 pub returns-in-Reset : goal.returns-in-Reset

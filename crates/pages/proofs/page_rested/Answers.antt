@@ -4,12 +4,10 @@ use mathlib.Core.Path.{◌≡◌}
 use mathlib.Core.Bool.{true, false, not}
 use mathlib.Core.List.{List}
 use borrow.Author.Tests.{not-true, not-false}
-use borrow.Author.Rules.{rules}
 use Rattle.rules.specs.declared.Work.{Work}
 use Rattle.rules.specs.Works.{is_program}
 use Rattle.rules.specs.Programs.{blank}
 use Rattle.rules.specs.Commands.{buffer_rested}
-use Rattle.pages.proofs.page_rested.Goals as goal
 
 dropped : (w : Work) (b : List ℕ) → not (is_program w) ≡ true → blank ≡ buffer_rested w b
 dropped w b t = rw (not-true (is_program w) t)

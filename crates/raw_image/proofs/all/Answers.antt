@@ -1,8 +1,7 @@
 use native.Mathlib.Omega.{arith}
 use mathlib.Core.Path.{◌≡◌, sym, ap, ◌∙◌}
-use Prim.Native.Nat.{ℕ, ◌-◌, ◌≤◌}
+use Prim.Native.Nat.{ℕ}
 use borrow.Author.Rules.{rules}
-use Rattle.raw_image.specs.declared.Difference.{Difference}
 use Rattle.raw_image.specs.Raw.{differs_at, compared}
 use Rattle.raw_image.proofs.Compared.{compared_next, few}
 use Rattle.raw_image.proofs.all.Goals as goal

@@ -1,11 +1,7 @@
 -- So many bytes are compared. Assumes nothing.
-use native.Mathlib.Omega.{arith}
-use mathlib.Core.Path.{◌≡◌, sym, ap, ◌∙◌}
-use Prim.Native.Nat.{ℕ, ◌-◌, ◌≤◌}
-use borrow.Author.Rules.{rules}
-use Rattle.raw_image.specs.declared.Difference.{Difference}
-use Rattle.raw_image.specs.Raw.{differs_at, compared}
-use Rattle.raw_image.proofs.Compared.{compared_next, few}
+use mathlib.Core.Path.{◌≡◌}
+use Prim.Native.Nat.{◌-◌, ◌≤◌}
+use Rattle.raw_image.specs.Raw.{compared}
 use Rattle.raw_image.proofs.all.Given as goal
 
 abbrev pub invariant-loop-i : goal.invariant-loop-i

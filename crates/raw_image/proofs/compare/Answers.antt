@@ -1,9 +1,7 @@
 -- Of the right sizes, all bytes. Assumes nothing.
-use mathlib.Core.Path.{◌∙◌}
 use lib.ListN.{length}
 use Rattle.raw_image.specs.Raw.{compare_raw, whole}
 use Rattle.raw_image.proofs.Compared.{sizes}
-use borrow.Author.Rules.{rules}
 use Rattle.raw_image.proofs.compare.Goals as goal
 
 pub all-requires : goal.all-requires

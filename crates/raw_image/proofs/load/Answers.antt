@@ -3,7 +3,6 @@ use native.Mathlib.Omega.{arith}
 use lib.ListN.{length}
 use Rattle.raw_image.specs.Raw.{raw_number, whole}
 use Rattle.raw_image.proofs.Compared.{replaced, sizes}
-use borrow.Author.Rules.{rules}
 use Rattle.raw_image.proofs.load.Goals as goal
 
 pub copy-requires : goal.copy-requires

@@ -1,7 +1,6 @@
 -- The same bytes, the first that differ, or more. Assumes nothing.
 use borrow.Author.Tests.{eq-eqb, ne_eqb}
 use Rattle.raw_image.specs.Raw.{differs_at}
-use borrow.Author.Rules.{rules}
 use Rattle.raw_image.proofs.with_place.Goals as goal
 
 pub returns-then-file-array : goal.returns-then-file-array

@@ -1,7 +1,6 @@
 -- Up to the range's start, to its end, or past it. Assumes nothing.
 use native.Mathlib.Omega.{arith}
 use borrow.Author.Tests.{lt-ltb, le-ltb}
-use borrow.Author.Rules.{rules}
 use Rattle.reading.proofs.alike.Goals as goal
 
 pub returns-then-a-start : goal.returns-then-a-start

@@ -1,12 +1,9 @@
 -- Two pieces of one page: up to the group's end, and from its start. Assumes nothing.
-use Prim.Native.Nat.{◌%◌}
 use mathlib.Core.Path.{◌∙◌}
 use native.Mathlib.Nat.{mod-lt, mod-le}
-use lib.ListN.{length}
 use Rattle.rules.specs.declared.Cell.{Cell}
 use Rattle.rules.proofs.Bursts.{group_in_page, start_in_page}
 use Rattle.reading.proofs.Turns.{turn_short, turn_whole}
-use borrow.Author.Rules.{rules}
 use native.Mathlib.Omega.{arith}
 use Rattle.reading.proofs.first_turn.Goals as goal
 

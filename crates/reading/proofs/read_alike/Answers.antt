@@ -3,7 +3,6 @@ use mathlib.Core.Path.{ap}
 use Rattle.rules.specs.declared.Cell.{Cell}
 use Rattle.rules.specs.Words.{lent}
 use Rattle.reading.proofs.Upto.{locked_piece, suspended_piece, stored_piece, patched_same}
-use borrow.Author.Rules.{rules}
 use Rattle.reading.proofs.read_alike.Goals as goal
 
 pub returns-then-read_locked : goal.returns-then-read_locked

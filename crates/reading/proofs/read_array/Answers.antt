@@ -1,11 +1,8 @@
-use Prim.Native.Nat.{ℕ, ◌-◌, ◌≤◌}
+use Prim.Native.Nat.{ℕ}
 use mathlib.Core.Path.{ap}
-use lib.ListN.{length}
 use Rattle.rules.specs.Words.{lent}
 use Rattle.rules.specs.Reading.{place_cell}
-use Rattle.reading.specs.Upto.{Upto, cell_from}
 use Rattle.reading.proofs.Upto.{upto_none, upto_piece, upto_all, piece, place_on}
-use borrow.Author.Rules.{rules}
 use native.Mathlib.Omega.{arith}
 use Rattle.reading.proofs.read_array.Goals as goal
 

@@ -1,13 +1,7 @@
 -- Each turn adds a piece whose places are alike: they are the next places of the read. Assumes nothing.
-use Prim.Native.Nat.{ℕ, ◌-◌, ◌≤◌}
-use mathlib.Core.Path.{ap}
+use Prim.Native.Nat.{◌-◌, ◌≤◌}
 use lib.ListN.{length}
-use Rattle.rules.specs.Words.{lent}
-use Rattle.rules.specs.Reading.{place_cell}
 use Rattle.reading.specs.Upto.{Upto, cell_from}
-use Rattle.reading.proofs.Upto.{upto_none, upto_piece, upto_all, piece, place_on}
-use borrow.Author.Rules.{rules}
-use native.Mathlib.Omega.{arith}
 use Rattle.reading.proofs.read_array.Given as goal
 
 abbrev pub invariant-loop-i : goal.invariant-loop-i

@@ -3,7 +3,6 @@ use mathlib.Core.Path.{◌∙◌}
 use Rattle.rules.specs.declared.Cell.{Cell}
 use Rattle.reading.proofs.Turns.{turns_all}
 use Rattle.reading.proofs.Upto.{upto_all}
-use borrow.Author.Rules.{rules}
 use native.Mathlib.Omega.{arith}
 use Rattle.reading.proofs.read_burst.Goals as goal
 

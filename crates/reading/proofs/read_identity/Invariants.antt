@@ -3,9 +3,6 @@ use Prim.Native.Nat.{◌-◌, ◌%◌, ◌≤◌}
 use mathlib.Core.List.{[], ◌∷◌}
 use lib.ListN.{length, get_or}
 use Rattle.reading.specs.Upto.{Upto}
-use Rattle.reading.proofs.Upto.{upto_none, upto_set, upto_all}
-use borrow.Author.Rules.{rules}
-use native.Mathlib.Omega.{arith}
 use Rattle.reading.proofs.read_identity.Given as goal
 
 abbrev pub invariant-loop-i : goal.invariant-loop-i

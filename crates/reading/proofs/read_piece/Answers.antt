@@ -1,7 +1,6 @@
 -- The places of a page are alike. Assumes nothing.
 use native.Mathlib.Omega.{arith}
 use Rattle.reading.proofs.Upto.{alike_in_page}
-use borrow.Author.Rules.{rules}
 use Rattle.reading.proofs.read_piece.Goals as goal
 
 pub shape_of-reply : goal.shape_of-reply

@@ -1,9 +1,7 @@
-use Prim.Native.Nat.{◌+◌, ◌-◌, ◌%◌, ◌≤◌}
+use Prim.Native.Nat.{◌+◌, ◌%◌}
 use mathlib.Core.Path.{refl}
 use lib.ListN.{length, get_or}
-use Rattle.reading.specs.Upto.{Upto}
 use Rattle.reading.proofs.Upto.{upto_none, upto_set, upto_all}
-use borrow.Author.Rules.{rules}
 use native.Mathlib.Omega.{arith}
 use Rattle.reading.proofs.read_security.Goals as goal
 

@@ -1,11 +1,7 @@
 -- One byte more of the reply each turn. Assumes nothing.
 use Prim.Native.Nat.{◌+◌, ◌-◌, ◌%◌, ◌≤◌}
-use mathlib.Core.Path.{refl}
 use lib.ListN.{length, get_or}
 use Rattle.reading.specs.Upto.{Upto}
-use Rattle.reading.proofs.Upto.{upto_none, upto_set, upto_all}
-use borrow.Author.Rules.{rules}
-use native.Mathlib.Omega.{arith}
 use Rattle.reading.proofs.read_security.Given as goal
 
 abbrev pub invariant-loop-i : goal.invariant-loop-i

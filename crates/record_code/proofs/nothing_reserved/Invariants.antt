@@ -1,17 +1,11 @@
 -- The bits of the bytes so far are none, and the number of those that are left is 0, exactly where the whole number is 0. Assumes nothing.
 -- bits x, and a number whose lowest byte is b
 -- one more byte, and what is left
-use Prim.Native.Nat.{ℕ, suc, ◌+◌, ◌*◌, ◌-◌, ◌≤◌, ◌<◌}
-use mathlib.Core.Path.{◌≡◌, refl, sym, ◌∙◌}
-use mathlib.Core.Bool.{true, ◌&&◌, and-true}
-use mathlib.Core.List.{List}
-use native.Mathlib.Omega.{arith}
-use lib.Bits.{bit_or, or_add_and, and_le_l, and_le_r}
+use Prim.Native.Nat.{◌-◌, ◌≤◌}
+use mathlib.Core.Path.{◌≡◌}
+use mathlib.Core.Bool.{◌&&◌}
 use lib.Dec.{eqb}
-use lib.ListN.{length, get_or}
-use borrow.Author.Rules.{rules}
-use borrow.Author.Tests.{eqb-true, eq-eqb}
-use Rattle.rules.proofs.Bools.{and_split, and_both, same_test}
+use lib.ListN.{length}
 use Rattle.record_code.specs.Layout.{number_at}
 use Rattle.record_code.proofs.nothing_reserved.Given as goal
 

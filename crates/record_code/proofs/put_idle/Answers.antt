@@ -11,7 +11,6 @@ use Rattle.rules.specs.Bursts.{burst_byte}
 use Rattle.rules.specs.Fields.{works_of, rest_of, flags_number}
 use Rattle.record_code.specs.Layout.{bytes, rest_code}
 use native.Mathlib.Omega.{arith}
-use borrow.Author.Rules.{rules}
 use Rattle.record_code.proofs.put_idle.Goals as goal
 
 no-work : bytes 18 0 ≡ bytes 8 0 ++ bytes 8 0 ++ bytes 1 0 ++ bytes 1 0

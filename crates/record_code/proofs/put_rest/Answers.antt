@@ -12,7 +12,6 @@ use Rattle.rules.specs.Fields.{flags_number}
 use Rattle.numbering.specs.Numbering.{kind_of, number_of}
 use Rattle.record_code.specs.Layout.{bytes, rest_code}
 use native.Mathlib.Omega.{arith}
-use borrow.Author.Rules.{rules}
 use Rattle.record_code.proofs.put_rest.Goals as goal
 
 rest_put : (r : Rest) (t : List ℕ) {t₁ t₂ t₃ t₄ t₅ t₆ t₇ t₈ : List ℕ} {n₁ n₂ k₁ k₂ f b : ℕ}

@@ -2,7 +2,6 @@
 use mathlib.Core.Path.{sym, ap₂, ◌∙◌}
 use mathlib.Core.Bool.{◌||◌}
 use Rattle.records.proofs.Records.{found_inside, one_alone, two_beside}
-use borrow.Author.Rules.{rules}
 use Rattle.records.proofs.beside_right.Goals as goal
 
 pub returns-then-is_nothing : goal.returns-then-is_nothing

@@ -1,5 +1,4 @@
 -- The three alternatives of the rule. Assumes nothing.
-use borrow.Author.Rules.{rules}
 use Rattle.records.proofs.buffer_right.Goals as goal
 
 pub returns : goal.returns

@@ -1,7 +1,6 @@
 -- Each kind of work has its bound. Assumes nothing.
 use mathlib.Core.Path.{sym, ap}
 use Rattle.rules.specs.WellFormed.{numbers_right}
-use borrow.Author.Rules.{rules}
 use Rattle.records.proofs.numbers_right.Goals as goal
 
 pub returns-in-EraseSector : goal.returns-in-EraseSector

@@ -1,6 +1,5 @@
 -- Each start lies before both ends. Assumes nothing.
 use Rattle.records.proofs.Records.{overlap_four}
-use borrow.Author.Rules.{rules}
 use Rattle.records.proofs.overlaps.Goals as goal
 
 pub returns : goal.returns

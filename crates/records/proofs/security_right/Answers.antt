@@ -1,5 +1,4 @@
 -- Each kind of work has its test. Assumes nothing.
-use borrow.Author.Rules.{rules}
 use Rattle.records.proofs.security_right.Goals as goal
 
 pub returns-in-ProgramSecurity : goal.returns-in-ProgramSecurity

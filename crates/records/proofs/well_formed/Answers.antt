@@ -2,7 +2,6 @@
 use mathlib.Core.Path.{sym, ◌∙◌}
 use Rattle.rules.proofs.Bools.{and_split}
 use Rattle.records.proofs.Records.{at_rest}
-use borrow.Author.Rules.{rules}
 use Rattle.records.proofs.well_formed.Goals as goal
 
 pub returns-then-is_nothing : goal.returns-then-is_nothing

@@ -2,7 +2,6 @@
 use mathlib.Core.Path.{sym, ◌∙◌}
 use Rattle.rules.specs.WellFormed.{well_formed}
 use Rattle.records.proofs.Records.{low_register, not_registers, rest_decides, wrong_running, wrong_suspended}
-use borrow.Author.Rules.{rules}
 use Rattle.records.proofs.well_formed_at_work.Goals as goal
 
 pub returns-then-not-locks_right : goal.returns-then-not-locks_right

@@ -2,7 +2,6 @@
 use mathlib.Core.Path.{sym, ap₂, ◌∙◌}
 use mathlib.Core.Bool.{◌||◌}
 use Rattle.records.proofs.Records.{works_parts, alone}
-use borrow.Author.Rules.{rules}
 use Rattle.records.proofs.works_right.Goals as goal
 
 pub returns-then-is_nothing : goal.returns-then-is_nothing

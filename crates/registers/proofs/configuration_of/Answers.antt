@@ -1,7 +1,6 @@
 -- Three flags at their bits. Assumes nothing.
 use lib.Dec.{eqb}
 use Rattle.registers.proofs.Flags.{configuration_byte}
-use borrow.Author.Rules.{rules}
 use Rattle.registers.proofs.configuration_of.Goals as goal
 
 pub returns : goal.returns

@@ -2,7 +2,6 @@
 use mathlib.Core.Bool.{not}
 use Rattle.rules.specs.Works.{is_nothing, is_erase, is_program}
 use Rattle.registers.proofs.Flags.{status_byte}
-use borrow.Author.Rules.{rules}
 use Rattle.registers.proofs.status_of.Goals as goal
 
 pub returns : goal.returns

@@ -9,7 +9,6 @@ use lib.ListN.{length}
 use borrow.Author.Tests.{eqb-true}
 use Rattle.rules.proofs.Bools.{and_split}
 use Rattle.replying.proofs.Shows.{stored_written, patched_written}
-use borrow.Author.Rules.{rules}
 use Rattle.replying.proofs.fill_both.Goals as goal
 
 one_each : (l m : List ℕ) → (eqb (length l) 1 && eqb (length m) 1) ≡ true → (length l ≡ 1) × (length m ≡ 1)

@@ -1,6 +1,5 @@
 -- Patched from end to end. Assumes nothing.
 use Rattle.replying.proofs.Shows.{patched_written}
-use borrow.Author.Rules.{rules}
 use Rattle.replying.proofs.mark_all.Goals as goal
 
 pub returns : goal.returns

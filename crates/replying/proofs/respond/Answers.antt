@@ -1,5 +1,4 @@
 -- A source, or nothing. Assumes nothing.
-use borrow.Author.Rules.{rules}
 use Rattle.replying.proofs.respond.Goals as goal
 
 pub returns-in-Show : goal.returns-in-Show

@@ -1,6 +1,5 @@
 -- Each source has its loop. Assumes nothing.
 use Rattle.replying.proofs.Shows.{suspended_pages, length_divides, shows_status, shows_configuration, shows_protection, shows_identity, shows_security, shows_array, shows_burst}
-use borrow.Author.Rules.{rules}
 use Rattle.replying.proofs.show.Goals as goal
 
 pub read_array-requires : goal.read_array-requires

@@ -1,6 +1,5 @@
 -- The reading, and what it stores. Assumes nothing.
 use Rattle.script.proofs.Steps.{step_is, remark_is}
-use borrow.Author.Rules.{rules}
 use Rattle.script.proofs.step.Goals as goal
 
 pub returns : goal.returns

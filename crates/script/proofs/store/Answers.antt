@@ -1,8 +1,7 @@
 use Rattle.script.proofs.Filled.{filled_next, filled_end}
 use Rattle.script.specs.Lines.{filled, stored}
-use mathlib.Core.Path.{◌≡◌, ap, ◌∙◌}
-use Prim.Native.Nat.{ℕ, ◌-◌, min}
-use borrow.Author.Rules.{rules}
+use mathlib.Core.Path.{ap, ◌∙◌}
+use Prim.Native.Nat.{ℕ, ◌-◌}
 use Rattle.script.proofs.store.Goals as goal
 
 pub loop-i-init : goal.loop-i-init

@@ -1,9 +1,7 @@
 -- What is still to be stored, stored from here, is the whole stored from its start. Assumes nothing.
-use Rattle.script.proofs.Filled.{filled_next, filled_end}
 use Rattle.script.specs.Lines.{filled, stored}
-use mathlib.Core.Path.{◌≡◌, ap, ◌∙◌}
-use Prim.Native.Nat.{ℕ, ◌-◌, min}
-use borrow.Author.Rules.{rules}
+use mathlib.Core.Path.{◌≡◌}
+use Prim.Native.Nat.{◌-◌, min}
 use Rattle.script.proofs.store.Given as goal
 
 abbrev pub invariant-loop-i : goal.invariant-loop-i

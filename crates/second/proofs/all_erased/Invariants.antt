@@ -1,6 +1,5 @@
 -- The index stays at most the count, and what is left of the count falls.
 use Prim.Native.Nat.{◌≤◌, ◌-◌}
-use borrow.Author.Rules.{rules}
 use Rattle.second.proofs.all_erased.Given as goal
 
 abbrev pub invariant-loop-i : goal.invariant-loop-i

@@ -2,7 +2,6 @@
 use Prim.Native.Nat.{◌+◌, ◌%◌}
 use native.Mathlib.Nat.{mod-le, mod-lt}
 use native.Mathlib.Omega.{arith}
-use borrow.Author.Rules.{rules}
 use Rattle.second.proofs.burst_place.Goals as goal
 
 pub overflow_sub-first : goal.overflow_sub-first

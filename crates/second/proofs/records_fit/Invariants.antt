@@ -1,6 +1,5 @@
 -- What is left of the places falls.
 use Prim.Native.Nat.{◌-◌, ◌≤◌}
-use borrow.Author.Rules.{rules}
 use Rattle.second.proofs.records_fit.Given as goal
 
 abbrev pub invariant-loop-place : goal.invariant-loop-place

@@ -1,7 +1,6 @@
 -- The index does not go back, and what is left of the frame falls.
 use Prim.Native.Nat.{◌-◌, ◌≤◌}
 use lib.ListN.{length}
-use borrow.Author.Rules.{rules}
 use Rattle.second.proofs.sends_to_factory.Given as goal
 
 abbrev pub invariant-loop-i : goal.invariant-loop-i

@@ -1,6 +1,5 @@
 -- The index stays at most 6, and what is left to 6 falls.
 use Prim.Native.Nat.{◌-◌, ◌≤◌}
-use borrow.Author.Rules.{rules}
 use Rattle.second.proofs.six_bytes.Given as goal
 
 abbrev pub invariant-loop-i : goal.invariant-loop-i

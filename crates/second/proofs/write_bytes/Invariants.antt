@@ -2,7 +2,6 @@
 use Prim.Native.Nat.{◌-◌}
 use mathlib.Core.Path.{◌≡◌}
 use lib.ListN.{length}
-use borrow.Author.Rules.{rules}
 use Rattle.second.proofs.write_bytes.Given as goal
 
 abbrev pub invariant-loop-place : goal.invariant-loop-place

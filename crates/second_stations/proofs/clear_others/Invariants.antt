@@ -2,7 +2,6 @@
 use Prim.Native.Nat.{◌≤◌, ◌-◌, ◌+◌, ◌*◌}
 use mathlib.Core.Path.{◌≡◌}
 use lib.ListN.{length}
-use borrow.Author.Rules.{rules}
 use Rattle.second_stations.proofs.clear_others.Given as goal
 
 abbrev pub invariant-loop-slot : goal.invariant-loop-slot

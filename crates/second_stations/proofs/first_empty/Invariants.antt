@@ -1,6 +1,5 @@
 -- The slot stays at most 2,048, and what is left to 2,048 falls.
 use Prim.Native.Nat.{◌≤◌, ◌-◌}
-use borrow.Author.Rules.{rules}
 use Rattle.second_stations.proofs.first_empty.Given as goal
 
 abbrev pub invariant-loop-slot : goal.invariant-loop-slot

@@ -1,6 +1,5 @@
 -- The index stays at most 32, and what is left to 32 falls.
 use Prim.Native.Nat.{◌≤◌, ◌-◌}
-use borrow.Author.Rules.{rules}
 use Rattle.second_stations.proofs.is_empty.Given as goal
 
 abbrev pub invariant-loop-i : goal.invariant-loop-i

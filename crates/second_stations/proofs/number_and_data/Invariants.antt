@@ -1,6 +1,5 @@
 -- The index stays at most 28, and what is left to 28 falls.
 use Prim.Native.Nat.{◌≤◌, ◌-◌}
-use borrow.Author.Rules.{rules}
 use Rattle.second_stations.proofs.number_and_data.Given as goal
 
 abbrev pub invariant-loop-i : goal.invariant-loop-i

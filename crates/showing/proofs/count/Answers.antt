@@ -1,7 +1,6 @@
 -- By the verb. Assumes nothing.
 use borrow.Author.Tests.{ne_eqb}
 use Rattle.showing.specs.Counts.{count_of}
-use borrow.Author.Rules.{rules}
 use Rattle.showing.proofs.count.Goals as goal
 
 pub returns-in-1 : goal.returns-in-1

@@ -1,7 +1,6 @@
 -- By whether it is compared. Assumes nothing.
 use borrow.Author.Tests.{eq-eqb, ne_eqb}
 use Rattle.showing.specs.Counts.{dump_shown}
-use borrow.Author.Rules.{rules}
 use Rattle.showing.proofs.dump_shown.Goals as goal
 
 pub returns-then-slots-eq0 : goal.returns-then-slots-eq0

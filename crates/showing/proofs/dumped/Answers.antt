@@ -1,7 +1,6 @@
 -- By the memory. Assumes nothing.
 use borrow.Author.Tests.{eq-eqb, ne_eqb}
 use Rattle.showing.specs.Counts.{dumped}
-use borrow.Author.Rules.{rules}
 use Rattle.showing.proofs.dumped.Goals as goal
 
 pub returns-then-slots-eq0 : goal.returns-then-slots-eq0

@@ -1,6 +1,5 @@
 -- Of at most 65,537. Assumes nothing.
 use Rattle.showing.specs.Counts.{reply_shown}
-use borrow.Author.Rules.{rules}
 use Rattle.showing.proofs.reply_shown.Goals as goal
 
 pub returns : goal.returns

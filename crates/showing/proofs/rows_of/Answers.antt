@@ -1,7 +1,6 @@
 -- One more where the last is not full. Assumes nothing.
 use borrow.Author.Tests.{eq-eqb, ne_eqb}
 use Rattle.showing.specs.Counts.{rows_of}
-use borrow.Author.Rules.{rules}
 use Rattle.showing.proofs.rows_of.Goals as goal
 
 pub returns-then-n-eq0 : goal.returns-then-n-eq0

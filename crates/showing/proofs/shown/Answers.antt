@@ -1,6 +1,5 @@
 -- All, or at most so many. Assumes nothing.
 use Rattle.showing.specs.Counts.{shown}
-use borrow.Author.Rules.{rules}
 use Rattle.showing.proofs.shown.Goals as goal
 
 pub returns-then-full : goal.returns-then-full

@@ -1,8 +1,7 @@
-use Prim.Native.Nat.{◌≤◌, ◌-◌}
 use mathlib.Core.Path.{◌≡◌, sym, ◌∙◌}
 use native.Mathlib.Omega.{arith}
 use borrow.Author.Rules.{rules}
-use Rattle.stations.specs.Slots.{shown_in, first_from, empty, free_slot}
+use Rattle.stations.specs.Slots.{first_from, free_slot}
 use Rattle.stations.proofs.Next.{first_hit, first_miss, first_end}
 use Rattle.slots.proofs.first_empty.Goals as goal
 

@@ -1,10 +1,7 @@
 -- The first empty slot from i on is the first of all while none before i is empty. Assumes nothing.
 use Prim.Native.Nat.{◌≤◌, ◌-◌}
-use mathlib.Core.Path.{◌≡◌, sym, ◌∙◌}
-use native.Mathlib.Omega.{arith}
-use borrow.Author.Rules.{rules}
+use mathlib.Core.Path.{◌≡◌}
 use Rattle.stations.specs.Slots.{shown_in, first_from, empty, free_slot}
-use Rattle.stations.proofs.Next.{first_hit, first_miss, first_end}
 use Rattle.slots.proofs.first_empty.Given as goal
 
 abbrev pub invariant-loop-i : goal.invariant-loop-i

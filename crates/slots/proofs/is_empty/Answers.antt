@@ -1,10 +1,7 @@
-use Prim.Native.Nat.{◌≤◌, ◌-◌}
-use mathlib.Core.Path.{◌≡◌}
-use mathlib.Core.Bool.{true}
 use native.Mathlib.Omega.{arith}
 use borrow.Author.Rules.{rules}
 use Rattle.stations.specs.Slots.{all_below}
-use Rattle.slots.proofs.Slots.{is_ff, empty_not, empty_next, empty_whole}
+use Rattle.slots.proofs.Slots.{empty_not, empty_next, empty_whole}
 use Rattle.slots.proofs.is_empty.Goals as goal
 
 pub loop-j-init : goal.loop-j-init

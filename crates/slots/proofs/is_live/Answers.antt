@@ -1,5 +1,4 @@
 -- The two bytes of the mark. Assumes nothing.
-use borrow.Author.Rules.{rules}
 use Rattle.slots.proofs.Slots.{live_at}
 use Rattle.slots.proofs.is_live.Goals as goal
 

@@ -1,5 +1,4 @@
 -- A live slot, and its number. Assumes nothing.
-use borrow.Author.Rules.{rules}
 use Rattle.slots.proofs.Slots.{live_numbered, not_live}
 use Rattle.slots.proofs.is_live_of.Goals as goal
 

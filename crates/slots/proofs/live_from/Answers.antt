@@ -1,8 +1,5 @@
-use Prim.Native.Nat.{◌≤◌, ◌-◌}
 use mathlib.Core.Path.{◌≡◌, refl, sym, ◌∙◌}
 use native.Mathlib.Omega.{arith}
-use borrow.Author.Rules.{rules}
-use Rattle.stations.specs.Slots.{shown_in, first_from, live_of}
 use Rattle.stations.proofs.Next.{first_hit, first_miss, first_end}
 use Rattle.slots.proofs.live_from.Goals as goal
 

@@ -1,10 +1,7 @@
 -- The first live slot from i on is the first from `from` on while none between is live. Assumes nothing.
 use Prim.Native.Nat.{◌≤◌, ◌-◌}
-use mathlib.Core.Path.{◌≡◌, refl, sym, ◌∙◌}
-use native.Mathlib.Omega.{arith}
-use borrow.Author.Rules.{rules}
+use mathlib.Core.Path.{◌≡◌}
 use Rattle.stations.specs.Slots.{shown_in, first_from, live_of}
-use Rattle.stations.proofs.Next.{first_hit, first_miss, first_end}
 use Rattle.slots.proofs.live_from.Given as goal
 
 abbrev pub invariant-loop-i : goal.invariant-loop-i

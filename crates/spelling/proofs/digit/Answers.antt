@@ -1,7 +1,6 @@
 -- The tests are the definition's, in its order. Assumes nothing.
 use Rattle.spelling.specs.Words.{digit_of}
 use borrow.Author.Tests.{lt-ltb, le-ltb}
-use borrow.Author.Rules.{rules}
 use Rattle.spelling.proofs.digit.Goals as goal
 
 pub returns-then-b-lt48 : goal.returns-then-b-lt48

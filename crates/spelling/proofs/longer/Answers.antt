@@ -1,6 +1,5 @@
 -- Field by field. Assumes nothing.
 use Rattle.spelling.specs.Words.{word_with}
-use borrow.Author.Rules.{rules}
 use Rattle.spelling.proofs.longer.Goals as goal
 
 pub returns : goal.returns

@@ -1,7 +1,6 @@
 -- Below the limit one more, else the limit. Assumes nothing.
 use Rattle.spelling.specs.Words.{one_more_lem, most}
 use native.Mathlib.Omega.{arith}
-use borrow.Author.Rules.{rules}
 use Rattle.spelling.proofs.one_more.Goals as goal
 
 pub returns-then-n-lt18446744073709551615 : goal.returns-then-n-lt18446744073709551615

@@ -1,5 +1,4 @@
 -- The tests are the definition's. Assumes nothing.
-use borrow.Author.Rules.{rules}
 use Rattle.spelling.proofs.sign.Goals as goal
 
 pub returns : goal.returns

@@ -1,7 +1,6 @@
 -- The product and the digit fit exactly where they stay below the limit. Assumes nothing.
 use Rattle.spelling.specs.Words.{tens_of, most}
 use native.Mathlib.Omega.{arith}
-use borrow.Author.Rules.{rules}
 use Rattle.spelling.proofs.tens.Goals as goal
 
 pub returns-then-number-digit : goal.returns-then-number-digit

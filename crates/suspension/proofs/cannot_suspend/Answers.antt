@@ -1,10 +1,9 @@
 -- By what is suspended and what runs. Assumes nothing.
 use Rattle.suspension.specs.Suspension.{suspend_why}
-use mathlib.Core.Path.{refl, sym, ap, ◌∙◌}
+use mathlib.Core.Path.{sym, ap, ◌∙◌}
 use Rattle.page.specs.Page.{form}
 use Rattle.writing.proofs.Picks.{yes, no}
 use Rattle.writing.specs.declared.Row.{Row}
-use borrow.Author.Rules.{rules}
 use Rattle.suspension.proofs.cannot_suspend.Goals as goal
 
 pub returns-then-is_nothing-2 : goal.returns-then-is_nothing-2

@@ -1,8 +1,7 @@
 -- Clause by clause. Assumes nothing.
 use Rattle.suspension.specs.Suspension.{clause}
 use Rattle.writing.proofs.Picks.{yes, no}
-use mathlib.Core.Path.{refl, sym, ap, ◌∙◌}
-use borrow.Author.Rules.{rules}
+use mathlib.Core.Path.{refl, sym, ◌∙◌}
 use Rattle.suspension.proofs.clause.Goals as goal
 
 pub returns-then-must_wait : goal.returns-then-must_wait

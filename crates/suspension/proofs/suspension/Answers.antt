@@ -1,13 +1,11 @@
 -- By the opcode. Assumes nothing.
 use borrow.Author.Tests.{eq-eqb, ne_eqb}
 use Rattle.suspension.specs.Suspension.{suspension_why, clause}
-use mathlib.Core.Path.{sym, ap, ◌∙◌}
+use mathlib.Core.Path.{ap, ◌∙◌}
 use Rattle.writing.specs.declared.Row.{Row}
 use Rattle.page.specs.Page.{form}
 use Prim.Native.Nat.{ℕ}
 use Rattle.writing.proofs.Picks.{yes, no}
-use Rattle.describing.specs.Works.{told, work, places}
-use borrow.Author.Rules.{rules}
 use Rattle.suspension.proofs.suspension.Goals as goal
 
 pub returns-then-op-eq176 : goal.returns-then-op-eq176

@@ -4,7 +4,6 @@ use mathlib.Core.Path.{sym}
 use native.Mathlib.Nat.{min-eq_left, min-eq_right}
 use Rattle.tallies.specs.Tallies.{added}
 use native.Mathlib.Omega.{arith}
-use borrow.Author.Rules.{rules}
 use Rattle.tallies.proofs.plus.Goals as goal
 
 pub returns-then-by-n : goal.returns-then-by-n

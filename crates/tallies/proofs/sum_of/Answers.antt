@@ -1,5 +1,4 @@
 -- Each count with its part. Assumes nothing.
-use borrow.Author.Rules.{rules}
 use Rattle.tallies.proofs.sum_of.Goals as goal
 
 pub returns : goal.returns

@@ -1,5 +1,4 @@
 -- Each count is the one before with its part added. Assumes nothing.
-use borrow.Author.Rules.{rules}
 use Rattle.tallies.proofs.with_event.Goals as goal
 
 pub returns : goal.returns

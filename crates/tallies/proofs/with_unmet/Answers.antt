@@ -1,5 +1,4 @@
 -- The differences alone. Assumes nothing.
-use borrow.Author.Rules.{rules}
 use Rattle.tallies.proofs.with_unmet.Goals as goal
 
 pub returns : goal.returns

@@ -1,5 +1,4 @@
 -- Only the wrong lines grow. Assumes nothing.
-use borrow.Author.Rules.{rules}
 use Rattle.tallies.proofs.with_wrong_line.Goals as goal
 
 pub returns : goal.returns

@@ -1,8 +1,7 @@
 -- The work, its places, and that it runs. Assumes nothing.
-use mathlib.Core.Path.{sym, ap, ◌∙◌}
+use mathlib.Core.Path.{ap, ◌∙◌}
 use Rattle.writing.specs.declared.Row.{Row}
 use Rattle.page.specs.Page.{form}
-use borrow.Author.Rules.{rules}
 use Rattle.why.proofs.busy.Goals as goal
 
 pub returns : goal.returns

@@ -5,7 +5,6 @@ use Rattle.page.specs.Page.{form}
 use Prim.Native.Nat.{ℕ}
 use Rattle.writing.proofs.Picks.{yes, no}
 use mathlib.Core.Path.{refl}
-use borrow.Author.Rules.{rules}
 use Rattle.why.proofs.closed.Goals as goal
 
 pub returns-then-changes_locks : goal.returns-then-changes_locks

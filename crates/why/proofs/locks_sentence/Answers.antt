@@ -2,8 +2,8 @@
 use borrow.Author.Tests.{eq-eqb, le-ltb, lt-ltb, ne_eqb}
 use Rattle.why.specs.Why.{locks_sentence}
 use Rattle.writing.proofs.Picks.{yes, no}
-use mathlib.Core.Path.{refl, sym, ap, ◌∙◌}
-use mathlib.Core.Bool.{Bool, not}
+use mathlib.Core.Path.{refl, ap}
+use mathlib.Core.Bool.{not}
 use Rattle.why.proofs.locks_sentence.Goals as goal
 
 pub returns-then-l-ge281474976710656 : goal.returns-then-l-ge281474976710656

@@ -1,12 +1,11 @@
 -- Which length, or the sentence. Assumes nothing.
 use borrow.Author.Tests.{eq-eqb, le-ltb, lt-ltb, ne_eqb}
-use Rattle.why.specs.Why.{malformed_why, sentence}
-use mathlib.Core.Path.{refl, sym, ap, ◌∙◌}
+use Rattle.why.specs.Why.{malformed_why}
+use mathlib.Core.Path.{ap, ◌∙◌}
 use Rattle.page.specs.Page.{form}
-use Prim.Native.Nat.{ℕ, ◌+◌}
+use Prim.Native.Nat.{ℕ}
 use Rattle.writing.proofs.Picks.{yes, no}
-use mathlib.Core.Bool.{Bool, not}
-use borrow.Author.Rules.{rules}
+use mathlib.Core.Bool.{not}
 use Rattle.why.proofs.malformed.Goals as goal
 
 pub returns-then-array-ne2097152 : goal.returns-then-array-ne2097152

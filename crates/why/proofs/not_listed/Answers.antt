@@ -6,7 +6,6 @@ use Rattle.page.specs.Page.{form}
 use Prim.Native.Nat.{ℕ}
 use Rattle.writing.proofs.Picks.{yes, no}
 use Rattle.rules.specs.declared.Form.{Form}
-use borrow.Author.Rules.{rules}
 use Rattle.why.proofs.not_listed.Goals as goal
 
 pub returns-then-f-eq0-2 : goal.returns-then-f-eq0-2

@@ -2,8 +2,7 @@
 use Rattle.why.specs.Why.{numbers_sentence}
 use Rattle.writing.proofs.Picks.{yes, no}
 use mathlib.Core.Path.{refl, sym, ap, ◌∙◌}
-use mathlib.Core.Bool.{Bool, not}
-use borrow.Author.Rules.{rules}
+use mathlib.Core.Bool.{not}
 use Rattle.why.proofs.numbers_sentence.Goals as goal
 
 pub returns-then-not-numbers_right : goal.returns-then-not-numbers_right

@@ -3,12 +3,11 @@ use borrow.Author.Tests.{ne_eqb}
 use Rattle.why.specs.Why.{why, not_listed_why, length_why, closed_why}
 use Rattle.suspension.specs.Suspension.{suspension_why}
 use Rattle.locked.specs.Locked.{locked_why}
-use mathlib.Core.Path.{refl, sym, ap, ◌∙◌}
+use mathlib.Core.Path.{sym, ap, ◌∙◌}
 use Prim.Native.Nat.{ℕ}
-use Rattle.writing.proofs.Picks.{yes, no}
+use Rattle.writing.proofs.Picks.{no}
 use lib.ListN.{length}
 use Rattle.page.specs.Page.{form}
-use borrow.Author.Rules.{rules}
 use Rattle.why.proofs.reason.Goals as goal
 
 pub returns-in-2 : goal.returns-in-2

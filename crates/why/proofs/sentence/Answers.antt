@@ -1,7 +1,7 @@
 -- The registers, the numbers, then the work. Assumes nothing.
 use borrow.Author.Tests.{le-ltb, lt-ltb}
 use Rattle.why.specs.Why.{sentence}
-use mathlib.Core.Path.{refl, sym, ap, ◌∙◌}
+use mathlib.Core.Path.{sym, ap, ◌∙◌}
 use Rattle.writing.proofs.Picks.{yes, no}
 use Prim.Native.Nat.{ℕ}
 use lib.Dec.{ltb}

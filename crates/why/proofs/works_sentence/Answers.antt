@@ -3,12 +3,11 @@ use Rattle.why.specs.Why.{works_sentence}
 use Rattle.writing.proofs.Picks.{yes, no}
 use Rattle.why.proofs.Sentences.{either}
 use mathlib.Core.Path.{refl, sym, ap, ◌∙◌}
-use mathlib.Core.Bool.{Bool, not}
+use mathlib.Core.Bool.{not}
 use Rattle.why.proofs.Sentences.{either}
 use Rattle.why.proofs.Sentences.{either}
 use Rattle.why.proofs.Sentences.{either}
 use Rattle.why.proofs.Sentences.{either}
-use borrow.Author.Rules.{rules}
 use Rattle.why.proofs.works_sentence.Goals as goal
 
 pub returns-then-not-is_nothing-can_suspend : goal.returns-then-not-is_nothing-can_suspend

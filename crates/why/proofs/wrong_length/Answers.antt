@@ -1,14 +1,12 @@
 -- By the protocol and the form. Assumes nothing.
 use Rattle.why.specs.Why.{length_why}
-use mathlib.Core.Path.{refl, sym, ap, ◌∙◌}
+use mathlib.Core.Path.{ap, ◌∙◌}
 use Rattle.page.specs.Page.{form}
 use Prim.Native.Nat.{ℕ}
-use mathlib.Core.Bool.{Bool, not}
 use Rattle.rules.specs.declared.Form.{Form}
 use Rattle.rules.specs.Frames.{least_length}
 use Rattle.rules.specs.Words.{pick}
 use Rattle.why.proofs.Reasons.{least_length_lem}
-use borrow.Author.Rules.{rules}
 use Rattle.why.proofs.wrong_length.Goals as goal
 
 pub returns : goal.returns

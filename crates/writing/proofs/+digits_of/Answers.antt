@@ -1,7 +1,5 @@
 use Rattle.writing.proofs.Laws.{digits_none, digits_low, digits_step}
-use borrow.Author.Rules.{rules}
 use native.Mathlib.Omega.{arith}
-use Prim.Native.Nat.{ℕ, ◌<◌}
 use Rattle.writing.proofs.+digits_of.Goals as goal
 
 pub returns-then-k-eq0 : goal.returns-then-k-eq0

@@ -1,7 +1,5 @@
 use Rattle.writing.proofs.Laws.{hex_none, hex_step}
-use borrow.Author.Rules.{rules}
 use native.Mathlib.Omega.{arith}
-use Prim.Native.Nat.{ℕ, ◌<◌}
 use Rattle.writing.proofs.+hexadecimal.Goals as goal
 
 pub returns-then-k-eq0 : goal.returns-then-k-eq0

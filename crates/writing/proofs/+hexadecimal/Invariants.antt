@@ -1,8 +1,4 @@
 -- The higher digits come first, by the same function, and then the lowest. Assumes nothing.
-use Rattle.writing.proofs.Laws.{hex_none, hex_step}
-use borrow.Author.Rules.{rules}
-use native.Mathlib.Omega.{arith}
-use Prim.Native.Nat.{ℕ, ◌<◌}
 use Rattle.writing.proofs.+hexadecimal.Given as goal
 
 abbrev pub decreases-hexadecimal : goal.decreases-hexadecimal

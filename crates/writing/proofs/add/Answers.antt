@@ -1,8 +1,6 @@
 -- Where there is room the byte goes behind the others; else the row stays. Assumes nothing.
 use borrow.Author.Tests.{lt-ltb, le-ltb}
 use Rattle.writing.specs.Rows.{push}
-use native.Mathlib.Omega.{arith}
-use borrow.Author.Rules.{rules}
 use Rattle.writing.proofs.add.Goals as goal
 
 pub returns-then-at-lt80 : goal.returns-then-at-lt80

@@ -1,10 +1,7 @@
 -- After i turns i blanks are put. Assumes nothing.
-use Prim.Native.Nat.{ℕ, ◌≤◌, ◌-◌}
-use mathlib.Core.Path.{◌≡◌, refl, sym, ap, ◌∙◌}
+use Prim.Native.Nat.{◌≤◌, ◌-◌}
+use mathlib.Core.Path.{◌≡◌}
 use Rattle.writing.specs.Rows.{put, blanks}
-use Rattle.writing.proofs.Laws.{nothing_more, blanks_next}
-use borrow.Author.Rules.{rules}
-use native.Mathlib.Omega.{arith}
 use Rattle.writing.proofs.pad.Given as goal
 
 abbrev pub invariant-loop-i : goal.invariant-loop-i

@@ -1,13 +1,8 @@
 -- After i turns the first i bytes of the text are put. Assumes nothing.
-use Prim.Native.Nat.{ℕ, ◌≤◌, ◌-◌}
-use mathlib.Core.Path.{◌≡◌, refl, sym, ap, ◌∙◌}
-use mathlib.Core.List.{List}
+use Prim.Native.Nat.{◌≤◌, ◌-◌}
+use mathlib.Core.Path.{◌≡◌}
 use lib.ListN.{length, take}
-use lib.Seq.{take_all}
 use Rattle.writing.specs.Rows.{put}
-use Rattle.writing.proofs.Laws.{nothing_more, text_next}
-use borrow.Author.Rules.{rules}
-use native.Mathlib.Omega.{arith}
 use Rattle.writing.proofs.text.Given as goal
 
 abbrev pub invariant-loop-i : goal.invariant-loop-i

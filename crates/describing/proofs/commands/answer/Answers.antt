@@ -1,16 +1,15 @@
 -- Done, an empty frame, or refused. Assumes nothing.
 use borrow.Author.Tests.{eq-eqb, ne_eqb}
 use Rattle.describing.specs.Commands.{answer_on, done_on, command_on}
-use mathlib.Core.Path.{refl, sym, ap, ◌∙◌}
+use mathlib.Core.Path.{sym, ap, ◌∙◌}
 use Rattle.writing.proofs.Picks.{yes, no}
 use Rattle.writing.specs.declared.Row.{Row}
 use Rattle.page.specs.Page.{form}
 use Prim.Native.Nat.{ℕ}
 use Rattle.rules.specs.declared.Kind.{Kind}
 use Rattle.rules.specs.declared.Form.{Form}
-use Rattle.rules.specs.Frames.{form_of, opcode}
+use Rattle.rules.specs.Frames.{form_of}
 use Rattle.rules.specs.declared.Form.{Form}
-use borrow.Author.Rules.{rules}
 use Rattle.describing.proofs.commands.answer.Goals as goal
 
 pub returns-then-number-eq0 : goal.returns-then-number-eq0

@@ -1,14 +1,12 @@
 -- The name, and the operands where the length is right. Assumes nothing.
 use Rattle.describing.specs.Commands.{command_on, name_on, operand_on, operands, opcodes, place_of}
-use mathlib.Core.Path.{refl, sym, ap, ◌∙◌}
-use mathlib.Core.Bool.{Bool, ◌&&◌, ◌||◌}
+use mathlib.Core.Path.{ap, ◌∙◌}
 use Rattle.writing.proofs.Picks.{yes, no}
 use Rattle.writing.specs.declared.Row.{Row}
 use Rattle.page.specs.Page.{form}
 use Rattle.rules.specs.Frames.{opcode}
 use Prim.Native.Nat.{ℕ, ◌+◌}
 use lib.ListN.{get_or}
-use borrow.Author.Rules.{rules}
 use Rattle.describing.proofs.commands.command.Goals as goal
 
 pub returns-then-number : goal.returns-then-number

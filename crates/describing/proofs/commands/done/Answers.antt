@@ -1,16 +1,13 @@
 -- By the command and the reply. Assumes nothing.
 use borrow.Author.Tests.{eq-eqb, ne_eqb}
 use Rattle.describing.specs.Commands.{done_on}
-use mathlib.Core.Path.{refl, sym, ap, ◌∙◌}
-use mathlib.Core.Bool.{Bool, ◌&&◌, ◌||◌}
+use mathlib.Core.Path.{sym, ap, ◌∙◌}
 use Prim.Native.Nat.{ℕ}
 use Rattle.writing.proofs.Picks.{yes, no}
 use Rattle.writing.specs.declared.Row.{Row}
-use Rattle.page.specs.Page.{form}
 use lib.Dec.{eqb}
 use Rattle.writing.specs.Rows.{put}
 use Rattle.byte_text.specs.Bytes.{part}
-use borrow.Author.Rules.{rules}
 use Rattle.describing.proofs.commands.done.Goals as goal
 
 pub returns-then-sort-eq2 : goal.returns-then-sort-eq2

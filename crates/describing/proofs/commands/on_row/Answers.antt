@@ -1,10 +1,9 @@
 -- The three tests. Assumes nothing.
 use Rattle.describing.specs.Commands.{on_row}
-use mathlib.Core.Path.{refl, sym, ap, ◌∙◌}
-use mathlib.Core.Bool.{Bool, ◌&&◌, ◌||◌}
+use mathlib.Core.Path.{ap}
+use mathlib.Core.Bool.{◌&&◌}
 use Prim.Native.Nat.{ℕ}
 use lib.Dec.{eqb, ltb, leb}
-use borrow.Author.Rules.{rules}
 use Rattle.describing.proofs.commands.on_row.Goals as goal
 
 pub returns : goal.returns

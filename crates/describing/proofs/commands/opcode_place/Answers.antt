@@ -1,9 +1,7 @@
 -- The bytes are the opcodes of 01's table. Assumes nothing.
-use Rattle.describing.specs.Commands.{opcodes, opcodes_of, place_of}
+use Rattle.describing.specs.Commands.{opcodes, opcodes_of}
 use Rattle.rules.specs.Frames.{frames}
 use Rattle.describing.proofs.Places.{place_within}
-use mathlib.Core.Path.{refl, sym, ap, ◌∙◌}
-use borrow.Author.Rules.{rules}
 use Rattle.describing.proofs.commands.opcode_place.Goals as goal
 
 pub returns : goal.returns

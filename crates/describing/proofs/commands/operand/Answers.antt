@@ -2,12 +2,10 @@
 use borrow.Author.Tests.{ne_eqb}
 use Rattle.describing.specs.Commands.{operand_on}
 use mathlib.Core.Path.{refl, sym, ap, ◌∙◌}
-use Rattle.writing.proofs.Picks.{yes, no}
+use Rattle.writing.proofs.Picks.{no}
 use Rattle.page.specs.Page.{form}
-use Prim.Native.Nat.{ℕ, ◌-◌}
-use lib.ListN.{length}
+use Prim.Native.Nat.{ℕ}
 use Rattle.rules.specs.Frames.{address, security_address}
-use borrow.Author.Rules.{rules}
 use Rattle.describing.proofs.commands.operand.Goals as goal
 
 pub returns-in-1 : goal.returns-in-1

@@ -1,6 +1,5 @@
 -- The bytes are the list. Assumes nothing.
 use Rattle.describing.specs.Commands.{operands}
-use borrow.Author.Rules.{rules}
 use Rattle.describing.proofs.commands.operand_of.Goals as goal
 
 pub returns : goal.returns

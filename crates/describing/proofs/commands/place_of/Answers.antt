@@ -1,9 +1,5 @@
-use Prim.Native.Nat.{ℕ, ◌≤◌, ◌-◌, ◌+◌}
-use mathlib.Core.Path.{◌≡◌, refl, sym, ap, ◌∙◌}
-use lib.ListN.{length, drop}
-use Rattle.describing.specs.Commands.{place_of}
+use mathlib.Core.Path.{sym, ◌∙◌}
 use Rattle.describing.proofs.Places.{place_here, place_later, place_none}
-use borrow.Author.Rules.{rules}
 use native.Mathlib.Omega.{arith}
 use Rattle.describing.proofs.commands.place_of.Goals as goal
 

@@ -1,11 +1,8 @@
 -- Before i the byte is none of the table's. Assumes nothing.
-use Prim.Native.Nat.{ℕ, ◌≤◌, ◌-◌, ◌+◌}
-use mathlib.Core.Path.{◌≡◌, refl, sym, ap, ◌∙◌}
+use Prim.Native.Nat.{◌≤◌, ◌-◌, ◌+◌}
+use mathlib.Core.Path.{◌≡◌}
 use lib.ListN.{length, drop}
 use Rattle.describing.specs.Commands.{place_of}
-use Rattle.describing.proofs.Places.{place_here, place_later, place_none}
-use borrow.Author.Rules.{rules}
-use native.Mathlib.Omega.{arith}
 use Rattle.describing.proofs.commands.place_of.Given as goal
 
 abbrev pub invariant-loop-i : goal.invariant-loop-i

@@ -1,10 +1,7 @@
 -- The block's row of 01's table. Assumes nothing.
-use Rattle.describing.specs.Works.{told, row}
-use mathlib.Core.Path.{sym, ap, ◌∙◌}
-use Rattle.rules.specs.declared.Work.{Work}
-use Rattle.describing.specs.declared.Told.{Told}
+use Rattle.describing.specs.Works.{row}
+use mathlib.Core.Path.{ap, ◌∙◌}
 use Rattle.rules.specs.declared.Block.{Block}
-use borrow.Author.Rules.{rules}
 use Rattle.describing.proofs.works.block.Goals as goal
 
 pub returns : goal.returns

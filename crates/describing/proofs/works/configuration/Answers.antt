@@ -1,13 +1,11 @@
 -- The two bits. Assumes nothing.
-use Rattle.describing.specs.Works.{told, row}
-use mathlib.Core.Path.{sym, ap, ◌∙◌}
-use Rattle.rules.specs.declared.Work.{Work}
+use Rattle.describing.specs.Works.{row}
+use mathlib.Core.Path.{ap, ◌∙◌}
 use Rattle.describing.specs.declared.Told.{Told}
 use Rattle.describing.proofs.Tellings.{flag_number}
 use mir.Val.{bool_byte}
 use Prim.Native.Nat.{ℕ}
 use Rattle.rules.specs.Words.{num}
-use borrow.Author.Rules.{rules}
 use Rattle.describing.proofs.works.configuration.Goals as goal
 
 pub returns : goal.returns

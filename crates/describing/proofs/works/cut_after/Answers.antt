@@ -2,10 +2,9 @@
 use borrow.Author.Tests.{eq-eqb, ne_eqb}
 use Rattle.describing.specs.Works.{cut_after}
 use Rattle.writing.proofs.Picks.{yes, no}
-use mathlib.Core.Path.{◌∙◌, sym, ap}
+use mathlib.Core.Path.{◌∙◌, ap}
 use Rattle.page.specs.Page.{form}
 use Prim.Native.Nat.{ℕ}
-use borrow.Author.Rules.{rules}
 use Rattle.describing.proofs.works.cut_after.Goals as goal
 
 pub returns-then-k-eq0 : goal.returns-then-k-eq0

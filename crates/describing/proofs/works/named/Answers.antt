@@ -1,6 +1,5 @@
 -- By its form. Assumes nothing.
 use Rattle.describing.specs.Works.{work}
-use borrow.Author.Rules.{rules}
 use Rattle.describing.proofs.works.named.Goals as goal
 
 pub returns : goal.returns

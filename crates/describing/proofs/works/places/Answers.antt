@@ -3,7 +3,6 @@ use borrow.Author.Tests.{eq-eqb, ne_eqb}
 use Rattle.describing.specs.Works.{places}
 use Rattle.writing.proofs.Picks.{yes, no}
 use mathlib.Core.Path.{refl}
-use borrow.Author.Rules.{rules}
 use Rattle.describing.proofs.works.places.Goals as goal
 
 pub returns-then-t-eq0 : goal.returns-then-t-eq0

@@ -1,9 +1,6 @@
 -- Each work by its row. Assumes nothing.
 use Rattle.describing.specs.Works.{told}
 use mathlib.Core.Path.{sym, ap, ◌∙◌}
-use Rattle.rules.specs.declared.Work.{Work}
-use Rattle.describing.specs.declared.Told.{Told}
-use borrow.Author.Rules.{rules}
 use Rattle.describing.proofs.works.told.Goals as goal
 
 pub returns-in-Nothing : goal.returns-in-Nothing

@@ -1,11 +1,8 @@
 -- The table and the form. Assumes nothing.
-use Rattle.describing.specs.Works.{told, work}
-use mathlib.Core.Path.{sym, ap, ◌∙◌}
-use Rattle.rules.specs.declared.Work.{Work}
+use Rattle.describing.specs.Works.{work}
+use mathlib.Core.Path.{ap, ◌∙◌}
 use Rattle.describing.specs.declared.Told.{Told}
-use Rattle.describing.proofs.Tellings.{told_kind, told_inside, told_security}
-use Rattle.writing.specs.declared.Row.{Row}
-use borrow.Author.Rules.{rules}
+use Rattle.describing.proofs.Tellings.{told_kind}
 use Rattle.describing.proofs.works.work.Goals as goal
 
 pub named-requires : goal.named-requires

@@ -1,11 +1,9 @@
 -- The table, the form and the count. Assumes nothing.
-use Rattle.describing.specs.Works.{told, work, cut_after}
-use mathlib.Core.Path.{sym, ap, ◌∙◌}
-use Rattle.rules.specs.declared.Work.{Work}
+use Rattle.describing.specs.Works.{work, cut_after}
+use mathlib.Core.Path.{ap, ◌∙◌}
 use Rattle.describing.specs.declared.Told.{Told}
-use Rattle.describing.proofs.Tellings.{told_kind, told_inside, told_security}
+use Rattle.describing.proofs.Tellings.{told_kind}
 use Rattle.writing.specs.declared.Row.{Row}
-use borrow.Author.Rules.{rules}
 use Rattle.describing.proofs.works.work_cut.Goals as goal
 
 pub named-r-requires : goal.named-r-requires

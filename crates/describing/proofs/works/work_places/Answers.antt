@@ -1,11 +1,9 @@
 -- The table, the form and the range. Assumes nothing.
-use Rattle.describing.specs.Works.{told, work, places}
-use mathlib.Core.Path.{sym, ap, ◌∙◌}
-use Rattle.rules.specs.declared.Work.{Work}
+use Rattle.describing.specs.Works.{work, places}
+use mathlib.Core.Path.{ap, ◌∙◌}
 use Rattle.describing.specs.declared.Told.{Told}
 use Rattle.describing.proofs.Tellings.{told_kind, told_inside, told_security}
 use Rattle.writing.specs.declared.Row.{Row}
-use borrow.Author.Rules.{rules}
 use Rattle.describing.proofs.works.work_places.Goals as goal
 
 pub named-r-requires : goal.named-r-requires

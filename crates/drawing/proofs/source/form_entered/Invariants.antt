@@ -1,5 +1,5 @@
 -- What is left of the times falls.
-use Rattle.std.proofs.Common.{◌-◌, rules}
+use Rattle.std.proofs.Common.{◌-◌}
 use Rattle.drawing.proofs.source.form_entered.Given as goal
 
 abbrev pub invariant-loop-i : goal.invariant-loop-i

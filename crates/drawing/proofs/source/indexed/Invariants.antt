@@ -1,5 +1,5 @@
 -- What is left of the file falls.
-use Rattle.std.proofs.Common.{◌-◌, ◌≤◌, length, rules}
+use Rattle.std.proofs.Common.{◌-◌, ◌≤◌, length}
 use Rattle.drawing.proofs.source.indexed.Given as goal
 
 abbrev pub invariant-loop-i : goal.invariant-loop-i

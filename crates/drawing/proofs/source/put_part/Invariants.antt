@@ -1,5 +1,5 @@
 -- The line stays as long; what is left of the forms falls.
-use Rattle.std.proofs.Common.{◌≡◌, ◌-◌, length, rules}
+use Rattle.std.proofs.Common.{◌≡◌, ◌-◌, length}
 use Rattle.drawing.proofs.source.put_part.Given as goal
 
 abbrev pub invariant-loop-i : goal.invariant-loop-i

@@ -1,7 +1,6 @@
 -- The bytes are the words of the list: computed. Assumes nothing.
 use Rattle.grammar.specs.Table.{called, keys, word_list, keys_from}
 use borrow.Author.Tests.{le-leb, lt-leb}
-use borrow.Author.Rules.{rules}
 use Rattle.grammar.proofs.table.called.Goals as goal
 
 pub returns-then-w-le7 : goal.returns-then-w-le7

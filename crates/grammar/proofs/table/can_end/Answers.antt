@@ -1,6 +1,5 @@
 -- The bytes are the places of the list: computed. Assumes nothing.
 use Rattle.grammar.specs.Table.{ends, numbers_in}
-use borrow.Author.Rules.{rules}
 use Rattle.grammar.proofs.table.can_end.Goals as goal
 
 pub returns : goal.returns

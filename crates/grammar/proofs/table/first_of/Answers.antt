@@ -1,10 +1,9 @@
 use Rattle.grammar.proofs.Lookups.{rows_start, rows_end, row_met, row_passed}
-use Rattle.grammar.specs.Table.{Row, rows_in, rows_from, first_of}
-use lib.ListN.{length, drop}
-use mathlib.Core.Path.{◌≡◌, refl, ap, ◌∙◌}
+use Rattle.grammar.specs.Table.{Row, rows_in, first_of}
+use lib.ListN.{length}
+use mathlib.Core.Path.{refl, ap, ◌∙◌}
 use mathlib.Core.List.{List}
-use Prim.Native.Nat.{◌-◌, ◌*◌, ◌/◌}
-use borrow.Author.Rules.{rules}
+use Prim.Native.Nat.{◌/◌}
 use Rattle.grammar.proofs.table.first_of.Goals as goal
 
 pub loop-k-init : goal.loop-k-init

@@ -1,11 +1,8 @@
 -- What is left of the rows, looked up from here, is the whole table looked up. Assumes nothing.
-use Rattle.grammar.proofs.Lookups.{rows_start, rows_end, row_met, row_passed}
-use Rattle.grammar.specs.Table.{Row, rows_in, rows_from, first_of}
+use Rattle.grammar.specs.Table.{rows_in, rows_from, first_of}
 use lib.ListN.{length, drop}
-use mathlib.Core.Path.{◌≡◌, refl, ap, ◌∙◌}
-use mathlib.Core.List.{List}
+use mathlib.Core.Path.{◌≡◌}
 use Prim.Native.Nat.{◌-◌, ◌*◌, ◌/◌}
-use borrow.Author.Rules.{rules}
 use Rattle.grammar.proofs.table.first_of.Given as goal
 
 abbrev pub invariant-loop-k : goal.invariant-loop-k

@@ -1,7 +1,6 @@
 -- The bytes are the rows of the table: computed. Assumes nothing.
 use Rattle.grammar.specs.Table.{first_of, next_of, rows_in, rows_from, table, keys, word_list, position}
 use mathlib.Core.Path.{ap, ◌∙◌}
-use borrow.Author.Rules.{rules}
 use Rattle.grammar.proofs.table.follows.Goals as goal
 
 pub returns : goal.returns

@@ -4,7 +4,6 @@ use lib.Dec.{eqb, ltb}
 use Rattle.grammar.specs.Table.{slots_with}
 use Rattle.rules.proofs.Bools.{and_split}
 use borrow.Author.Tests.{ltb-true}
-use borrow.Author.Rules.{rules}
 use Rattle.grammar.proofs.table.heard.Goals as goal
 
 pub bounds-all-at : goal.bounds-all-at

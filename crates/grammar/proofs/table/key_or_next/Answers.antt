@@ -1,6 +1,5 @@
 -- The test picks the key. Assumes nothing.
 use borrow.Author.Tests.{eq-eqb, ne_eqb}
-use borrow.Author.Rules.{rules}
 use Rattle.grammar.proofs.table.key_or_next.Goals as goal
 
 pub returns-then-b-eq32 : goal.returns-then-b-eq32

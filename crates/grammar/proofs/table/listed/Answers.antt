@@ -1,10 +1,5 @@
 use Rattle.grammar.proofs.Lookups.{place_met, place_passed, places_end}
-use Rattle.grammar.specs.Table.{numbers_in}
-use Rattle.rules.specs.Words.{one_of}
-use lib.ListN.{length, drop}
-use mathlib.Core.Path.{◌≡◌, refl, ◌∙◌}
-use Prim.Native.Nat.{◌-◌}
-use borrow.Author.Rules.{rules}
+use mathlib.Core.Path.{refl, ◌∙◌}
 use Rattle.grammar.proofs.table.listed.Goals as goal
 
 pub loop-i-init : goal.loop-i-init

@@ -1,11 +1,9 @@
 -- What is left of the list holds the number exactly where the whole does. Assumes nothing.
-use Rattle.grammar.proofs.Lookups.{place_met, place_passed, places_end}
 use Rattle.grammar.specs.Table.{numbers_in}
 use Rattle.rules.specs.Words.{one_of}
 use lib.ListN.{length, drop}
-use mathlib.Core.Path.{◌≡◌, refl, ◌∙◌}
+use mathlib.Core.Path.{◌≡◌}
 use Prim.Native.Nat.{◌-◌}
-use borrow.Author.Rules.{rules}
 use Rattle.grammar.proofs.table.listed.Given as goal
 
 abbrev pub invariant-loop-i : goal.invariant-loop-i

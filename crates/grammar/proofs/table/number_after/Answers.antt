@@ -1,7 +1,6 @@
 -- The test picks the number. Assumes nothing.
 use borrow.Author.Tests.{eq-eqb, ne_eqb}
 use native.Mathlib.Omega.{arith}
-use borrow.Author.Rules.{rules}
 use Rattle.grammar.proofs.table.number_after.Goals as goal
 
 pub returns-then-n-lt255 : goal.returns-then-n-lt255

@@ -1,6 +1,5 @@
 -- Past the end stands 0. Assumes nothing.
 use lib.ListN.{get_or-eq_default}
-use borrow.Author.Rules.{rules}
 use Rattle.grammar.proofs.table.number_at.Goals as goal
 
 pub returns-else-i-text : goal.returns-else-i-text

@@ -1,9 +1,5 @@
 use Rattle.grammar.proofs.Lookups.{key_met, key_passed, keys_end}
-use Rattle.grammar.specs.Table.{position, keys_from}
-use lib.ListN.{length, drop}
-use mathlib.Core.Path.{◌≡◌, refl, ◌∙◌}
-use Prim.Native.Nat.{◌-◌}
-use borrow.Author.Rules.{rules}
+use mathlib.Core.Path.{refl, ◌∙◌}
 use Rattle.grammar.proofs.table.position.Goals as goal
 
 pub loop-i-init : goal.loop-i-init

@@ -1,10 +1,8 @@
 -- What is left of the words, looked up from here, is the whole list looked up. Assumes nothing.
-use Rattle.grammar.proofs.Lookups.{key_met, key_passed, keys_end}
 use Rattle.grammar.specs.Table.{position, keys_from}
 use lib.ListN.{length, drop}
-use mathlib.Core.Path.{◌≡◌, refl, ◌∙◌}
+use mathlib.Core.Path.{◌≡◌}
 use Prim.Native.Nat.{◌-◌}
-use borrow.Author.Rules.{rules}
 use Rattle.grammar.proofs.table.position.Given as goal
 
 abbrev pub invariant-loop-i : goal.invariant-loop-i

@@ -2,7 +2,6 @@
 use Rattle.grammar.specs.Table.{value_of}
 use borrow.Author.Tests.{eq-eqb, ne_eqb}
 use native.Mathlib.Omega.{arith}
-use borrow.Author.Rules.{rules}
 use Rattle.grammar.proofs.table.value.Goals as goal
 
 pub returns-then-source-eq1 : goal.returns-then-source-eq1

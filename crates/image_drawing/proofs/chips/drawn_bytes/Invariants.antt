@@ -1,5 +1,5 @@
 -- The slice stays as long; what is left of it falls.
-use Rattle.std.proofs.Common.{◌≡◌, ◌-◌, length, rules}
+use Rattle.std.proofs.Common.{◌≡◌, ◌-◌, length}
 use Rattle.image_drawing.proofs.chips.drawn_bytes.Given as goal
 
 abbrev pub invariant-loop-i : goal.invariant-loop-i

@@ -1,5 +1,5 @@
 -- What is left of the slice falls.
-use Rattle.std.proofs.Common.{◌-◌, ◌≤◌, length, rules}
+use Rattle.std.proofs.Common.{◌-◌, ◌≤◌, length}
 use Rattle.image_drawing.proofs.places.all_are.Given as goal
 
 abbrev pub invariant-loop-i : goal.invariant-loop-i

@@ -1,5 +1,5 @@
 -- The file stays as long; what is left of the pages falls.
-use Rattle.std.proofs.Common.{◌≡◌, ◌-◌, length, rules}
+use Rattle.std.proofs.Common.{◌≡◌, ◌-◌, length}
 use Rattle.image_drawing.proofs.spoiling.pages_counted.Given as goal
 
 abbrev pub invariant-loop-n : goal.invariant-loop-n

@@ -1,5 +1,5 @@
 -- The file stays as long; what is left of the bytes falls.
-use Rattle.std.proofs.Common.{◌≡◌, ◌-◌, length, rules}
+use Rattle.std.proofs.Common.{◌≡◌, ◌-◌, length}
 use Rattle.image_drawing.proofs.spoiling.swap_all.Given as goal
 
 abbrev pub invariant-loop-i : goal.invariant-loop-i

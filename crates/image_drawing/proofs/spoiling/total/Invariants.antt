@@ -1,5 +1,5 @@
 -- What is left of the bytes falls.
-use Rattle.std.proofs.Common.{◌-◌, rules}
+use Rattle.std.proofs.Common.{◌-◌}
 use Rattle.image_drawing.proofs.spoiling.total.Given as goal
 
 abbrev pub invariant-loop-i : goal.invariant-loop-i

@@ -1,7 +1,5 @@
 use mathlib.Core.Path.{sym, ◌∙◌}
-use native.Mathlib.Omega.{arith}
 use Rattle.image_reading.proofs.Found.{low_of, told, length_found, in_rg, in_registers, in_si, in_pages}
-use borrow.Author.Rules.{rules}
 use Rattle.image_reading.proofs.faults.fault.Goals as goal
 
 pub returns-then-l-ne2148374 : goal.returns-then-l-ne2148374

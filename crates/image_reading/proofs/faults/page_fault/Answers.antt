@@ -1,12 +1,10 @@
 use Prim.Native.Nat.{ℕ}
 use mathlib.Core.Path.{◌≡◌, refl, sym, ◌∙◌}
 use mathlib.Core.List.{List}
-use native.Mathlib.Omega.{arith}
 use Rattle.rules.specs.Texts.{ascii}
 use Rattle.image.specs.Form.{number, number_from}
 use Rattle.image.specs.Faults.{record_fault}
 use Rattle.image_reading.proofs.Found.{record_found, number_found, page_right}
-use borrow.Author.Rules.{rules}
 use Rattle.image_reading.proofs.faults.page_fault.Goals as goal
 
 -- its mark

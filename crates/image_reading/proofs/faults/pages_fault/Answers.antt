@@ -1,10 +1,7 @@
-use borrow.Author.Rules.{rules}
-use Prim.Native.Nat.{◌+◌, ◌-◌, ◌≤◌, ◌<◌}
+use Prim.Native.Nat.{◌+◌, ◌-◌, ◌<◌}
 use mathlib.Core.Path.{◌≡◌, refl, sym, ap, ◌∙◌}
 use mathlib.Core.Bool.{true, false}
 use native.Mathlib.Omega.{arith}
-use lib.ListN.{length}
-use Rattle.image.specs.Form.{file_size_lem}
 use Rattle.image.specs.Faults.{is_none, page_fault, first_from}
 use Rattle.image_reading.proofs.Found.{page_found, page_passed, none_left}
 use Rattle.image_reading.proofs.faults.pages_fault.Goals as goal

@@ -1,13 +1,8 @@
-use borrow.Author.Rules.{rules}
-use Prim.Native.Nat.{◌+◌, ◌-◌, ◌≤◌, ◌<◌}
-use mathlib.Core.Path.{◌≡◌, refl, sym, ap, ◌∙◌}
-use mathlib.Core.Bool.{true, false}
-use native.Mathlib.Omega.{arith}
+use Prim.Native.Nat.{◌-◌, ◌≤◌}
+use mathlib.Core.Path.{◌≡◌}
 use lib.ListN.{length}
-use borrow.Author.Tests.{not-true, not-false}
 use Rattle.image.specs.Form.{file_size_lem}
-use Rattle.image.specs.Faults.{is_none, page_fault, first_from}
-use Rattle.image_reading.proofs.Found.{page_found, page_passed, none_left}
+use Rattle.image.specs.Faults.{page_fault, first_from}
 use Rattle.image_reading.proofs.faults.pages_fault.Given as goal
 
 abbrev pub invariant-loop-n : goal.invariant-loop-n

@@ -1,7 +1,5 @@
 use mathlib.Core.Path.{◌∙◌}
-use native.Mathlib.Omega.{arith}
 use Rattle.image_reading.proofs.Found.{mark_found, sum_found, none_found}
-use borrow.Author.Rules.{rules}
 use Rattle.image_reading.proofs.faults.record_fault.Goals as goal
 
 pub returns-then-mark_there-mark : goal.returns-then-mark_there-mark

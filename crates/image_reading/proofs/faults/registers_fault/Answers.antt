@@ -1,7 +1,5 @@
 use mathlib.Core.Path.{sym, ◌∙◌}
-use native.Mathlib.Omega.{arith}
 use Rattle.image_reading.proofs.Found.{burst_found, read_lock_found, unprotected_found, registers_pass}
-use borrow.Author.Rules.{rules}
 use Rattle.image_reading.proofs.faults.registers_fault.Goals as goal
 
 pub returns-then-not-burst_right : goal.returns-then-not-burst_right

@@ -2,7 +2,6 @@ use Prim.Native.Nat.{◌+◌, ◌*◌}
 use mathlib.Core.Path.{◌∙◌}
 use native.Mathlib.Omega.{arith}
 use Rattle.image_reading.proofs.Found.{six_two}
-use borrow.Author.Rules.{rules}
 use Rattle.image_reading.proofs.faults.six.Goals as goal
 
 pub returns : goal.returns

@@ -1,8 +1,7 @@
 -- Behind the first form. Assumes nothing.
-use mathlib.Core.Path.{refl, sym, ap, ◌∙◌}
+use mathlib.Core.Path.{ap, ◌∙◌}
 use Rattle.writing.specs.declared.Row.{Row}
 use Rattle.page.specs.Page.{form}
-use borrow.Author.Rules.{rules}
 use Rattle.rows.proofs.events.below.Goals as goal
 
 pub returns : goal.returns

@@ -1,9 +1,8 @@
 -- Done, or refused. Assumes nothing.
 use borrow.Author.Tests.{eq-eqb, ne_eqb}
 use Rattle.rows.specs.Events.{cut_on}
-use mathlib.Core.Path.{refl, sym, ap, ◌∙◌}
+use mathlib.Core.Path.{sym, ◌∙◌}
 use Rattle.writing.proofs.Picks.{yes, no}
-use borrow.Author.Rules.{rules}
 use Rattle.rows.proofs.events.cut.Goals as goal
 
 pub returns-then-is_nothing : goal.returns-then-is_nothing

@@ -1,14 +1,13 @@
 -- The parts in a row. Assumes nothing.
-use Rattle.rows.specs.Events.{dump_row, shown}
+use Rattle.rows.specs.Events.{dump_row}
 use Rattle.rows.proofs.Dumps.{dumped}
-use mathlib.Core.Path.{refl, sym, ap, ◌∙◌}
+use mathlib.Core.Path.{ap, ◌∙◌}
 use Rattle.writing.specs.declared.Row.{Row}
 use Rattle.page.specs.Page.{form}
 use Rattle.writing.specs.Rows.{put, blanks}
-use Rattle.byte_text.specs.Bytes.{bytes, within, letters, part}
+use Rattle.byte_text.specs.Bytes.{bytes, within, letters}
 use lib.ListN.{length}
 use Prim.Native.Nat.{ℕ, ◌*◌, ◌-◌}
-use borrow.Author.Rules.{rules}
 use Rattle.rows.proofs.events.dump.Goals as goal
 
 pub returns : goal.returns

@@ -1,11 +1,10 @@
 -- Done, or refused. Assumes nothing.
 use borrow.Author.Tests.{eq-eqb, ne_eqb}
 use Rattle.rows.specs.Events.{ended_on}
-use mathlib.Core.Path.{refl, sym, ap, ◌∙◌}
+use mathlib.Core.Path.{ap, ◌∙◌}
 use Rattle.writing.proofs.Picks.{yes, no}
 use Rattle.writing.specs.declared.Row.{Row}
 use Rattle.page.specs.Page.{form}
-use borrow.Author.Rules.{rules}
 use Rattle.rows.proofs.events.ended.Goals as goal
 
 pub returns-then-number-eq0 : goal.returns-then-number-eq0

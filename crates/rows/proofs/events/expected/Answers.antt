@@ -1,9 +1,8 @@
 -- The form and the bytes. Assumes nothing.
-use mathlib.Core.Path.{refl, sym, ap, ◌∙◌}
+use mathlib.Core.Path.{ap, ◌∙◌}
 use Rattle.writing.specs.declared.Row.{Row}
-use Rattle.writing.specs.Rows.{put, blanks}
-use Rattle.byte_text.specs.Bytes.{bytes, within, letters, part}
-use borrow.Author.Rules.{rules}
+use Rattle.writing.specs.Rows.{put}
+use Rattle.byte_text.specs.Bytes.{part}
 use Rattle.rows.proofs.events.expected.Goals as goal
 
 pub returns : goal.returns

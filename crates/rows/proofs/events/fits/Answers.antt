@@ -1,6 +1,6 @@
 -- The length decides. Assumes nothing.
 use Rattle.rows.specs.Events.{fits}
-use mathlib.Core.Path.{refl, sym, ap, ◌∙◌}
+use mathlib.Core.Path.{refl}
 use Rattle.rows.proofs.events.fits.Goals as goal
 
 pub returns : goal.returns

@@ -1,6 +1,5 @@
 -- One form or the other. Assumes nothing.
 use Rattle.rows.specs.Events.{part_on}
-use borrow.Author.Rules.{rules}
 use Rattle.rows.proofs.events.part.Goals as goal
 
 pub returns-then-ba : goal.returns-then-ba

@@ -1,10 +1,9 @@
 -- The form and the bytes. Assumes nothing.
-use mathlib.Core.Path.{refl, sym, ap, ◌∙◌}
+use mathlib.Core.Path.{ap, ◌∙◌}
 use Rattle.writing.specs.declared.Row.{Row}
-use Rattle.writing.specs.Rows.{put, blanks}
-use Rattle.byte_text.specs.Bytes.{bytes, within, letters, part}
+use Rattle.writing.specs.Rows.{put}
+use Rattle.byte_text.specs.Bytes.{within, letters}
 use lib.ListN.{length}
-use borrow.Author.Rules.{rules}
 use Rattle.rows.proofs.events.remark.Goals as goal
 
 pub returns : goal.returns

@@ -2,7 +2,6 @@
 use borrow.Author.Tests.{le-ltb, lt-ltb}
 use Rattle.rows.specs.Events.{count_on}
 use Rattle.writing.proofs.Picks.{yes, no}
-use borrow.Author.Rules.{rules}
 use Rattle.rows.proofs.events.reply_count.Goals as goal
 
 pub returns-then-n-gt65536 : goal.returns-then-n-gt65536

@@ -1,9 +1,8 @@
 -- The bytes, and the reply that is wanted. Assumes nothing.
 use Rattle.rows.specs.Events.{sent_row, bytes_on, count_on}
-use mathlib.Core.Path.{refl, sym, ap, ◌∙◌}
+use mathlib.Core.Path.{ap, ◌∙◌}
 use Rattle.writing.proofs.Picks.{yes, no}
 use Rattle.writing.specs.declared.Row.{Row}
-use borrow.Author.Rules.{rules}
 use Rattle.rows.proofs.events.sent.Goals as goal
 
 pub returns-then-wanted-sent : goal.returns-then-wanted-sent

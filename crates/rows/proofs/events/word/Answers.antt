@@ -1,11 +1,10 @@
 -- No word, a word, or a long one. Assumes nothing.
 use borrow.Author.Tests.{eq-eqb, le-leb, lt-leb, ne_eqb}
-use Rattle.rows.specs.Events.{word_on, quoted}
-use mathlib.Core.Path.{refl, sym, ap, ◌∙◌}
+use Rattle.rows.specs.Events.{word_on}
+use mathlib.Core.Path.{ap, ◌∙◌}
 use Rattle.writing.proofs.Picks.{yes, no}
 use Rattle.writing.specs.declared.Row.{Row}
 use Rattle.page.specs.Page.{form}
-use borrow.Author.Rules.{rules}
 use Rattle.rows.proofs.events.word.Goals as goal
 
 pub returns-then-n-eq0 : goal.returns-then-n-eq0

@@ -1,8 +1,7 @@
 -- The row and the word. Assumes nothing.
 use Rattle.rows.specs.Events.{word_on}
-use mathlib.Core.Path.{refl, sym, ap, ◌∙◌}
+use mathlib.Core.Path.{ap, ◌∙◌}
 use Rattle.writing.specs.declared.Row.{Row}
-use borrow.Author.Rules.{rules}
 use Rattle.rows.proofs.events.wrong.Goals as goal
 
 pub returns : goal.returns

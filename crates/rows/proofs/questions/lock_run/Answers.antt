@@ -1,9 +1,8 @@
 -- From the next group on. Assumes nothing.
-use Rattle.rows.specs.Questions.{run_end, lock_state}
+use Rattle.rows.specs.Questions.{run_end}
 use mathlib.Core.Path.{◌≡◌, ap, ◌∙◌}
 use Prim.Native.Nat.{ℕ, ◌+◌, ◌-◌, ◌%◌}
 use native.Mathlib.Omega.{arith}
-use borrow.Author.Rules.{rules}
 use Rattle.rows.proofs.questions.lock_run.Goals as goal
 
 pub returns : goal.returns

@@ -1,13 +1,12 @@
 -- The block of the group. Assumes nothing.
 use Rattle.rows.specs.Questions.{lock_state, locks}
-use mathlib.Core.Path.{refl, sym, ap, ◌∙◌}
-use Prim.Native.Nat.{ℕ, ◌+◌, ◌-◌, ◌*◌, ◌%◌}
+use mathlib.Core.Path.{ap, ◌∙◌}
+use Prim.Native.Nat.{◌*◌, ◌%◌}
 use Rattle.rules.specs.declared.Block.{Block}
 use Rattle.rules.specs.Blocks.{block_at, block_of}
 use Rattle.rules.proofs.Blocks.{block_placed, block_of_lt}
 use Rattle.rules.specs.Blocks.{block_at}
 use native.Mathlib.Omega.{arith}
-use borrow.Author.Rules.{rules}
 use Rattle.rows.proofs.questions.lock_state.Goals as goal
 
 pub block_at-requires : goal.block_at-requires

@@ -1,11 +1,7 @@
 -- Three bits. Assumes nothing.
 use Rattle.rows.specs.Questions.{locks}
-use mathlib.Core.Path.{refl, sym, ap, ◌∙◌}
-use Prim.Native.Nat.{ℕ, ◌+◌, ◌-◌, ◌*◌, ◌%◌}
-use mathlib.Core.Bool.{Bool, ◌&&◌}
-use Rattle.rules.specs.Words.{num}
+use mathlib.Core.Path.{refl}
 use native.Mathlib.Omega.{arith}
-use borrow.Author.Rules.{rules}
 use Rattle.rows.proofs.questions.locks.Goals as goal
 
 pub bit_at-requires : goal.bit_at-requires

@@ -1,12 +1,10 @@
 -- The places and the locks. Assumes nothing.
-use Rattle.rows.specs.Questions.{run_row}
-use mathlib.Core.Path.{refl, sym, ap, ◌∙◌}
+use mathlib.Core.Path.{ap, ◌∙◌}
 use Prim.Native.Nat.{ℕ, ◌+◌, ◌-◌, ◌*◌, min}
 use Rattle.writing.specs.declared.Row.{Row}
 use Rattle.page.specs.Page.{form}
 use Rattle.rows.specs.Events.{below}
 use native.Mathlib.Omega.{arith}
-use borrow.Author.Rules.{rules}
 use Rattle.rows.proofs.questions.run.Goals as goal
 
 pub overflow_mul-first : goal.overflow_mul-first

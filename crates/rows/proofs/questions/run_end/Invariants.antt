@@ -1,12 +1,7 @@
 -- The groups before h have the locks s. Assumes nothing.
-use Prim.Native.Nat.{ℕ, ◌≤◌, ◌<◌, ◌-◌, ◌+◌}
-use mathlib.Core.Path.{◌≡◌, refl, sym, ap, ◌∙◌}
-use borrow.Author.Tests.{eq-eqb, ne_eqb}
-use lib.Dec.{eqb}
-use Rattle.rows.specs.Questions.{lock_state, run_end}
-use Rattle.rows.proofs.Runs.{run_on, run_over, run_whole}
-use borrow.Author.Rules.{rules}
-use native.Mathlib.Omega.{arith}
+use Prim.Native.Nat.{◌≤◌, ◌-◌}
+use mathlib.Core.Path.{◌≡◌}
+use Rattle.rows.specs.Questions.{run_end}
 use Rattle.rows.proofs.questions.run_end.Given as goal
 
 abbrev pub invariant-loop-h : goal.invariant-loop-h

@@ -2,7 +2,6 @@
 use Rattle.script.specs.Lines.{taken, taken_into, advanced}
 use Rattle.grammar.proofs.Picks.{picked, passed_over}
 use mathlib.Core.Path.{◌∙◌}
-use borrow.Author.Rules.{rules}
 use Rattle.script.proofs.lines.advanced.Goals as goal
 
 pub returns-then-r-b : goal.returns-then-r-b

@@ -1,7 +1,6 @@
 -- The tests are the definition's. Assumes nothing.
 use Rattle.script.specs.Lines.{byte_after}
 use borrow.Author.Tests.{eq-eqb, ne_eqb}
-use borrow.Author.Rules.{rules}
 use Rattle.script.proofs.lines.byte_after.Goals as goal
 
 pub returns-then-store : goal.returns-then-store

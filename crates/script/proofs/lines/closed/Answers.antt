@@ -4,7 +4,6 @@ use Rattle.grammar.proofs.Picks.{picked, passed_over}
 use mathlib.Core.Path.{refl, ap, ◌∙◌}
 use mathlib.Core.Bool.{not, ◌&&◌}
 use lib.Dec.{eqb}
-use borrow.Author.Rules.{rules}
 use Rattle.script.proofs.lines.closed.Goals as goal
 
 pub returns-then-r : goal.returns-then-r

@@ -1,5 +1,4 @@
 -- The test picks the column. Assumes nothing.
-use borrow.Author.Rules.{rules}
 use Rattle.script.proofs.lines.column_at.Goals as goal
 
 pub returns-then-goes : goal.returns-then-goes

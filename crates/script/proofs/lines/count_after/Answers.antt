@@ -1,7 +1,6 @@
 -- Below the limit the sum, else the limit. Assumes nothing.
 use Rattle.script.specs.Lines.{count_after}
 use Rattle.script.proofs.Filled.{count_full}
-use borrow.Author.Rules.{rules}
 use native.Mathlib.Omega.{arith}
 use Rattle.script.proofs.lines.count_after.Goals as goal
 

@@ -1,5 +1,4 @@
 -- No word yet, and nothing said. Assumes nothing.
-use borrow.Author.Rules.{rules}
 use Rattle.script.proofs.lines.fresh.Goals as goal
 
 pub returns : goal.returns

@@ -1,7 +1,6 @@
 -- The tests are the definition's. Assumes nothing.
 use Rattle.script.specs.Lines.{kind_after}
 use borrow.Author.Tests.{eq-eqb, ne_eqb}
-use borrow.Author.Rules.{rules}
 use Rattle.script.proofs.lines.kind_after.Goals as goal
 
 pub returns-then-store-eq3 : goal.returns-then-store-eq3

@@ -1,6 +1,5 @@
 -- Field by field. Assumes nothing.
 use Rattle.script.specs.Lines.{line_of}
-use borrow.Author.Rules.{rules}
 use Rattle.script.proofs.lines.line_of.Goals as goal
 
 pub returns : goal.returns

@@ -1,7 +1,6 @@
 -- Forgotten, or counted. Assumes nothing.
 use Rattle.script.specs.Lines.{sent_after}
 use borrow.Author.Tests.{eq-eqb, ne_eqb}
-use borrow.Author.Rules.{rules}
 use Rattle.script.proofs.lines.sent_after.Goals as goal
 
 pub returns-then-store-eq7 : goal.returns-then-store-eq7

@@ -1,6 +1,5 @@
 -- A byte is stored exactly where there is room. Assumes nothing.
 use borrow.Author.Tests.{lt-ltb, le-ltb}
-use borrow.Author.Rules.{rules}
 use Rattle.script.proofs.lines.shown_with.Goals as goal
 
 pub returns-then-length-lt24 : goal.returns-then-length-lt24

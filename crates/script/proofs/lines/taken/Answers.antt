@@ -5,7 +5,6 @@ use mathlib.Core.Path.{◌∙◌}
 use mathlib.Core.Bool.{not, ◌&&◌}
 use lib.Dec.{eqb}
 use borrow.Author.Tests.{eq-eqb, ne_eqb}
-use borrow.Author.Rules.{rules}
 use Rattle.script.proofs.lines.taken.Goals as goal
 
 pub returns-then-b-named : goal.returns-then-b-named

@@ -1,5 +1,4 @@
 -- The tests are the definition's. Assumes nothing.
-use borrow.Author.Rules.{rules}
 use Rattle.script.proofs.lines.verb_at.Goals as goal
 
 pub returns-then-ends : goal.returns-then-ends

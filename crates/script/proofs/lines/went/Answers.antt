@@ -1,7 +1,6 @@
 -- Field by field. Assumes nothing.
 use Rattle.script.specs.Lines.{went}
 use borrow.Author.Tests.{eq-eqb, ne_eqb}
-use borrow.Author.Rules.{rules}
 use Rattle.script.proofs.lines.went.Goals as goal
 
 pub returns-then-e-eq255 : goal.returns-then-e-eq255

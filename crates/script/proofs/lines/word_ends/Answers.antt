@@ -3,7 +3,6 @@ use Rattle.script.specs.Lines.{word_ends}
 use Rattle.grammar.proofs.Picks.{picked, passed_over}
 use mathlib.Core.Path.{◌∙◌}
 use mathlib.Core.Bool.{◌||◌}
-use borrow.Author.Rules.{rules}
 use Rattle.script.proofs.lines.word_ends.Goals as goal
 
 pub returns-then-takes_name : goal.returns-then-takes_name

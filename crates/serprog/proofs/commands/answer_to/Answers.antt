@@ -3,7 +3,6 @@ use mathlib.Core.Path.{sym, ap, ◌∙◌}
 use Rattle.rules.specs.Words.{bit}
 use Rattle.serprog.specs.declared.Command.{Command}
 use Rattle.serprog.specs.Commands.{answer_of, answer_bytes}
-use borrow.Author.Rules.{rules}
 use Rattle.serprog.proofs.commands.answer_to.Goals as goal
 
 pub returns-in-Nothing : goal.returns-in-Nothing

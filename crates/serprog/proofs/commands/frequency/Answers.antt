@@ -4,7 +4,6 @@ use mathlib.Core.Bool.{Bool}
 use mathlib.Core.List.{[], ◌∷◌}
 use Rattle.rules.specs.Words.{pick}
 use Rattle.serprog.specs.Commands.{ack, nak, answer_of}
-use borrow.Author.Rules.{rules}
 use Rattle.serprog.proofs.commands.frequency.Goals as goal
 
 pub returns-then-a-b : goal.returns-then-a-b

@@ -1,7 +1,6 @@
 -- The bytes are stored over 33 zeros. Assumes nothing.
 use mathlib.Core.Path.{refl}
 use Rattle.serprog.specs.Commands.{answer_of, padded}
-use borrow.Author.Rules.{rules}
 use Rattle.serprog.proofs.commands.frequency_set.Goals as goal
 
 pub returns : goal.returns

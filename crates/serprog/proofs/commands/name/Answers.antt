@@ -1,7 +1,6 @@
 -- The name is stored over 33 zeros. Assumes nothing.
 use mathlib.Core.Path.{refl}
 use Rattle.serprog.specs.Commands.{answer_of, padded, name_bytes}
-use borrow.Author.Rules.{rules}
 use Rattle.serprog.proofs.commands.name.Goals as goal
 
 pub returns : goal.returns

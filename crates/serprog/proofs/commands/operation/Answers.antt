@@ -2,7 +2,6 @@
 use mathlib.Core.Path.{ap, ◌∙◌}
 use mathlib.Core.Bool.{Bool}
 use Rattle.serprog.specs.Commands.{fits, right_or_not, answer_of}
-use borrow.Author.Rules.{rules}
 use Rattle.serprog.proofs.commands.operation.Goals as goal
 
 pub returns : goal.returns

@@ -2,7 +2,6 @@
 use mathlib.Core.Path.{sym, ap, ◌∙◌}
 use mathlib.Core.Bool.{Bool}
 use Rattle.serprog.specs.Commands.{right_or_not, answer_of}
-use borrow.Author.Rules.{rules}
 use Rattle.serprog.proofs.commands.right_or_not.Goals as goal
 
 pub returns-then-right : goal.returns-then-right

@@ -3,7 +3,6 @@ use mathlib.Core.Path.{refl, sym, ap, ◌∙◌}
 use mathlib.Core.List.{[], ◌∷◌}
 use Rattle.serprog.specs.Commands.{rows, find, shape_of}
 use Rattle.serprog.proofs.Arms.{no_row}
-use borrow.Author.Rules.{rules}
 use Rattle.serprog.proofs.commands.shape_of.Goals as goal
 
 pub returns-in-0 : goal.returns-in-0

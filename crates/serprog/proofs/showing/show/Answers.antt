@@ -1,6 +1,5 @@
 -- The sibling's device bytes, or nothing. Assumes nothing.
-use Rattle.serprog.proofs.Laws.{shown_sibling, shown_same}
-use borrow.Author.Rules.{rules}
+use Rattle.serprog.proofs.Laws.{shown_same}
 use Rattle.serprog.proofs.showing.show.Goals as goal
 
 pub returns-else-is_disguised : goal.returns-else-is_disguised

@@ -1,9 +1,7 @@
-use Prim.Native.Nat.{◌≤◌, ◌-◌}
 use mathlib.Core.Path.{ap, ◌∙◌}
-use lib.ListN.{length, get_or}
+use lib.ListN.{get_or}
 use Rattle.serprog.specs.Showing.{sibling}
-use Rattle.serprog.proofs.Laws.{Upto, upto_none, upto_more, upto_all}
-use borrow.Author.Rules.{rules}
+use Rattle.serprog.proofs.Laws.{upto_none, upto_more, upto_all}
 use native.Mathlib.Omega.{arith}
 use Rattle.serprog.proofs.showing.to_sibling.Goals as goal
 

@@ -1,11 +1,8 @@
 -- One byte a turn; a byte that the loop has not reached is still the old one. Assumes nothing.
 use Prim.Native.Nat.{◌≤◌, ◌-◌}
-use mathlib.Core.Path.{ap, ◌∙◌}
 use lib.ListN.{length, get_or}
 use Rattle.serprog.specs.Showing.{sibling}
-use Rattle.serprog.proofs.Laws.{Upto, upto_none, upto_more, upto_all}
-use borrow.Author.Rules.{rules}
-use native.Mathlib.Omega.{arith}
+use Rattle.serprog.proofs.Laws.{Upto}
 use Rattle.serprog.proofs.showing.to_sibling.Given as goal
 
 abbrev pub invariant-loop-i : goal.invariant-loop-i

@@ -1,0 +1,6 @@
+-- The tally alone. Assumes nothing.
+use borrow.Author.Rules.{rules}
+use Rattle.asking.proofs.one_unmet.Goals as goal
+
+pub returns : goal.returns
+returns c = rw c.with_unmet-tally.ensures

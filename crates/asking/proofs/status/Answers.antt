@@ -1,0 +1,6 @@
+-- The two registers are compared. Assumes nothing.
+use borrow.Author.Rules.{rules}
+use Rattle.asking.proofs.status.Goals as goal
+
+pub returns : goal.returns
+returns c = rw (← c.status_of.ensures, ← c.configuration_of.ensures) c.compared_if.ensures

@@ -1,0 +1,7 @@
+-- Field by field. Assumes nothing.
+use native.Mathlib.Omega.{arith}
+use borrow.Author.Rules.{rules}
+use Rattle.calling.proofs.account_of.Goals as goal
+
+pub returns : goal.returns
+returns c = rw c.no_counts-counts.ensures

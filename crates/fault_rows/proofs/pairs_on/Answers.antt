@@ -1,0 +1,6 @@
+-- One behind the other. Assumes nothing.
+use borrow.Author.Rules.{rules}
+use Rattle.fault_rows.proofs.pairs_on.Goals as goal
+
+pub returns : goal.returns
+returns c = rw (← c.pair_on-q.ensures) c.pair_on.ensures

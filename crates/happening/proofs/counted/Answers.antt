@@ -1,0 +1,6 @@
+-- The tally, the chip and what came. Assumes nothing.
+use borrow.Author.Rules.{rules}
+use Rattle.happening.proofs.counted.Goals as goal
+
+pub returns : goal.returns
+returns c = rw (c.with_event-tally.ensures, c.unmet.ensures)

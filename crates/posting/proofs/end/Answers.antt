@@ -1,0 +1,6 @@
+-- Field by field. Assumes nothing.
+use borrow.Author.Rules.{rules}
+use Rattle.posting.proofs.end.Goals as goal
+
+pub returns : goal.returns
+returns c = rw (c.same-difference.ensures, c.no_fault-fault.ensures, c.judge-playing.ensures)

@@ -1,0 +1,6 @@
+-- Field by field. Assumes nothing.
+use borrow.Author.Rules.{rules}
+use Rattle.posting.proofs.nothing.Goals as goal
+
+pub returns : goal.returns
+returns c = rw (c.same-difference.ensures, c.no_fault-fault.ensures)
