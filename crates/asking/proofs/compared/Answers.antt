@@ -1,5 +1,4 @@
 -- By whether a place differs. Assumes nothing.
-use borrow.Author.Rules.{rules}
 use Rattle.asking.proofs.compared.Goals as goal
 
 pub returns-then-held-n : goal.returns-then-held-n

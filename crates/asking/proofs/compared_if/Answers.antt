@@ -1,5 +1,4 @@
 -- Where nothing is expected, nothing is compared. Assumes nothing.
-use borrow.Author.Rules.{rules}
 use Rattle.asking.proofs.compared_if.Goals as goal
 
 pub returns-then-silent : goal.returns-then-silent

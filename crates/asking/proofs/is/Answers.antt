@@ -1,5 +1,4 @@
 -- By whether the record is the same. Assumes nothing.
-use borrow.Author.Rules.{rules}
 use Rattle.asking.proofs.is.Goals as goal
 
 pub returns-then-same_record : goal.returns-then-same_record

@@ -1,5 +1,4 @@
 -- The tally alone. Assumes nothing.
-use borrow.Author.Rules.{rules}
 use Rattle.asking.proofs.one_unmet.Goals as goal
 
 pub returns : goal.returns

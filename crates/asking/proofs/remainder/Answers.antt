@@ -1,6 +1,5 @@
 -- Of 0 it is 0. Assumes nothing.
 use borrow.Author.Tests.{eq-eqb, ne_eqb}
-use borrow.Author.Rules.{rules}
 use Rattle.asking.proofs.remainder.Goals as goal
 
 pub returns-then-n-eq0 : goal.returns-then-n-eq0

@@ -1,5 +1,4 @@
 -- The two registers are compared. Assumes nothing.
-use borrow.Author.Rules.{rules}
 use Rattle.asking.proofs.status.Goals as goal
 
 pub returns : goal.returns

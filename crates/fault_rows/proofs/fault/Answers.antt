@@ -1,5 +1,4 @@
 -- By what is wrong. Assumes nothing.
-use borrow.Author.Rules.{rules}
 use Rattle.fault_rows.proofs.fault.Goals as goal
 
 pub returns-in-Nothing : goal.returns-in-Nothing

@@ -1,7 +1,6 @@
 -- By the sort of file and its length. Assumes nothing.
 use borrow.Author.Tests.{lt-ltb, le-ltb}
 use Rattle.fault_rows.specs.Faults.{length_row}
-use borrow.Author.Rules.{rules}
 use Rattle.fault_rows.proofs.length.Goals as goal
 
 pub returns-then-n-gt2097152 : goal.returns-then-n-gt2097152

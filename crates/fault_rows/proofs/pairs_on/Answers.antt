@@ -1,5 +1,4 @@
 -- One behind the other. Assumes nothing.
-use borrow.Author.Rules.{rules}
 use Rattle.fault_rows.proofs.pairs_on.Goals as goal
 
 pub returns : goal.returns

@@ -1,7 +1,6 @@
 -- RG, SI, or a page. Assumes nothing.
 use borrow.Author.Tests.{eq-eqb, ne_eqb}
 use Rattle.fault_rows.specs.Faults.{record_row}
-use borrow.Author.Rules.{rules}
 use Rattle.fault_rows.proofs.record_row.Goals as goal
 
 pub returns-then-at-eq0 : goal.returns-then-at-eq0

@@ -1,7 +1,6 @@
 -- By the memory. Assumes nothing.
 use borrow.Author.Tests.{eq-eqb, ne_eqb}
 use Rattle.tear_rows.specs.Tears.{byte_row}
-use borrow.Author.Rules.{rules}
 use Rattle.tear_rows.proofs.byte_row.Goals as goal
 
 pub returns-then-t-eq0 : goal.returns-then-t-eq0

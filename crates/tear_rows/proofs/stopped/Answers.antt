@@ -5,7 +5,6 @@ use lib.Dec.{eqb}
 use Rattle.writing.specs.declared.Row.{Row}
 use Rattle.describing.specs.Works.{told, work, cut_after}
 use Rattle.tear_rows.specs.Tears.{stopped_row}
-use borrow.Author.Rules.{rules}
 use Rattle.tear_rows.proofs.stopped.Goals as goal
 
 pub returns-then-verb-stops : goal.returns-then-verb-stops

@@ -1,6 +1,5 @@
 -- Each test is the definition's. Assumes nothing.
 use Rattle.tear_rows.specs.Tears.{stops}
-use borrow.Author.Rules.{rules}
 use Rattle.tear_rows.proofs.stops.Goals as goal
 
 pub returns : goal.returns

@@ -1,9 +1,8 @@
 -- What was torn, or what is not used. Assumes nothing.
 use mathlib.Core.Path.{sym, ◌∙◌}
-use borrow.Author.Tests.{eq-eqb, ne_eqb, not-true, not-false}
+use borrow.Author.Tests.{eq-eqb, ne_eqb}
 use Rattle.describing.proofs.Tellings.{told_inside}
 use Rattle.tear_rows.specs.Tears.{torn_row}
-use borrow.Author.Rules.{rules}
 use Rattle.tear_rows.proofs.torn.Goals as goal
 
 pub returns-then-not-stops : goal.returns-then-not-stops

@@ -1,7 +1,6 @@
 -- By whether there is a byte k. Assumes nothing.
 use borrow.Author.Tests.{lt-ltb, le-ltb}
 use Rattle.tear_rows.specs.Tears.{torn_of}
-use borrow.Author.Rules.{rules}
 use Rattle.tear_rows.proofs.torn_of.Goals as goal
 
 pub returns-then-k-t : goal.returns-then-k-t

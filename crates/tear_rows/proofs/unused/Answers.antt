@@ -1,6 +1,5 @@
 -- The tests in their order. Assumes nothing.
 use Rattle.tear_rows.specs.Tears.{unused}
-use borrow.Author.Rules.{rules}
 use Rattle.tear_rows.proofs.unused.Goals as goal
 
 pub returns-then-verb-k : goal.returns-then-verb-k

@@ -1,0 +1,7 @@
+-- Of the read. Assumes nothing.
+use native.Mathlib.Omega.{arith}
+use borrow.Author.Rules.{rules}
+use Rattle.station_rows.proofs.whys.counted.Goals as goal
+
+pub returns : goal.returns
+returns c = rw (← c.counted.ensures) c.counts_row.ensures
