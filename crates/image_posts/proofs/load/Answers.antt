@@ -2,7 +2,6 @@
 use mathlib.Core.Path.{sym}
 use lib.Seq.{length_front, length-take-le}
 use native.Mathlib.Omega.{arith}
-use borrow.Author.Rules.{rules}
 use Rattle.image_posts.proofs.load.Goals as goal
 
 pub slice_bounds-read-end-2 : goal.slice_bounds-read-end-2

@@ -2,7 +2,6 @@
 use mathlib.Core.Path.{sym}
 use lib.Seq.{length-take-le}
 use native.Mathlib.Omega.{arith}
-use borrow.Author.Rules.{rules}
 use Rattle.image_posts.proofs.save.Goals as goal
 
 pub slice_bounds-write-end : goal.slice_bounds-write-end

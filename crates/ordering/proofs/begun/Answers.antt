@@ -1,5 +1,4 @@
 -- By whether the line has ended. Assumes nothing.
-use Rattle.std.proofs.Common.{rules}
 use Rattle.ordering.proofs.begun.Goals as goal
 
 pub returns-then-reading : goal.returns-then-reading

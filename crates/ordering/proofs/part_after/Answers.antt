@@ -1,5 +1,4 @@
 -- Part by part. Assumes nothing.
-use Rattle.std.proofs.Common.{rules}
 use Rattle.ordering.proofs.part_after.Goals as goal
 
 pub returns-in-Remark : goal.returns-in-Remark

@@ -1,5 +1,5 @@
 -- One more where the last is not full. Assumes nothing.
-use Rattle.std.proofs.Common.{rules, eq-eqb, ne_eqb}
+use Rattle.std.proofs.Common.{eq-eqb, ne_eqb}
 use Rattle.ordering.specs.Order.{remark_rows}
 use Rattle.ordering.proofs.remark_rows.Goals as goal
 

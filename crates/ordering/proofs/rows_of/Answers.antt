@@ -1,5 +1,4 @@
 -- Part by part. Assumes nothing.
-use Rattle.std.proofs.Common.{rules}
 use Rattle.ordering.proofs.rows_of.Goals as goal
 
 pub returns-in-Remark : goal.returns-in-Remark

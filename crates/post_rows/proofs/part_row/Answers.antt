@@ -1,5 +1,4 @@
 -- By the part. Assumes nothing.
-use borrow.Author.Rules.{rules}
 use Rattle.post_rows.proofs.part_row.Goals as goal
 
 pub returns-in-Remark : goal.returns-in-Remark

@@ -2,7 +2,6 @@
 use mathlib.Core.Path.{sym}
 use lib.Seq.{length-take-le}
 use native.Mathlib.Omega.{arith}
-use borrow.Author.Rules.{rules}
 use Rattle.posting.proofs.compare_raw.Goals as goal
 
 pub slice_bounds-part-end : goal.slice_bounds-part-end

@@ -1,6 +1,5 @@
 -- Field by field. Assumes nothing.
 use Rattle.posting.specs.Posts.{judged}
-use borrow.Author.Rules.{rules}
 use Rattle.posting.proofs.judge.Goals as goal
 
 pub returns : goal.returns

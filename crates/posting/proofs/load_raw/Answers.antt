@@ -2,7 +2,6 @@
 use mathlib.Core.Path.{sym}
 use lib.Seq.{length-take-le}
 use native.Mathlib.Omega.{arith}
-use borrow.Author.Rules.{rules}
 use Rattle.posting.proofs.load_raw.Goals as goal
 
 pub slice_bounds-load-end-2 : goal.slice_bounds-load-end-2

@@ -1,7 +1,6 @@
 -- The bytes at the place, where one differs. Assumes nothing.
 use borrow.Author.Tests.{le-ltb, lt-ltb}
 use Rattle.reasons.specs.Reasons.{came_row}
-use borrow.Author.Rules.{rules}
 use Rattle.reasons.proofs.came.Goals as goal
 
 pub returns-then-place-compared : goal.returns-then-place-compared

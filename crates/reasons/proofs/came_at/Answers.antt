@@ -1,6 +1,5 @@
 -- The form, the byte that came and the one expected. Assumes nothing.
 use Rattle.reasons.specs.Reasons.{came_at}
-use borrow.Author.Rules.{rules}
 use Rattle.reasons.proofs.came_at.Goals as goal
 
 pub returns : goal.returns

@@ -1,7 +1,6 @@
 -- From the place on, where one differs. Assumes nothing.
 use borrow.Author.Tests.{le-ltb, lt-ltb}
 use Rattle.reasons.specs.Reasons.{expected_from}
-use borrow.Author.Rules.{rules}
 use Rattle.reasons.proofs.expected.Goals as goal
 
 pub returns-then-place-compared : goal.returns-then-place-compared

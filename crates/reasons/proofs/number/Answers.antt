@@ -1,6 +1,5 @@
 -- Of a refusal its line. Assumes nothing.
 use Rattle.reasons.specs.Reasons.{number_row}
-use borrow.Author.Rules.{rules}
 use Rattle.reasons.proofs.number.Goals as goal
 
 pub returns-then-is_refused : goal.returns-then-is_refused

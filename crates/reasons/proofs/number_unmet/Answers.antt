@@ -1,7 +1,6 @@
 -- Done is expected, or a number. Assumes nothing.
 use borrow.Author.Tests.{eq-eqb, ne_eqb}
 use Rattle.reasons.specs.Reasons.{number_unmet}
-use borrow.Author.Rules.{rules}
 use Rattle.reasons.proofs.number_unmet.Goals as goal
 
 pub returns-then-number-eq0 : goal.returns-then-number-eq0

@@ -1,6 +1,5 @@
 -- The four rows in their order. Assumes nothing.
 use Rattle.reasons.specs.Reasons.{unmet_row}
-use borrow.Author.Rules.{rules}
 use Rattle.reasons.proofs.unmet.Goals as goal
 
 pub returns-then-i-v : goal.returns-then-i-v

@@ -1,7 +1,6 @@
 -- Of a refusal which length, which sentence, or what holds. Assumes nothing.
 use borrow.Author.Tests.{eq-eqb, ne_eqb}
 use Rattle.reasons.specs.Reasons.{why_row}
-use borrow.Author.Rules.{rules}
 use Rattle.reasons.proofs.why.Goals as goal
 
 pub returns-then-number-eq1 : goal.returns-then-number-eq1

@@ -1,5 +1,4 @@
 -- Each number is written behind those before it, up to the end; no work is 0 in its four places. Assumes nothing.
--- two numbers and two kinds that are 0
 use Prim.Native.Nat.{ℕ}
 use mathlib.Core.Path.{◌≡◌, refl, sym, ◌∙◌}
 use mathlib.Core.List.{List, ◌++◌, append_assoc}
@@ -13,6 +12,7 @@ use Rattle.record_code.specs.Layout.{bytes, rest_code}
 use native.Mathlib.Omega.{arith}
 use Rattle.record_code.proofs.put_idle.Goals as goal
 
+-- two numbers and two kinds that are 0
 no-work : bytes 18 0 ≡ bytes 8 0 ++ bytes 8 0 ++ bytes 1 0 ++ bytes 1 0
 unfolding bytes
 no-work = refl

@@ -1,6 +1,4 @@
 -- Each number is written behind those before it, so that all of them in a row are the record's; the reserved bytes stay. Assumes nothing.
--- the record's numbers, each behind what is there
--- what stands alike from a place on stands alike from a later one on
 use Prim.Native.Nat.{ℕ, ◌+◌}
 use mathlib.Core.Path.{◌≡◌, sym, ap, ◌∙◌}
 use mathlib.Core.List.{List, ◌++◌, append_assoc}
@@ -14,6 +12,7 @@ use Rattle.record_code.specs.Layout.{bytes, rest_code}
 use native.Mathlib.Omega.{arith}
 use Rattle.record_code.proofs.put_rest.Goals as goal
 
+-- the record's numbers, each behind what is there
 rest_put : (r : Rest) (t : List ℕ) {t₁ t₂ t₃ t₄ t₅ t₆ t₇ t₈ : List ℕ} {n₁ n₂ k₁ k₂ f b : ℕ}
     → t₁ ≡ t ++ bytes 8 r.locks.protection → t₂ ≡ t₁ ++ bytes 8 r.locks.permanent → t₃ ≡ t₂ ++ bytes 8 n₁ → t₄ ≡ t₃ ++ bytes 8 n₂
     → t₅ ≡ t₄ ++ bytes 1 k₁ → t₆ ≡ t₅ ++ bytes 1 k₂ → t₇ ≡ t₆ ++ bytes 1 f → t₈ ≡ t₇ ++ bytes 1 b
@@ -22,6 +21,7 @@ rest_put : (r : Rest) (t : List ℕ) {t₁ t₂ t₃ t₄ t₅ t₆ t₇ t₈ : 
 unfolding rest_code
 rest_put r t p₁ p₂ p₃ p₄ p₅ p₆ p₇ p₈ en₁ en₂ ek₁ ek₂ ef eb = rw (p₈, p₇, p₆, p₅, p₄, p₃, p₂, p₁, en₁, en₂, ek₁, ek₂, ef, eb) (simp append_assoc)
 
+-- what stands alike from a place on stands alike from a later one on
 further : (m n : ℕ) (l k : List ℕ) → drop m l ≡ drop m k → drop (m + n) l ≡ drop (m + n) k
 further m n l k e = sym (drop-drop n m l) ∙ ap (drop n) e ∙ drop-drop n m k
 

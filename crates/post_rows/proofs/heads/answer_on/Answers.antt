@@ -1,7 +1,6 @@
 -- What the system said, what was done, or the number. Assumes nothing.
 use borrow.Author.Tests.{eq-eqb, ne_eqb}
 use Rattle.post_rows.specs.Posts.{answer_on}
-use borrow.Author.Rules.{rules}
 use Rattle.post_rows.proofs.heads.answer_on.Goals as goal
 
 pub returns-then-is_troubled : goal.returns-then-is_troubled

@@ -1,7 +1,6 @@
 -- By the count. Assumes nothing.
 use borrow.Author.Tests.{eq-eqb, ne_eqb}
 use Rattle.post_rows.specs.Posts.{compared_on}
-use borrow.Author.Rules.{rules}
 use Rattle.post_rows.proofs.heads.compared_on.Goals as goal
 
 pub returns-then-count-eq0 : goal.returns-then-count-eq0

@@ -1,5 +1,4 @@
 -- By what was done. Assumes nothing.
-use borrow.Author.Rules.{rules}
 use Rattle.post_rows.proofs.heads.done_on.Goals as goal
 
 pub returns-in-Save : goal.returns-in-Save

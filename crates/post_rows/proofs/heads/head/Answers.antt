@@ -1,6 +1,5 @@
 -- With the answer, where there is room. Assumes nothing.
 use Rattle.post_rows.specs.Posts.{head_row}
-use borrow.Author.Rules.{rules}
 use Rattle.post_rows.proofs.heads.head.Goals as goal
 
 pub returns-then-fits : goal.returns-then-fits

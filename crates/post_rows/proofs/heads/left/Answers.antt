@@ -1,6 +1,5 @@
 -- The words, then the name. Assumes nothing.
 use Rattle.post_rows.specs.Posts.{left_row}
-use borrow.Author.Rules.{rules}
 use Rattle.post_rows.proofs.heads.left.Goals as goal
 
 pub returns : goal.returns

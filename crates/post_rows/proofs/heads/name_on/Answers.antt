@@ -1,7 +1,6 @@
 -- All of the name, or its first bytes. Assumes nothing.
 use borrow.Author.Tests.{le-leb, lt-leb}
 use Rattle.post_rows.specs.Posts.{name_on}
-use borrow.Author.Rules.{rules}
 use Rattle.post_rows.proofs.heads.name_on.Goals as goal
 
 pub returns-then-name-le54 : goal.returns-then-name-le54

@@ -1,6 +1,5 @@
 -- The answer, where there was no room. Assumes nothing.
 use Rattle.post_rows.specs.Posts.{second_row}
-use borrow.Author.Rules.{rules}
 use Rattle.post_rows.proofs.heads.second.Goals as goal
 
 pub returns-then-fits : goal.returns-then-fits

@@ -1,6 +1,5 @@
 -- What runs, or what is suspended. Assumes nothing.
 use Rattle.post_rows.specs.Posts.{work_row}
-use borrow.Author.Rules.{rules}
 use Rattle.post_rows.proofs.whys.at_work.Goals as goal
 
 pub returns-then-is_nothing : goal.returns-then-is_nothing

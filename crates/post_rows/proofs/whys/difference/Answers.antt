@@ -1,7 +1,6 @@
 -- By the count. Assumes nothing.
 use borrow.Author.Tests.{eq-eqb, ne_eqb}
 use Rattle.post_rows.specs.Posts.{difference_row}
-use borrow.Author.Rules.{rules}
 use Rattle.post_rows.proofs.whys.difference.Goals as goal
 
 pub returns-then-d-eq0 : goal.returns-then-d-eq0

@@ -3,7 +3,6 @@ use Rattle.grammar.proofs.Picks.{picked, passed_over}
 use mathlib.Core.Path.{◌∙◌}
 use mathlib.Core.Bool.{◌||◌}
 use Rattle.post_rows.specs.Posts.{malformed_row}
-use borrow.Author.Rules.{rules}
 use Rattle.post_rows.proofs.whys.malformed.Goals as goal
 
 pub returns-then-saves-lent_short : goal.returns-then-saves-lent_short

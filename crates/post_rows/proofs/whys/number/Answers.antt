@@ -1,6 +1,5 @@
 -- Where a number came. Assumes nothing.
 use Rattle.post_rows.specs.Posts.{number_row}
-use borrow.Author.Rules.{rules}
 use Rattle.post_rows.proofs.whys.number.Goals as goal
 
 pub returns-then-is_troubled-number : goal.returns-then-is_troubled-number

@@ -1,7 +1,6 @@
 -- By the number. Assumes nothing.
 use borrow.Author.Tests.{ne_eqb}
 use Rattle.post_rows.specs.Posts.{number_form}
-use borrow.Author.Rules.{rules}
 use Rattle.post_rows.proofs.whys.number_form.Goals as goal
 
 pub returns-in-15 : goal.returns-in-15

@@ -1,7 +1,6 @@
 -- By the number. Assumes nothing.
 use borrow.Author.Tests.{ne_eqb}
 use Rattle.post_rows.specs.Posts.{why_row}
-use borrow.Author.Rules.{rules}
 use Rattle.post_rows.proofs.whys.why.Goals as goal
 
 pub returns-then-is_troubled : goal.returns-then-is_troubled
