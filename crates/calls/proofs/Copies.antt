@@ -1,21 +1,21 @@
 -- The read of a copy of the record leaves the memories as they are; the data of a line. Assumes nothing.
-use Prim.Native.Nat.{ℕ, ◌≤◌, min}
+use Prim.Native.Nat.{ℕ, min}
 use mathlib.Core.Path.{◌≡◌, refl, sym, ap, subst, ◌∙◌}
 use mathlib.Core.Bool.{Bool, true, false, ◌&&◌}
-use mathlib.Core.List.{List, ◌++◌}
+use mathlib.Core.List.{List}
 use native.Mathlib.Omega.{arith}
 use lib.Dec.{eqb, leb}
-use lib.ListN.{length, take, drop, replicate, take-append-drop}
+use lib.ListN.{length, replicate, take-append-drop}
 use Rattle.rules.specs.declared.After.{After}
-use Rattle.rules.specs.Words.{pick, Lent, lent}
-use Rattle.rules.specs.Numbers.{State, answer_number}
+use Rattle.rules.specs.Words.{Lent, lent}
+use Rattle.rules.specs.Numbers.{answer_number}
 use Rattle.rules.specs.Registers.{busy}
 use Rattle.rules.specs.Machine.{Outcome}
 use Rattle.rules.proofs.Promises.{lent_one}
 use Rattle.rules.proofs.Tears.{frames_leave}
 use Rattle.meanings.specs.Meanings.{over}
 use Rattle.grammar.specs.Slots as slots
-use Rattle.fields.specs.Records.{slot, said}
+use Rattle.fields.specs.Records.{said}
 use Rattle.script.specs.declared.Line.{Line}
 use Rattle.standing.specs.declared.Bench.{Bench}
 use Rattle.standing.specs.declared.Event.{Event}

@@ -1,8 +1,7 @@
 -- The store's promises, with the parts that were lent to it, are the bench's. Assumes nothing.
-use Prim.Native.Nat.{ℕ, ◌≤◌, min}
-use mathlib.Core.Path.{◌≡◌, refl, sym, ap, subst, ◌∙◌}
+use Prim.Native.Nat.{ℕ, min}
+use mathlib.Core.Path.{◌≡◌, subst}
 use mathlib.Core.List.{List, ◌++◌}
-use native.Mathlib.Omega.{arith}
 use lib.ListN.{length, take, drop}
 use Rattle.stations.specs.declared.StoreRecord.{StoreRecord}
 use Rattle.stations.specs.Promises.{Desk, desk_of, StorePromise, LookupPromise}

@@ -1,6 +1,5 @@
 -- The calls: store and lookup on what the bench lends, and the one read on a copy of its record.
 use Rattle.std.specs.Prelude.{ℕ, min, ◌≡◌, List, [], ◌∷◌, ◌++◌, length, drop, set, replicate}
-use Rattle.rules.specs.declared.Chip.{Chip}
 use Rattle.rules.specs.Words.{lent}
 use Rattle.stations.specs.declared.StoreRecord.{StoreRecord}
 use Rattle.stations.specs.Calls.{list_size}

@@ -1,5 +1,4 @@
 -- The tally, the chip and what came. Assumes nothing.
-use borrow.Author.Rules.{rules}
 use Rattle.happening.proofs.counted.Goals as goal
 
 pub returns : goal.returns

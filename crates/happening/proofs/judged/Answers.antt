@@ -1,7 +1,6 @@
 -- The parts that were lent are judged. Assumes nothing.
 use mathlib.Core.Path.{sym}
 use lib.Seq.{length-take-le}
-use borrow.Author.Rules.{rules}
 use native.Mathlib.Omega.{arith}
 use Rattle.happening.proofs.judged.Goals as goal
 

@@ -1,5 +1,4 @@
 -- What happened, judged and counted. Assumes nothing.
-use borrow.Author.Rules.{rules}
 use Rattle.happening.proofs.played.Goals as goal
 
 pub shape_of-array : goal.shape_of-array

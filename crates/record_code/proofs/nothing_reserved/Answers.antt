@@ -11,8 +11,9 @@ use Rattle.rules.proofs.Bools.{and_split, and_both, same_test}
 use Rattle.record_code.specs.Layout.{number_at}
 use Rattle.record_code.proofs.nothing_reserved.Goals as goal
 
-zero-both : (x b n : ℕ) → (eqb (bit_or x b) 0 && eqb n 0) ≡ (eqb x 0 && eqb (b + 256 * n) 0)
-zero-both x b n = same_test _ _ there back
+-- bits x, and a number whose lowest byte is b
+zero_both : (x b n : ℕ) → (eqb (bit_or x b) 0 && eqb n 0) ≡ (eqb x 0 && eqb (b + 256 * n) 0)
+zero_both x b n = same_test _ _ there back
   where
     there : (eqb (bit_or x b) 0 && eqb n 0) ≡ true → (eqb x 0 && eqb (b + 256 * n) 0) ≡ true
     there e =
@@ -28,11 +29,12 @@ zero-both x b n = same_test _ _ there back
         let s = or_add_and x b in
         and_both (eq-eqb (bit_or x b) 0 (omega (arith, eqb-true))) (eq-eqb n 0 (omega (arith, eqb-true)))
 
-zeros-next : (l : List ℕ) (i x : ℕ) → i < 320
+-- one more byte, and what is left
+zeros_next : (l : List ℕ) (i x : ℕ) → i < 320
     → (eqb (bit_or x (get_or l i 0)) 0 && eqb (number_at l (i + 1) (320 - (i + 1))) 0) ≡ (eqb x 0 && eqb (number_at l i (320 - i)) 0)
-zeros-next l i x h =
+zeros_next l i x h =
     let k : 320 - i ≡ suc (320 - (i + 1)) = omega arith in
-    rw k (zero-both x (get_or l i 0) (number_at l (i + 1) (320 - (i + 1))))
+    rw k (zero_both x (get_or l i 0) (number_at l (i + 1) (320 - (i + 1))))
 
 pub loop-i-init : goal.loop-i-init
 loop-i-init c = record { low = omega arith; size = c.requires; is = refl }
@@ -40,7 +42,7 @@ loop-i-init c = record { low = omega arith; size = c.requires; is = refl }
 pub loop-i-preserved : goal.loop-i-preserved
 loop-i-preserved c = let l = c.loop-i in
     let a = c.args in
-    record { low = omega arith; size = l.invariant.size; is = zeros-next a.coded.now l.i l.other (omega arith) ∙ l.invariant.is }
+    record { low = omega arith; size = l.invariant.size; is = zeros_next a.coded.now l.i l.other (omega arith) ∙ l.invariant.is }
 
 pub returns : goal.returns
 returns c = let l = c.loop-i in

@@ -1,6 +1,4 @@
 -- The bits of the bytes so far are none, and the number of those that are left is 0, exactly where the whole number is 0. Assumes nothing.
--- bits x, and a number whose lowest byte is b
--- one more byte, and what is left
 use Prim.Native.Nat.{◌-◌, ◌≤◌}
 use mathlib.Core.Path.{◌≡◌}
 use mathlib.Core.Bool.{◌&&◌}

@@ -13,16 +13,16 @@ use native.Mathlib.Omega.{arith}
 use Rattle.record_code.proofs.put_idle.Goals as goal
 
 -- two numbers and two kinds that are 0
-no-work : bytes 18 0 ≡ bytes 8 0 ++ bytes 8 0 ++ bytes 1 0 ++ bytes 1 0
+no_work : bytes 18 0 ≡ bytes 8 0 ++ bytes 8 0 ++ bytes 1 0 ++ bytes 1 0
 unfolding bytes
-no-work = refl
+no_work = refl
 
 rest_put : (r : Rest) (t : List ℕ) {t₁ t₂ t₃ t₄ t₅ t₆ : List ℕ} {f b : ℕ}
     → t₁ ≡ t ++ bytes 8 r.locks.protection → t₂ ≡ t₁ ++ bytes 8 r.locks.permanent → t₃ ≡ t₂ ++ bytes 18 0
     → t₄ ≡ t₃ ++ bytes 1 f → t₅ ≡ t₄ ++ bytes 1 b → t₆ ≡ t₅ ++ bytes 28 0
     → f ≡ flags_number r.flags → b ≡ burst_byte r.burst → t₆ ≡ t ++ rest_code (rest_of r.locks (works_of Nothing Nothing) r.flags r.burst)
 unfolding rest_code
-rest_put r t p₁ p₂ p₃ p₄ p₅ p₆ ef eb = rw (p₆, p₅, p₄, p₃, p₂, p₁, ef, eb, no-work) (simp append_assoc)
+rest_put r t p₁ p₂ p₃ p₄ p₅ p₆ ef eb = rw (p₆, p₅, p₄, p₃, p₂, p₁, ef, eb, no_work) (simp append_assoc)
 
 pub flags_number-flags-requires : goal.flags_number-flags-requires
 flags_number-flags-requires c = tt

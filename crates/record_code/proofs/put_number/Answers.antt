@@ -7,6 +7,7 @@ use Rattle.record_code.specs.Layout.{bytes}
 use native.Mathlib.Omega.{arith}
 use Rattle.record_code.proofs.put_number.Goals as goal
 
+-- one more byte of the number, and what is left of it
 put_next : (l : List ℕ) (at n i x : ℕ) → at + i < length l → i < n
     → take (at + (i + 1)) (set l (at + i) (x % 256)) ++ bytes (n - (i + 1)) (x / 256) ≡ take (at + i) l ++ bytes (n - i) x
 unfolding bytes

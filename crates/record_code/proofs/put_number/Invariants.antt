@@ -1,6 +1,5 @@
 -- What is written so far, and the bytes of what is left of the number, are the bytes before and the whole number; what stands behind stays. Assumes
 -- nothing.
--- one more byte of the number, and what is left of it
 use Prim.Native.Nat.{◌+◌, ◌-◌, ◌≤◌}
 use mathlib.Core.Path.{◌≡◌}
 use mathlib.Core.List.{◌++◌}

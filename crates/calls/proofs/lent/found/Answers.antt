@@ -3,7 +3,6 @@ use mathlib.Core.Path.{sym}
 use lib.Seq.{length-take-le}
 use Rattle.calls.proofs.Desks.{found_is}
 use native.Mathlib.Omega.{arith}
-use borrow.Author.Rules.{rules}
 use Rattle.calls.proofs.lent.found.Goals as goal
 
 pub slice_bounds-lookup-end-2 : goal.slice_bounds-lookup-end-2

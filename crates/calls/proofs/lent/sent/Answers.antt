@@ -1,7 +1,5 @@
 -- A word is filled up, other data are sent as they are. Assumes nothing.
 use Rattle.calls.proofs.Copies.{data_text, data_plain}
-use native.Mathlib.Omega.{arith}
-use borrow.Author.Rules.{rules}
 use Rattle.calls.proofs.lent.sent.Goals as goal
 
 pub returns-then-slots-bytes : goal.returns-then-slots-bytes

@@ -1,7 +1,5 @@
 -- The event of the line that reads the list. Assumes nothing.
 use Rattle.calls.proofs.Copies.{shown_is}
-use native.Mathlib.Omega.{arith}
-use borrow.Author.Rules.{rules}
 use Rattle.calls.proofs.lent.shown.Goals as goal
 
 pub returns : goal.returns

@@ -3,7 +3,6 @@ use mathlib.Core.Path.{sym}
 use lib.Seq.{length-take-le}
 use Rattle.calls.proofs.Desks.{stored_is}
 use native.Mathlib.Omega.{arith}
-use borrow.Author.Rules.{rules}
 use Rattle.calls.proofs.lent.stored.Goals as goal
 
 pub slice_bounds-store-end-2 : goal.slice_bounds-store-end-2

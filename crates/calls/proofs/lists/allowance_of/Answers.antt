@@ -1,8 +1,6 @@
 -- By whether polls stands. Assumes nothing.
 use borrow.Author.Tests.{eq-eqb, ne_eqb}
 use Rattle.calls.specs.Lists.{allowance_of}
-use native.Mathlib.Omega.{arith}
-use borrow.Author.Rules.{rules}
 use Rattle.calls.proofs.lists.allowance_of.Goals as goal
 
 pub returns-then-slots-eq0 : goal.returns-then-slots-eq0

@@ -1,7 +1,6 @@
 -- Inside the slice it is the byte there; past its end a list gives the default. Assumes nothing.
 use mathlib.Core.Path.{sym}
 use lib.ListN.{get_or-eq_default}
-use native.Mathlib.Omega.{arith}
 use borrow.Author.Rules.{rules}
 use Rattle.calls.proofs.lists.at.Goals as goal
 

@@ -1,7 +1,5 @@
 -- Its two bytes, or 1. Assumes nothing.
 use Rattle.calls.specs.Lists.{entry_at}
-use native.Mathlib.Omega.{arith}
-use borrow.Author.Rules.{rules}
 use Rattle.calls.proofs.lists.entry_at.Goals as goal
 
 pub returns-then-given : goal.returns-then-given

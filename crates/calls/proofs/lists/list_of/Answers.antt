@@ -1,9 +1,7 @@
-use Prim.Native.Nat.{ℕ, ◌≤◌, ◌<◌, ◌-◌}
 use mathlib.Core.Path.{◌≡◌, refl, ◌∙◌}
-use lib.ListN.{length, get_or, length-set}
-use Rattle.calls.specs.Lists.{entry_at, list_of}
+use lib.ListN.{length-set}
+use Rattle.calls.specs.Lists.{list_of}
 use Rattle.calls.proofs.Entries.{entries_are, entry_next}
-use borrow.Author.Rules.{rules}
 use native.Mathlib.Omega.{arith}
 use Rattle.calls.proofs.lists.list_of.Goals as goal
 

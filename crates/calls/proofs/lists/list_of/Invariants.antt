@@ -1,11 +1,8 @@
 -- The first j entries are as the line says. Assumes nothing.
 use Prim.Native.Nat.{ℕ, ◌≤◌, ◌<◌, ◌-◌}
-use mathlib.Core.Path.{◌≡◌, refl, ◌∙◌}
-use lib.ListN.{length, get_or, length-set}
-use Rattle.calls.specs.Lists.{entry_at, list_of}
-use Rattle.calls.proofs.Entries.{entries_are, entry_next}
-use borrow.Author.Rules.{rules}
-use native.Mathlib.Omega.{arith}
+use mathlib.Core.Path.{◌≡◌}
+use lib.ListN.{length, get_or}
+use Rattle.calls.specs.Lists.{entry_at}
 use Rattle.calls.proofs.lists.list_of.Given as goal
 
 abbrev pub invariant-loop-j : goal.invariant-loop-j

@@ -1,13 +1,8 @@
-use Prim.Native.Nat.{◌≤◌, ◌-◌}
 use mathlib.Core.Path.{◌≡◌, refl, sym, ◌∙◌}
-use mathlib.Core.Bool.{not}
 use lib.ListN.{get_or}
-use Rattle.stations.specs.Slots.{first_from}
-use Rattle.stations.specs.Given.{in_time}
 use Rattle.stations.proofs.Next.{first_hit, first_miss, first_end}
 use Rattle.calls.specs.Lists.{writes_ended}
 use Rattle.calls.proofs.Entries.{late, timely}
-use borrow.Author.Rules.{rules}
 use native.Mathlib.Omega.{arith}
 use Rattle.calls.proofs.lists.writes_ended.Goals as goal
 

@@ -31,10 +31,10 @@ module _ (b : Bench) (sent reply marks : List ℕ) where
       → CompletionPromise b (returned_of a array security [] []) → TurnPromise b e sent reply marks (returned_of a array security reply marks)
   completion-met e a array security t = rw t (λ ey em p x. rw (ey, em) p)
 
-cut-met : (r : Rest) (page array security sent reply marks : List ℕ) (known : Bool) (e : Event) → e ≡ Event.Cut → known ≡ state_right (state_of (bench_of (chip_of page r) array security))
+cut_met : (r : Rest) (page array security sent reply marks : List ℕ) (known : Bool) (e : Event) → e ≡ Event.Cut → known ≡ state_right (state_of (bench_of (chip_of page r) array security))
     → cutting e known ≡ false → LentFor e reply → LentFor e marks
     → TurnPromise (bench_of (chip_of page r) array security) e sent reply marks (returned_of (after_of (record { answer = Answer.Refused Refusal.Malformed; rest = r }) page) array security reply marks)
-cut-met r page array security sent reply marks known e t k = rw t (λ n ey em x. rw (ey, em) (record { outcome = cut_malformed r page array security known k x.tear _ refl n }))
+cut_met r page array security sent reply marks known e t k = rw t (λ n ey em x. rw (ey, em) (record { outcome = cut_malformed r page array security known k x.tear _ refl n }))
 
 pub plain_turn-requires : goal.plain_turn-requires
 plain_turn-requires c = let s = c in let a = s.args in (record { known = s.requires.judged; paged = s.requires.paged }, no_reset a.e a.known a.r a.sent.now (length a.reply.now) (length a.marks.now) c.in-Frame.is s.requires.unreset)
@@ -49,4 +49,4 @@ pub returns-in-Completion : goal.returns-in-Completion
 returns-in-Completion c = let s = c in let a = s.args in completion-met (bench_of (chip_of a.page.now a.r) a.array.now a.security.now) a.sent.now a.reply.now a.marks.now a.e _ _ _ c.in-Completion.is s.requires.bytes s.requires.marked c.completion_turn.ensures
 
 pub returns-in-Cut : goal.returns-in-Cut
-returns-in-Cut c = let s = c in let a = s.args in cut-met a.r a.page.now a.array.now a.security.now a.sent.now a.reply.now a.marks.now a.known a.e c.in-Cut.is s.requires.judged s.requires.uncut s.requires.bytes s.requires.marked
+returns-in-Cut c = let s = c in let a = s.args in cut_met a.r a.page.now a.array.now a.security.now a.sent.now a.reply.now a.marks.now a.known a.e c.in-Cut.is s.requires.judged s.requires.uncut s.requires.bytes s.requires.marked
