@@ -5,7 +5,6 @@ use mathlib.Core.Path.{◌≡◌, sym, ap, subst, ◌∙◌}
 use mathlib.Core.Bool.{Bool}
 use mathlib.Core.List.{List}
 use lib.Dec.{eqb}
-use lib.ListN.{length}
 use Rattle.rules.specs.Words.{pick}
 use Rattle.rules.proofs.Promises.{one}
 use Rattle.rules.proofs.Outcomes.{OneOutcome, OneResult}
@@ -21,10 +20,9 @@ use Rattle.standing.specs.declared.Playing.{Playing}
 use Rattle.standing.specs.Benches.{front}
 use Rattle.calls.specs.Lists.{allowance_of, list_of, writes_ended}
 use Rattle.calls.proofs.Unique.{Same, stored_same, found_same, shown_same}
-use Rattle.calling.specs.declared.Account.{Account}
 use Rattle.calling.specs.declared.Called.{Called}
 use Rattle.calling.specs.declared.Errand.{Errand}
-use Rattle.calling.specs.Lines.{no_counts, no_bytes, no_account, account_of, called_of, came, ended, answered, account_shown, errand_of, StoreJudged, FindJudged, StorePlayed, FindPlayed, StationsPlayed, Untouched, PlayedCall, Played}
+use Rattle.calling.specs.Lines.{no_counts, no_bytes, no_account, account_of, called_of, came, ended, answered, account_shown, errand_of, StoreJudged, FindJudged, StorePlayed, FindPlayed, StationsPlayed, PlayedCall, Played}
 use Rattle.calling.proofs.asked.Reads as asked
 use Rattle.calling.proofs.nothing.Reads as nothing
 use Rattle.calling.proofs.carry.Reads as carry

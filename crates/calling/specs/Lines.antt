@@ -1,5 +1,5 @@
 -- A line with a call: what it asks for, what becomes of the bench, and what is told of it.
-use Rattle.std.specs.Prelude.{ℕ, min, ◌≡◌, Bool, true, false, not, List, [], ◌∷◌, eqb, length, replicate}
+use Rattle.std.specs.Prelude.{ℕ, ◌≡◌, Bool, false, not, List, [], eqb, length, replicate}
 use Rattle.rules.specs.declared.Chip.{Chip}
 use Rattle.rules.specs.Words.{pick}
 use Rattle.stations.specs.declared.StoreRecord.{StoreRecord}

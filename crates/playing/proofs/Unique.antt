@@ -1,7 +1,7 @@
 -- No second outcome: whatever meets the guarantee of a public function of this crate at the same input is the same result and the same lent memory.
 -- What a byte leaves of the line read is one; a line is played by what it asks for, each of which leaves one outcome. Assumes nothing.
 use Prim.Native.Nat.{ℕ}
-use mathlib.Core.Path.{◌≡◌, ap, subst}
+use mathlib.Core.Path.{◌≡◌, subst}
 use mathlib.Core.Bool.{Bool, true, false}
 use mathlib.Core.List.{List}
 use Rattle.rules.proofs.Promises.{one, lent_one}

@@ -1,6 +1,6 @@
 -- The rows of a line with a call, by the parts of what is told of any line. That the number is not the expected one is told as for an event: crate reasons,
 -- `unmet_row`. The list is what the call's read showed. A row that is not told is blank.
-use Rattle.std.specs.Prelude.{ℕ, ◌+◌, ◌-◌, ◌*◌, min, Bool, not, ◌&&◌, ◌||◌, List, [], ◌∷◌, eqb, ltb, leb, length, get_or, replicate}
+use Rattle.std.specs.Prelude.{ℕ, ◌+◌, ◌-◌, ◌*◌, min, not, ◌&&◌, ◌||◌, List, [], ◌∷◌, eqb, ltb, leb, length, get_or, replicate}
 use Rattle.rules.specs.declared.Chip.{Chip}
 use Rattle.rules.specs.Words.{pick}
 use Rattle.stations.specs.Slots.{Shown, shown_in, slot_count, those_from, station, live_of, slot_of, free_slot}
@@ -11,7 +11,7 @@ use Rattle.grammar.specs.Slots as slots
 use Rattle.script.specs.declared.Line.{Line}
 use Rattle.script.specs.Lines.{line_of}
 use Rattle.expecting.specs.declared.Verdict.{Verdict}
-use Rattle.fields.specs.Records.{slot, said}
+use Rattle.fields.specs.Records.{said}
 use Rattle.writing.specs.declared.Row.{Row}
 use Rattle.writing.specs.Rows.{blank, put}
 use Rattle.byte_text.specs.Bytes.{within, letters}

@@ -1,6 +1,4 @@
 -- Field by field. Assumes nothing.
-use native.Mathlib.Omega.{arith}
-use borrow.Author.Rules.{rules}
 use Rattle.calling.proofs.account_shown.Goals as goal
 
 pub returns : goal.returns

@@ -1,6 +1,4 @@
 -- By the call. Assumes nothing.
-use native.Mathlib.Omega.{arith}
-use borrow.Author.Rules.{rules}
 use Rattle.calling.proofs.call_of.Goals as goal
 
 pub returns-in-Store : goal.returns-in-Store

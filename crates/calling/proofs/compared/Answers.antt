@@ -3,7 +3,6 @@ use mathlib.Core.Path.{sym}
 use lib.Seq.{length-take-le}
 use Rattle.calling.proofs.Ends.{found_part, sure_part}
 use native.Mathlib.Omega.{arith}
-use borrow.Author.Rules.{rules}
 use Rattle.calling.proofs.compared.Goals as goal
 
 pub slice_bounds-judge-end : goal.slice_bounds-judge-end

@@ -1,6 +1,4 @@
 -- By whether all are shown. Assumes nothing.
-use native.Mathlib.Omega.{arith}
-use borrow.Author.Rules.{rules}
 use Rattle.calling.proofs.cut_of.Goals as goal
 
 pub returns-then-full : goal.returns-then-full

@@ -1,7 +1,5 @@
 -- What was found, and what of it is not met. Assumes nothing.
 use Rattle.calling.proofs.Ends.{find_is}
-use native.Mathlib.Omega.{arith}
-use borrow.Author.Rules.{rules}
 use Rattle.calling.proofs.find.Goals as goal
 
 pub shape_of-array : goal.shape_of-array

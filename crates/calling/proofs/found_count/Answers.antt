@@ -1,7 +1,5 @@
 -- By the number. Assumes nothing.
 use borrow.Author.Tests.{eq-eqb, ne_eqb}
-use borrow.Author.Rules.{rules}
-use native.Mathlib.Omega.{arith}
 use Rattle.calling.proofs.found_count.Goals as goal
 
 pub returns-then-number-eq0 : goal.returns-then-number-eq0

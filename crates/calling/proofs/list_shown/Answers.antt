@@ -2,7 +2,6 @@
 use mathlib.Core.Path.{sym, ◌∙◌}
 use lib.Seq.{length-take-le}
 use native.Mathlib.Omega.{arith}
-use borrow.Author.Rules.{rules}
 use Rattle.calling.proofs.list_shown.Goals as goal
 
 pub slice_bounds-account_shown-end : goal.slice_bounds-account_shown-end

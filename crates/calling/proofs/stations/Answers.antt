@@ -1,8 +1,6 @@
 -- The list is told where the read is done. Assumes nothing.
 use borrow.Author.Tests.{eq-eqb, ne_eqb}
 use Rattle.calling.proofs.Ends.{stations_shown, stations_refused}
-use native.Mathlib.Omega.{arith}
-use borrow.Author.Rules.{rules}
 use Rattle.calling.proofs.stations.Goals as goal
 
 pub returns-then-number-eq0 : goal.returns-then-number-eq0

@@ -1,7 +1,5 @@
 -- What the call left, and what of the line is not met. Assumes nothing.
 use Rattle.calling.proofs.Ends.{store_is}
-use native.Mathlib.Omega.{arith}
-use borrow.Author.Rules.{rules}
 use Rattle.calling.proofs.store.Goals as goal
 
 pub returns : goal.returns

@@ -2,7 +2,6 @@
 use mathlib.Core.Path.{refl, ap, ◌∙◌}
 use Rattle.standing.specs.Benches.{wrong_counted}
 use Rattle.playing.proofs.Lines.{untouched}
-use borrow.Author.Rules.{rules}
 use Rattle.playing.proofs.play.Goals as goal
 
 pub returns-in-Nothing : goal.returns-in-Nothing

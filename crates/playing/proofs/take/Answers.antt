@@ -1,6 +1,5 @@
 -- The byte is read; where it ends a line, that is played. Assumes nothing.
-use Rattle.playing.proofs.Lines.{line_played, none_played}
-use borrow.Author.Rules.{rules}
+use Rattle.playing.proofs.Lines.{none_played}
 use Rattle.playing.proofs.take.Goals as goal
 
 pub returns : goal.returns

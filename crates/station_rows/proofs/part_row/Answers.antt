@@ -1,6 +1,4 @@
 -- By the part. Assumes nothing.
-use native.Mathlib.Omega.{arith}
-use borrow.Author.Rules.{rules}
 use Rattle.station_rows.proofs.part_row.Goals as goal
 
 pub returns-in-Remark : goal.returns-in-Remark

@@ -1,6 +1,4 @@
 -- By what the line asks for. Assumes nothing.
-use native.Mathlib.Omega.{arith}
-use borrow.Author.Rules.{rules}
 use Rattle.station_rows.proofs.row.Goals as goal
 
 pub returns-in-Nothing : goal.returns-in-Nothing

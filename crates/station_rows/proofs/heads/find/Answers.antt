@@ -1,9 +1,7 @@
 -- By the number. Assumes nothing.
-use borrow.Author.Tests.{eq-eqb, ne_eqb, lt-ltb, le-ltb}
+use borrow.Author.Tests.{eq-eqb, ne_eqb}
 use Rattle.stations.specs.Slots.{slot_of}
 use Rattle.station_rows.specs.Stations.{find_head}
-use native.Mathlib.Omega.{arith}
-use borrow.Author.Rules.{rules}
 use Rattle.station_rows.proofs.heads.find.Goals as goal
 
 pub returns-then-number-eq0 : goal.returns-then-number-eq0

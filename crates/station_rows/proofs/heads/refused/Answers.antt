@@ -1,8 +1,6 @@
 -- By the number. Assumes nothing.
-use borrow.Author.Tests.{eq-eqb, ne_eqb, lt-ltb, le-ltb}
+use borrow.Author.Tests.{eq-eqb, ne_eqb}
 use Rattle.station_rows.specs.Stations.{refused_on}
-use native.Mathlib.Omega.{arith}
-use borrow.Author.Rules.{rules}
 use Rattle.station_rows.proofs.heads.refused.Goals as goal
 
 pub returns-then-number-eq18 : goal.returns-then-number-eq18

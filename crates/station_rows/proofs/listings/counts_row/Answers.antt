@@ -1,7 +1,5 @@
 -- Both forms. Assumes nothing.
 use Rattle.station_rows.specs.Stations.{counts_row}
-use native.Mathlib.Omega.{arith}
-use borrow.Author.Rules.{rules}
 use Rattle.station_rows.proofs.listings.counts_row.Goals as goal
 
 pub returns : goal.returns

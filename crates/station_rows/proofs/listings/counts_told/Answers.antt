@@ -1,7 +1,5 @@
 -- By the number. Assumes nothing.
-use borrow.Author.Tests.{eq-eqb, ne_eqb, lt-ltb, le-ltb}
-use native.Mathlib.Omega.{arith}
-use borrow.Author.Rules.{rules}
+use borrow.Author.Tests.{eq-eqb, ne_eqb}
 use Rattle.station_rows.proofs.listings.counts_told.Goals as goal
 
 pub returns-then-number-eq0 : goal.returns-then-number-eq0

@@ -1,7 +1,5 @@
 -- Where lookup finds it. Assumes nothing.
 use Rattle.station_rows.specs.Stations.{found_slot_row}
-use native.Mathlib.Omega.{arith}
-use borrow.Author.Rules.{rules}
 use Rattle.station_rows.proofs.listings.found_slot_row.Goals as goal
 
 pub returns-then-is_found : goal.returns-then-is_found

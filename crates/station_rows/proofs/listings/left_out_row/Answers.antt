@@ -5,7 +5,6 @@ use borrow.Author.Tests.{ltb-true}
 use Rattle.rules.proofs.Bools.{and_split}
 use Rattle.station_rows.specs.Stations.{left_out_row}
 use native.Mathlib.Omega.{arith}
-use borrow.Author.Rules.{rules}
 use Rattle.station_rows.proofs.listings.left_out_row.Goals as goal
 
 pub overflow_sub-n : goal.overflow_sub-n

@@ -1,8 +1,6 @@
 -- By the row. Assumes nothing.
-use borrow.Author.Tests.{eq-eqb, ne_eqb, lt-ltb, le-ltb}
+use borrow.Author.Tests.{lt-ltb, le-ltb}
 use Rattle.station_rows.specs.Stations.{bytes_row}
-use native.Mathlib.Omega.{arith}
-use borrow.Author.Rules.{rules}
 use Rattle.station_rows.proofs.listings.list_row.Goals as goal
 
 pub returns-then-i-lt2048 : goal.returns-then-i-lt2048

@@ -1,7 +1,5 @@
 -- By the call. Assumes nothing.
 use Rattle.station_rows.specs.Stations.{more_row}
-use native.Mathlib.Omega.{arith}
-use borrow.Author.Rules.{rules}
 use Rattle.station_rows.proofs.listings.more.Goals as goal
 
 pub returns-in-Store : goal.returns-in-Store

@@ -1,7 +1,5 @@
 -- Its number, its place and its data. Assumes nothing.
 use Rattle.station_rows.specs.Stations.{slot_row}
-use native.Mathlib.Omega.{arith}
-use borrow.Author.Rules.{rules}
 use Rattle.station_rows.proofs.listings.slot_row.Goals as goal
 
 pub returns : goal.returns

@@ -4,8 +4,6 @@ use lib.Dec.{eqb, ltb}
 use borrow.Author.Tests.{ltb-true}
 use Rattle.rules.proofs.Bools.{and_split}
 use Rattle.station_rows.specs.Stations.{station_row}
-use native.Mathlib.Omega.{arith}
-use borrow.Author.Rules.{rules}
 use Rattle.station_rows.proofs.listings.station_row.Goals as goal
 
 pub found_slot_row-requires : goal.found_slot_row-requires

@@ -1,6 +1,4 @@
 -- Of the read. Assumes nothing.
-use native.Mathlib.Omega.{arith}
-use borrow.Author.Rules.{rules}
 use Rattle.station_rows.proofs.whys.counted.Goals as goal
 
 pub returns : goal.returns

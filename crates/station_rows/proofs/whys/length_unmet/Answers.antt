@@ -1,7 +1,5 @@
 -- By the verdict. Assumes nothing.
 use Rattle.station_rows.specs.Stations.{length_unmet}
-use native.Mathlib.Omega.{arith}
-use borrow.Author.Rules.{rules}
 use Rattle.station_rows.proofs.whys.length_unmet.Goals as goal
 
 pub returns-then-i-v : goal.returns-then-i-v

@@ -1,7 +1,5 @@
 -- The chip's lengths. Assumes nothing.
 use Rattle.station_rows.specs.Stations.{length_row}
-use native.Mathlib.Omega.{arith}
-use borrow.Author.Rules.{rules}
 use Rattle.station_rows.proofs.whys.malformed.Goals as goal
 
 pub returns : goal.returns

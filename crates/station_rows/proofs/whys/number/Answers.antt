@@ -1,8 +1,6 @@
 -- By the number. Assumes nothing.
-use borrow.Author.Tests.{eq-eqb, ne_eqb, lt-ltb, le-ltb}
+use borrow.Author.Tests.{eq-eqb, ne_eqb}
 use Rattle.station_rows.specs.Stations.{number_row}
-use native.Mathlib.Omega.{arith}
-use borrow.Author.Rules.{rules}
 use Rattle.station_rows.proofs.whys.number.Goals as goal
 
 pub returns-then-number-eq0 : goal.returns-then-number-eq0

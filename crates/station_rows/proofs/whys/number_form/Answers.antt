@@ -1,8 +1,6 @@
 -- By the number. Assumes nothing.
 use borrow.Author.Tests.{eq-eqb, ne_eqb, lt-ltb, le-ltb}
 use Rattle.station_rows.specs.Stations.{number_form}
-use native.Mathlib.Omega.{arith}
-use borrow.Author.Rules.{rules}
 use Rattle.station_rows.proofs.whys.number_form.Goals as goal
 
 pub returns-then-number-lt15 : goal.returns-then-number-lt15

@@ -1,7 +1,5 @@
 -- By the number. Assumes nothing.
 use Rattle.station_rows.specs.Stations.{chip_row}
-use native.Mathlib.Omega.{arith}
-use borrow.Author.Rules.{rules}
 use Rattle.station_rows.proofs.whys.of_chip.Goals as goal
 
 pub returns-then-number : goal.returns-then-number

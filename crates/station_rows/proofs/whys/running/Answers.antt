@@ -1,8 +1,6 @@
 -- By the writes that ended. Assumes nothing.
-use borrow.Author.Tests.{eq-eqb, ne_eqb, lt-ltb, le-ltb}
+use borrow.Author.Tests.{eq-eqb, ne_eqb}
 use Rattle.station_rows.specs.Stations.{running_row}
-use native.Mathlib.Omega.{arith}
-use borrow.Author.Rules.{rules}
 use Rattle.station_rows.proofs.whys.running.Goals as goal
 
 pub returns-then-writes-eq0 : goal.returns-then-writes-eq0

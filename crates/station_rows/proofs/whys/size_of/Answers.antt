@@ -1,7 +1,5 @@
 -- A word is filled up. Assumes nothing.
 use Rattle.station_rows.specs.Stations.{size_of}
-use native.Mathlib.Omega.{arith}
-use borrow.Author.Rules.{rules}
 use Rattle.station_rows.proofs.whys.size_of.Goals as goal
 
 pub returns-then-slots-n : goal.returns-then-slots-n

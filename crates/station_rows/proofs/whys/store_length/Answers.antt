@@ -1,8 +1,6 @@
 -- The data, the allowance, then what the chip says. Assumes nothing.
 use borrow.Author.Tests.{eq-eqb, ne_eqb, lt-ltb, le-ltb}
 use Rattle.station_rows.specs.Stations.{length_row}
-use native.Mathlib.Omega.{arith}
-use borrow.Author.Rules.{rules}
 use Rattle.station_rows.proofs.whys.store_length.Goals as goal
 
 pub returns-then-size-ne28 : goal.returns-then-size-ne28

@@ -1,6 +1,5 @@
 -- The words in their order. Assumes nothing.
 use Rattle.telling.specs.Arguments.{argument_of}
-use borrow.Author.Rules.{rules}
 use Rattle.telling.proofs.arguments.argument_of.Goals as goal
 
 pub returns-then-same : goal.returns-then-same

@@ -1,12 +1,8 @@
 -- The bytes before i agree, or do not. Assumes nothing.
 use Prim.Native.Nat.{◌≤◌, ◌-◌}
-use mathlib.Core.Path.{◌≡◌, refl}
-use native.Mathlib.Numerals.{add-one}
+use mathlib.Core.Path.{◌≡◌}
 use lib.ListN.{length}
-use borrow.Author.Tests.{eq-eqb, ne_eqb}
-use Rattle.telling.specs.Arguments.{agree, same}
-use borrow.Author.Rules.{rules}
-use native.Mathlib.Omega.{arith}
+use Rattle.telling.specs.Arguments.{agree}
 use Rattle.telling.proofs.arguments.same.Given as goal
 
 abbrev pub invariant-loop-i : goal.invariant-loop-i

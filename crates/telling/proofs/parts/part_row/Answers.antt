@@ -1,5 +1,4 @@
 -- Part by part. Assumes nothing.
-use borrow.Author.Rules.{rules}
 use Rattle.telling.proofs.parts.part_row.Goals as goal
 
 pub returns-in-Remark : goal.returns-in-Remark

@@ -1,7 +1,6 @@
 -- As long as there are bytes. Assumes nothing.
 use borrow.Author.Tests.{le-ltb, lt-ltb}
 use Rattle.telling.specs.Parts.{remark_part}
-use borrow.Author.Rules.{rules}
 use Rattle.telling.proofs.parts.remark_row.Goals as goal
 
 pub returns-then-from-remark : goal.returns-then-from-remark

@@ -2,7 +2,6 @@
 use mathlib.Core.Path.{sym}
 use lib.Seq.{length-take-le}
 use native.Mathlib.Omega.{arith}
-use borrow.Author.Rules.{rules}
 use Rattle.telling.proofs.parts.row.Goals as goal
 
 pub slice_bounds-part_row-end : goal.slice_bounds-part_row-end

@@ -1,7 +1,6 @@
 -- By the row. Assumes nothing.
 use borrow.Author.Tests.{eq-eqb, ne_eqb}
 use Rattle.telling.specs.Parts.{torn_part}
-use borrow.Author.Rules.{rules}
 use Rattle.telling.proofs.parts.torn_row.Goals as goal
 
 pub returns-then-i-eq0 : goal.returns-then-i-eq0

@@ -1,5 +1,4 @@
 -- On a blank row. Assumes nothing.
-use borrow.Author.Rules.{rules}
 use Rattle.telling.proofs.totals.total.Goals as goal
 
 pub returns : goal.returns

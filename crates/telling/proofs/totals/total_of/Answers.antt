@@ -1,5 +1,4 @@
 -- Behind how many scripts. Assumes nothing.
-use borrow.Author.Rules.{rules}
 use Rattle.telling.proofs.totals.total_of.Goals as goal
 
 pub returns : goal.returns

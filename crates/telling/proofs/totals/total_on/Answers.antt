@@ -1,7 +1,6 @@
 -- With the wrong lines where there are any. Assumes nothing.
 use borrow.Author.Tests.{eq-eqb, ne_eqb}
 use Rattle.telling.specs.Totals.{total_on}
-use borrow.Author.Rules.{rules}
 use Rattle.telling.proofs.totals.total_on.Goals as goal
 
 pub returns-then-t-eq0 : goal.returns-then-t-eq0
