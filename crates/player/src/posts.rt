@@ -56,10 +56,18 @@ fn unopened(e: io::Error) -> Trouble {
 
 // As many bytes as there is room for.
 fn read_from(from: &mut impl Read, file: &mut [u8]) -> Came {
-    match filing::read_full(from, file) {
-        Ok(length) => came_to(Trouble::Nothing, length),
-        Err(_) => came_to(Trouble::Unread, 0),
+    let length = match filing::read_full(from, file) {
+        Ok(n) => n,
+        Err(_) => {
+            return came_to(Trouble::Unread, 0);
+        }
+    };
+    if length < file.len() {
+        if !filing::has_ended(from) {
+            return came_to(Trouble::Unread, length);
+        }
     }
+    came_to(Trouble::Nothing, length)
 }
 
 fn read_into(rt: &impl Files, name: &[u8], file: &mut [u8; 2148375]) -> Came {
