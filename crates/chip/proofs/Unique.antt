@@ -7,7 +7,7 @@ use mathlib.Core.List.{List, []}
 use denote.Ref.{Bor}
 use denote.MutBor.{MutBor}
 use Rattle.rules.specs.declared.After.{After}
-use Rattle.rules.specs.declared.Answer.{Answer}
+use Rattle.rules.specs.Numbers.{Answer}
 use Rattle.rules.specs.declared.Chip.{Chip}
 use Rattle.rules.specs.declared.Circumstances.{Circumstances}
 use Rattle.rules.specs.declared.Rest.{Rest}

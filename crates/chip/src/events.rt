@@ -9,7 +9,7 @@ ghost use Rattle.rules.specs.Promises.{bench_of, returned_of, after_of};
 ghost use Rattle.rules.specs.Demands.{Meets};
 ghost use Rattle.chip.specs.Turns.{cutting, resetting, stop_call, Stoppable, Turnable, TurnPromise};
 
-use rules::{Answer, Circumstances, Refusal, Rest, Turn};
+use rules::{Circumstances, Refusal, Rest, Turn};
 
 // A frame, a completion, or a power cut.
 #[derive(Clone, Copy)]
@@ -100,7 +100,7 @@ pub fn take_turn(
         Event::Frame => framing::plain_turn(known, r, page, array, security, sent, reply, marks),
         Event::Completion => ending::completion_turn(known, r, page, array, security),
         Event::Cut => Turn {
-            answer: Answer::Refused(Refusal::Malformed),
+            answer: Err(Refusal::Malformed),
             rest: r,
         },
     }

@@ -2,7 +2,7 @@
 ghost use Rattle.std.specs.Prelude.{◌≡◌};
 ghost use Rattle.rules.specs.Numbers.{refusal_number, answer_number};
 
-use rules::{Answer, Refusal};
+use rules::Refusal;
 
 fn refusal_number(why: Refusal) -> u8
     ensures { result ≡ refusal_number why }
@@ -24,11 +24,11 @@ fn refusal_number(why: Refusal) -> u8
     }
 }
 
-pub fn answer_number(answer: Answer) -> u8
+pub fn answer_number(answer: Result<(), Refusal>) -> u8
     ensures { result ≡ answer_number answer }
 {
     match answer {
-        Answer::Done => 0,
-        Answer::Refused(why) => refusal_number(why),
+        Ok(()) => 0,
+        Err(why) => refusal_number(why),
     }
 }

@@ -8,7 +8,6 @@ use native.Mathlib.Omega.{arith}
 use lib.Dec.{eqb, ltb, leb}
 use lib.ListN.{length}
 use borrow.Author.Tests.{eqb-true, leb-true, eq-eqb, ne_eqb, ltb-false}
-use Rattle.rules.specs.declared.Answer.{Answer}
 use Rattle.rules.specs.declared.Circumstances.{Circumstances}
 use Rattle.rules.specs.declared.Kind.{Kind}
 use Rattle.rules.specs.declared.Refusal.{Refusal}
@@ -21,6 +20,7 @@ use Rattle.rules.specs.Reading.{reply}
 use Rattle.rules.specs.Programs.{blank}
 use Rattle.rules.specs.Fields.{chip_of, with_enable}
 use Rattle.rules.specs.Commands.{after_reset, settled_first, act, buffer_after}
+use Rattle.std.specs.Prelude.{Ok, Err}
 use Rattle.rules.specs.Numbers.{refusal_number, State, Frame, state_right, frame_right, malformed, first, command_tests, frame_tests}
 use Rattle.rules.specs.Machine.{frame}
 use Rattle.rules.specs.Promises.{bench_of, carried_of, returned_of, after_of, state_of, frame_of, outcome_of}
@@ -83,7 +83,7 @@ module _ (r : Rest) (page array security : List ℕ) where
         ∙ ap (λ (b : Bool). pick b 2 (first (command_tests r sent))) (ne_eqb (length sent) 0 (λ e. let s = h.some in omega arith))
 
     pub frame_refused : (why : Refusal) (q : Rest) (t : Turn) (y' m' : List ℕ) → Commandable r page array security sent y m → refusal_number why ≡ first (command_tests r sent)
-        → t ≡ record { answer = Answer.Refused why; rest = q } → q ≡ with_enable false r
+        → t ≡ record { answer = Err why; rest = q } → q ≡ with_enable false r
         → Replied y m y' m' (λ i. record { byte = 255; mark = 0 })
         → outcome_of (returned_of (after_of t page) array security y' m') ≡ frame at with
     unfolding command_tests
@@ -111,7 +111,7 @@ module _ (r : Rest) (page array security : List ℕ) where
         above pos alt = ⊎_elim (λ z. absurd (let q = e in omega arith)) (λ l. let q = e in omega arith) alt
 
     pub frame_done : (k : Kind) (q : Rest) (t : Turn) (page' y' m' : List ℕ) → Commandable r page array security sent y m → 0 ≡ first (command_tests r sent) → k ≡ (form_of (opcode sent)).kind
-        → t ≡ record { answer = Answer.Done; rest = q } → q ≡ act k sent 0 (with_enable false r) → page' ≡ buffer_after k sent page
+        → t ≡ record { answer = Ok tt; rest = q } → q ≡ act k sent 0 (with_enable false r) → page' ≡ buffer_after k sent page
         → Replied y m y' m' (λ i. reply k r (lent array) (lent security) sent i)
         → outcome_of (returned_of (after_of t page') array security y' m') ≡ frame at with
     frame_done k q t page' y' m' h e ek et eq ep a =
@@ -133,7 +133,7 @@ module _ (r : Rest) (page array security : List ℕ) where
         let h₂ = and_split (leb (length y) 65536) (eqb (length y) (length m)) h₃.0 in
         (leb-true (length y) 65536 h₂.0, sym (eqb-true (length y) (length m) h₂.1))
 
-    pub frame_reset : (q : Rest) (t : Turn) (page' array' security' y' m' : List ℕ) → t ≡ record { answer = Answer.Done; rest = q } → q ≡ after_reset (settled_first x.tear.k (with_enable false r)) → page' ≡ blank
+    pub frame_reset : (q : Rest) (t : Turn) (page' array' security' y' m' : List ℕ) → t ≡ record { answer = Ok tt; rest = q } → q ≡ after_reset (settled_first x.tear.k (with_enable false r)) → page' ≡ blank
         → lent array' ≡ finish r.works.running (array_range r.works.running) page x.tear (lent array)
         → lent security' ≡ finish r.works.running (security_range r.works.running) page x.tear (lent security)
         → Replied y m y' m' (λ i. record { byte = 255; mark = 0 })

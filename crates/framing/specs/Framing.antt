@@ -1,6 +1,5 @@
 -- What an accepted 99 and any other frame are asked, and what a frame that is turned away gets.
-use Rattle.std.specs.Prelude.{ℕ, ◌<◌, ◌≡◌, Bool, true, false, List, [], ◌∷◌, length}
-use Rattle.rules.specs.declared.Answer.{Answer}
+use Rattle.std.specs.Prelude.{ℕ, ◌<◌, ◌≡◌, Bool, true, false, List, [], ◌∷◌, length, Err}
 use Rattle.rules.specs.declared.Circumstances.{Circumstances}
 use Rattle.rules.specs.declared.Refusal.{Refusal}
 use Rattle.rules.specs.declared.Rest.{Rest}
@@ -31,6 +30,6 @@ pub record Commandable (r : Rest) (page array security sent reply marks : List �
 
 -- what a frame gets that is malformed (not right) or empty
 pub record TurnedAway (r : Rest) (right : Bool) (reply marks : List ℕ) (t : Turn) (reply' marks' : List ℕ) : Type 0 where
-  pub turn : t ≡ record { answer = Answer.Refused (pick right Refusal.Empty Refusal.Malformed); rest = r }
+  pub turn : t ≡ record { answer = Err (pick right Refusal.Empty Refusal.Malformed); rest = r }
   pub bytes : lent reply' ≡ pick right (written (length reply) (λ i. 0xFF)) (lent reply)
   pub known : lent marks' ≡ pick right (written (length marks) (λ i. 0)) (lent marks)

@@ -8,7 +8,7 @@ ghost use Rattle.rules.specs.Tears.{resets};
 ghost use Rattle.turns.specs.Turns.{StateKnown};
 ghost use Rattle.framing.specs.Framing.{Resettable, PlainPromise, Commandable, TurnedAway};
 
-use rules::{Answer, Circumstances, Refusal, Rest, Turn};
+use rules::{Circumstances, Refusal, Rest, Turn};
 use turns::{done, refused};
 
 fn frame_right(sent_len: usize, reply_len: usize, marks_len: usize) -> bool
@@ -71,13 +71,13 @@ fn command(
     let form = opcodes::form_of(op);
     let answer = judging::judge(r, op, form, sent);
     match answer {
-        Answer::Done => {
+        Ok(()) => {
             let kind = form.kind;
             replying::respond(kind, r, array, security, sent, reply, marks);
             pages::page_after(kind, sent, page);
             done(acting::acted(kind, sent, r))
         }
-        Answer::Refused(why) => {
+        Err(why) => {
             replying::fill_both(reply, marks, 255, 0);
             refused(why, acting::used(r))
         }

@@ -7,7 +7,7 @@ ghost use Rattle.rules.specs.Programs.{reaches_first};
 ghost use Rattle.rules.specs.Numbers.{answer_number, while_busy, no_enable, no_ioc, no_such_burst, closed, locked_target, first, command_tests};
 ghost use Rattle.judging.specs.Judging.{Judgeable, change_tests};
 
-use rules::{Answer, Form, Refusal, Rest};
+use rules::{Form, Refusal, Rest};
 
 // ---- 3 to 7, and 13; 8 is in crate `beside`
 
@@ -99,50 +99,50 @@ fn is_locked(r: Rest, op: u8, sent: &[u8]) -> bool
 // ---- the first that applies
 
 // 9 to 11: none of them is of a command that needs no WEL.
-fn judge_change(r: Rest, op: u8, sent: &[u8]) -> Answer
+fn judge_change(r: Rest, op: u8, sent: &[u8]) -> Result<(), Refusal>
     requires { length sent.now ≤ 65536 }
     ensures { answer_number result ≡ first (change_tests r op sent.now) }
 {
     if !named::needs_wel(op) {
-        return Answer::Done;
+        return Ok(());
     }
     if !r.flags.wel {
-        return Answer::Refused(Refusal::NoWel);
+        return Err(Refusal::NoWel);
     }
     if is_closed(r, op, sent) {
-        return Answer::Refused(Refusal::Closed);
+        return Err(Refusal::Closed);
     }
     if is_locked(r, op, sent) {
-        return Answer::Refused(Refusal::WriteLocked);
+        return Err(Refusal::WriteLocked);
     }
-    Answer::Done
+    Ok(())
 }
 
 // The number of a frame that is not empty, with a well-formed record and right lengths.
-pub fn judge(r: Rest, op: u8, form: Form, sent: &[u8]) -> Answer
+pub fn judge(r: Rest, op: u8, form: Form, sent: &[u8]) -> Result<(), Refusal>
     requires { Judgeable r op form sent.now }
     ensures { answer_number result ≡ first (command_tests r sent.now) }
 {
     if not_listed(r, form) {
-        return Answer::Refused(Refusal::NotListed);
+        return Err(Refusal::NotListed);
     }
     if wrong_length(r, form, sent.len()) {
-        return Answer::Refused(Refusal::WrongLength);
+        return Err(Refusal::WrongLength);
     }
     if while_busy(r, op) {
-        return Answer::Refused(Refusal::Busy);
+        return Err(Refusal::Busy);
     }
     if no_enable(r, op) {
-        return Answer::Refused(Refusal::NoEnable);
+        return Err(Refusal::NoEnable);
     }
     if no_ioc(r, op) {
-        return Answer::Refused(Refusal::NoIoc);
+        return Err(Refusal::NoIoc);
     }
     if no_such_burst(op, sent) {
-        return Answer::Refused(Refusal::NoSuchBurst);
+        return Err(Refusal::NoSuchBurst);
     }
     if beside::conflicts(r, op, sent) {
-        return Answer::Refused(Refusal::Suspension);
+        return Err(Refusal::Suspension);
     }
     judge_change(r, op, sent)
 }

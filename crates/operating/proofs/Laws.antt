@@ -5,12 +5,12 @@ use mathlib.Core.Bool.{Bool, true, false}
 use mathlib.Core.List.{List}
 use lib.Dec.{eqb}
 use lib.ListN.{length, get_or}
-use Rattle.rules.specs.declared.Answer.{Answer}
 use Rattle.rules.specs.declared.Refusal.{Refusal}
 use Rattle.rules.specs.Words.{lent, written}
 use Rattle.rules.specs.Registers.{busy}
 use Rattle.rules.specs.Frames.{opcode}
-use Rattle.rules.specs.Numbers.{answer_number, State}
+use Rattle.std.specs.Prelude.{Ok, Err}
+use Rattle.rules.specs.Numbers.{Answer, answer_number, State}
 use Rattle.rules.specs.Machine.{frame, left}
 use Rattle.rules.specs.Promises.{Carried, Returned, bench_of, state_of, frame_of, outcome_of, FramePromise, CompletionPromise}
 use Rattle.rules.specs.Promises as promises
@@ -19,20 +19,20 @@ use Rattle.operating.specs.declared.Bench.{Bench}
 use Rattle.operating.specs.Operations.{is_done, due_before, reads_after, settled_state, leaves, finished, operated, SettledPromise}
 
 done_number : (a : Answer) → is_done a ≡ eqb (answer_number a) 0
-done_number Answer.Done = refl
-done_number (Answer.Refused Refusal.Malformed) = refl
-done_number (Answer.Refused Refusal.Empty) = refl
-done_number (Answer.Refused Refusal.NotListed) = refl
-done_number (Answer.Refused Refusal.WrongLength) = refl
-done_number (Answer.Refused Refusal.Busy) = refl
-done_number (Answer.Refused Refusal.NoEnable) = refl
-done_number (Answer.Refused Refusal.NoIoc) = refl
-done_number (Answer.Refused Refusal.Suspension) = refl
-done_number (Answer.Refused Refusal.NoWel) = refl
-done_number (Answer.Refused Refusal.Closed) = refl
-done_number (Answer.Refused Refusal.WriteLocked) = refl
-done_number (Answer.Refused Refusal.NothingRuns) = refl
-done_number (Answer.Refused Refusal.NoSuchBurst) = refl
+done_number (Ok x) = refl
+done_number (Err Refusal.Malformed) = refl
+done_number (Err Refusal.Empty) = refl
+done_number (Err Refusal.NotListed) = refl
+done_number (Err Refusal.WrongLength) = refl
+done_number (Err Refusal.Busy) = refl
+done_number (Err Refusal.NoEnable) = refl
+done_number (Err Refusal.NoIoc) = refl
+done_number (Err Refusal.Suspension) = refl
+done_number (Err Refusal.NoWel) = refl
+done_number (Err Refusal.Closed) = refl
+done_number (Err Refusal.WriteLocked) = refl
+done_number (Err Refusal.NothingRuns) = refl
+done_number (Err Refusal.NoSuchBurst) = refl
 
 pub settles : {ends : Bool} {s : promises.Bench} {g : Returned} → ends ≡ true → CompletionPromise s g
     → SettledPromise ends s (bench_of g.after.chip g.array g.security)

@@ -7,7 +7,7 @@ ghost use Rattle.rules.specs.Registers.{busy};
 ghost use Rattle.rules.specs.Promises.{bench_of};
 ghost use Rattle.operating.specs.Operations.{is_done, due_before, reads_after, untorn, SettledPromise, OperationPromise, AnswerPromise};
 
-use rules::{Answer, Chip, Circumstances, Tear};
+use rules::{Chip, Circumstances, Refusal, Tear};
 use serprog::show;
 
 // The chip, how many status reads it has answered since it is busy (0 or 1), and whether the tool is shown the sibling's identity.
@@ -45,13 +45,10 @@ fn is_busy(c: Chip) -> bool
     !blocks::is_nothing(run)
 }
 
-fn is_done(a: Answer) -> bool
+fn is_done(a: Result<(), Refusal>) -> bool
     ensures { result ≡ is_done a }
 {
-    match a {
-        Answer::Done => true,
-        Answer::Refused(_) => false,
-    }
+    a.is_ok()
 }
 
 // Whether the completion comes before this frame.

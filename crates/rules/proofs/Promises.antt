@@ -7,13 +7,13 @@ use native.Mathlib.Omega.{arith}
 use lib.Dec.{eqb, ltb}
 use lib.ListN.{length, get_or, get_or-eq_default}
 use lib.Seq.{ext_get_or}
+use Rattle.std.specs.Prelude.{Ok, Err}
 use borrow.Author.Tests.{eqb-true, ltb-true, ltb-false}
 use Rattle.rules.proofs.Bools.{every_of}
-use Rattle.rules.specs.declared.Answer.{Answer}
 use Rattle.rules.specs.declared.Refusal.{Refusal}
 use Rattle.rules.specs.declared.Tear.{Tear}
 use Rattle.rules.specs.Words.{pick, one_of, every, Lent, lent, written}
-use Rattle.rules.specs.Numbers.{answer_number}
+use Rattle.rules.specs.Numbers.{Answer, answer_number}
 use Rattle.rules.specs.Machine.{Outcome}
 use Rattle.rules.specs.Promises.{Bench, Carried, Returned, outcome_of, FramePromise, CompletionPromise, CutPromise}
 
@@ -53,24 +53,24 @@ refusal_of n =
     (pick (ltb n 13) Refusal.NothingRuns Refusal.NoSuchBurst)))))))))))
 
 unfoldable pub answer_of : ℕ → Answer
-answer_of n = pick (ltb n 1) Answer.Done (Answer.Refused (refusal_of n))
+answer_of n = pick (ltb n 1) (Ok tt) (Err (refusal_of n))
 
 answer_back : (a : Answer) → answer_of (answer_number a) ≡ a
 unfolding answer_of refusal_of
-answer_back Answer.Done = refl
-answer_back (Answer.Refused Refusal.Malformed) = refl
-answer_back (Answer.Refused Refusal.Empty) = refl
-answer_back (Answer.Refused Refusal.NotListed) = refl
-answer_back (Answer.Refused Refusal.WrongLength) = refl
-answer_back (Answer.Refused Refusal.Busy) = refl
-answer_back (Answer.Refused Refusal.NoEnable) = refl
-answer_back (Answer.Refused Refusal.NoIoc) = refl
-answer_back (Answer.Refused Refusal.Suspension) = refl
-answer_back (Answer.Refused Refusal.NoWel) = refl
-answer_back (Answer.Refused Refusal.Closed) = refl
-answer_back (Answer.Refused Refusal.WriteLocked) = refl
-answer_back (Answer.Refused Refusal.NothingRuns) = refl
-answer_back (Answer.Refused Refusal.NoSuchBurst) = refl
+answer_back (Ok x) = refl
+answer_back (Err Refusal.Malformed) = refl
+answer_back (Err Refusal.Empty) = refl
+answer_back (Err Refusal.NotListed) = refl
+answer_back (Err Refusal.WrongLength) = refl
+answer_back (Err Refusal.Busy) = refl
+answer_back (Err Refusal.NoEnable) = refl
+answer_back (Err Refusal.NoIoc) = refl
+answer_back (Err Refusal.Suspension) = refl
+answer_back (Err Refusal.NoWel) = refl
+answer_back (Err Refusal.Closed) = refl
+answer_back (Err Refusal.WriteLocked) = refl
+answer_back (Err Refusal.NothingRuns) = refl
+answer_back (Err Refusal.NoSuchBurst) = refl
 
 pub answer_one : (a b : Answer) → answer_number a ≡ answer_number b → a ≡ b
 answer_one a b e = sym (answer_back a) ∙ ap answer_of e ∙ answer_back b

@@ -1,11 +1,10 @@
 -- 01, Numbers the bench gives back; 02, W-201, number 13: the conditions, each from its row, and the order in which they are tested.
-use Rattle.std.specs.Prelude.{ℕ, ◌*◌, ◌/◌, Bool, not, ◌&&◌, ◌||◌, List, [], ◌∷◌, eqb, ltb, leb, length}
+use Rattle.std.specs.Prelude.{ℕ, ◌*◌, ◌/◌, Bool, not, ◌&&◌, ◌||◌, List, [], ◌∷◌, eqb, ltb, leb, length, Result, Ok, Err}
 use Rattle.std.specs.Int.Bits.{bit_and}
 use Rattle.rules.specs.declared.Chip.{Chip}
 use Rattle.rules.specs.declared.Circumstances.{Circumstances}
 use Rattle.rules.specs.declared.Rest.{Rest}
 use Rattle.rules.specs.declared.Refusal.{Refusal}
-use Rattle.rules.specs.declared.Answer.{Answer}
 use Rattle.rules.specs.Words.{pick, one_of, range, holds, Lent}
 use Rattle.rules.specs.Blocks.{array_size_lem, security_size_lem, block_of, block_at, span, write_locked, write_locks}
 use Rattle.rules.specs.Works.{is_nothing, can_suspend, array_range}
@@ -32,9 +31,13 @@ refusal_number Refusal.WriteLocked = 11
 refusal_number Refusal.NothingRuns = 12
 refusal_number Refusal.NoSuchBurst = 13
 
+-- done, or refused
+abbrev pub Answer : Type 0
+Answer = Result (Unit {0}) Refusal
+
 abbrev pub answer_number : Answer → ℕ
-answer_number Answer.Done = 0
-answer_number (Answer.Refused r) = refusal_number r
+answer_number (Ok x) = 0
+answer_number (Err r) = refusal_number r
 
 -- ---- what an event finds, and what a frame carries
 

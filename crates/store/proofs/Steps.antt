@@ -8,12 +8,12 @@ use lib.Dec.{eqb, ltb}
 use lib.ListN.{length, get_or, length-append, get_or-append}
 use lib.Seq.{ext_get_or, get_or-append-add}
 use borrow.Author.Tests.{ne_eqb, ltb-true, ltb-false}
-use Rattle.rules.specs.declared.Answer.{Answer}
 use Rattle.rules.specs.declared.Refusal.{Refusal}
 use Rattle.rules.proofs.Promises.{answer_one}
 use Rattle.rules.specs.declared.Circumstances.{Circumstances}
 use Rattle.rules.specs.Words.{bit, pick}
-use Rattle.rules.specs.Numbers.{State, answer_number}
+use Rattle.std.specs.Prelude.{Ok, Err}
+use Rattle.rules.specs.Numbers.{Answer, State, answer_number}
 use Rattle.rules.specs.Machine.{Outcome, step, left}
 use Rattle.rules.specs.Promises.{Bench, Returned, zeroed, bench_of, carried_of, state_of, FramePromise, CompletionPromise}
 use Rattle.memory.specs.Patched.{Patched}
@@ -179,15 +179,15 @@ module _ (b : Bench) (allowance e n : ℕ) (frame : List ℕ) (next : ℕ → Sc
 -- ---- the answer's number is 0 exactly where it is done
 
 abbrev is_done : Answer → Bool
-is_done Answer.Done = true
-is_done (Answer.Refused w) = false
+is_done (Ok x) = true
+is_done (Err w) = false
 
-pub refused_some : (a : Answer) (w : Refusal) → a ≡ Answer.Refused w → eqb (answer_number a) 0 ≡ false
+pub refused_some : (a : Answer) (w : Refusal) → a ≡ Err w → eqb (answer_number a) 0 ≡ false
 refused_some a w e =
     ap (λ (x : Answer). eqb (answer_number x) 0) e
-    ∙ ne_eqb (answer_number (Answer.Refused w)) 0 (λ z. true≢false (sym (ap is_done (answer_one (Answer.Refused w) Answer.Done z))))
+    ∙ ne_eqb (answer_number (Err w)) 0 (λ z. true≢false (sym (ap is_done (answer_one (Err w) (Ok tt) z))))
 
-pub done_none : (a : Answer) → a ≡ Answer.Done → eqb (answer_number a) 0 ≡ true
+pub done_none : (a : Answer) → a ≡ Ok tt → eqb (answer_number a) 0 ≡ true
 done_none a e = ap (λ (x : Answer). eqb (answer_number x) 0) e
 
 -- ---- a frame of two parts

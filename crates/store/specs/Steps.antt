@@ -1,8 +1,7 @@
 -- What a step of a call promises: it is the machine's, and what it leaves of the chip and the memories.
 use Rattle.std.specs.Prelude.{ℕ, ◌≡◌, Bool, List, [], ◌∷◌}
-use Rattle.rules.specs.declared.Answer.{Answer}
 use Rattle.rules.specs.Words.{bit, pick}
-use Rattle.rules.specs.Numbers.{State, answer_number}
+use Rattle.rules.specs.Numbers.{Answer, State, answer_number}
 use Rattle.rules.specs.Machine.{Outcome, completion, step, left}
 use Rattle.rules.specs.Promises.{Bench, bench_of, state_of}
 use Rattle.stations.specs.declared.StoreRecord.{StoreRecord}

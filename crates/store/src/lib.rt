@@ -11,7 +11,7 @@ ghost use Rattle.stations.specs.Calls.{list_size};
 ghost use Rattle.stations.specs.Promises.{desk_of, LookupPromise, StorePromise};
 ghost use Rattle.store.specs.Steps.{read_frame};
 
-use rules::{After, Answer, Chip};
+use rules::{After, Chip};
 pub use stations::StoreRecord;
 
 // The read of the whole list.
@@ -66,7 +66,7 @@ pub fn lookup(
     let after = read_list(c, array, security, reply, marks);
     let answer = after.answer;
     let next = after.chip;
-    let Answer::Done = answer else {
+    let Ok(()) = answer else {
         return StoreRecord {
             chip: next,
             number: chip::answer_number(answer),
@@ -123,7 +123,7 @@ pub fn store(
     let after = read_list(c, array, security, reply, marks);
     let answer = after.answer;
     let next = after.chip;
-    let Answer::Done = answer else {
+    let Ok(()) = answer else {
         return StoreRecord {
             chip: next,
             number: chip::answer_number(answer),

@@ -7,7 +7,7 @@ ghost use Rattle.stations.specs.Calls.{list_size, ends, played, polling};
 ghost use Rattle.stations.specs.Calls as calls;
 ghost use Rattle.store.specs.Steps.{most_polls, leaves, SentPromise, ArrivedPromise, PolledPromise};
 
-use rules::{After, Answer, Chip, Circumstances, Tear};
+use rules::{After, Chip, Circumstances, Refusal, Tear};
 use stations::StoreRecord;
 
 // A frame of the store is no reset: it tears nothing.
@@ -43,7 +43,7 @@ fn arrived(c: Chip, array: &mut [u8], security: &mut [u8], arrives: bool) -> Chi
 // What a poll tells.
 #[derive(Clone, Copy)]
 struct Polled {
-    answer: Answer,
+    answer: Result<(), Refusal>,
     chip: Chip,
     busy: bool,
 }
@@ -102,7 +102,7 @@ fn poll(
         let t = poll_once(at, array, security, arrives);
         let answer = t.answer;
         at = t.chip;
-        let Answer::Done = answer else {
+        let Ok(()) = answer else {
             return StoreRecord {
                 chip: at,
                 number: chip::answer_number(answer),
@@ -142,7 +142,7 @@ fn write(
     let latched = send(c, array, security, b"\x06");
     let open = latched.answer;
     let ready = latched.chip;
-    let Answer::Done = open else {
+    let Ok(()) = open else {
         return StoreRecord {
             chip: ready,
             number: chip::answer_number(open),
@@ -152,7 +152,7 @@ fn write(
     let begun = send(ready, array, security, frame);
     let taken = begun.answer;
     let at_work = begun.chip;
-    let Answer::Done = taken else {
+    let Ok(()) = taken else {
         return StoreRecord {
             chip: at_work,
             number: chip::answer_number(taken),

@@ -3,22 +3,22 @@
 
 ghost use Rattle.std.specs.Prelude.{◌≡◌};
 
-use rules::{Answer, Refusal, Rest, Turn};
+use rules::{Refusal, Rest, Turn};
 
 pub fn refused(why: Refusal, r: Rest) -> Turn
-    ensures { result ≡ record { answer = Answer.Refused why; rest = r } }
+    ensures { result ≡ record { answer = Err why; rest = r } }
 {
     Turn {
-        answer: Answer::Refused(why),
+        answer: Err(why),
         rest: r,
     }
 }
 
 pub fn done(r: Rest) -> Turn
-    ensures { result ≡ record { answer = Answer.Done; rest = r } }
+    ensures { result ≡ record { answer = Ok tt; rest = r } }
 {
     Turn {
-        answer: Answer::Done,
+        answer: Ok(()),
         rest: r,
     }
 }

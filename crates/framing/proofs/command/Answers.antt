@@ -16,8 +16,8 @@ respond-requires c = let a = c.args in let p = c.requires in showable a.r a.page
 pub page_after-requires : goal.page_after-requires
 page_after-requires c = let a = c.args in let p = c.requires in (p.paged, (frame_parts a.r a.page.now a.array.now a.security.now a.sent.now a.reply.now a.marks.now zeroed p.fits).0)
 
-pub returns-in-Done : goal.returns-in-Done
-returns-in-Done c = let a = c.args in let p = c.requires in λ x. record { outcome = frame_done a.r a.page.now a.array.now a.security.now a.sent.now a.reply.now a.marks.now x _ _ _ _ _ _ p (sym (ap answer_number c.in-Done.is) ∙ c.judge-answer.ensures) (ap (λ (f : Form). f.kind) c.form_of-form.ensures) c.done.ensures c.acted.ensures c.page_after.ensures c.respond.ensures }
+pub returns-in-Ok : goal.returns-in-Ok
+returns-in-Ok c = let a = c.args in let p = c.requires in λ x. record { outcome = frame_done a.r a.page.now a.array.now a.security.now a.sent.now a.reply.now a.marks.now x _ _ _ _ _ _ p (sym (ap answer_number c.in-Ok.is) ∙ c.judge-answer.ensures) (ap (λ (f : Form). f.kind) c.form_of-form.ensures) c.done.ensures c.acted.ensures c.page_after.ensures c.respond.ensures }
 
-pub returns-in-Refused : goal.returns-in-Refused
-returns-in-Refused c = let a = c.args in let p = c.requires in λ x. record { outcome = frame_refused a.r a.page.now a.array.now a.security.now a.sent.now a.reply.now a.marks.now x _ _ _ _ _ p (sym (ap answer_number c.in-Refused.is) ∙ c.judge-answer.ensures) c.refused.ensures c.used.ensures c.fill_both.ensures }
+pub returns-in-Err : goal.returns-in-Err
+returns-in-Err c = let a = c.args in let p = c.requires in λ x. record { outcome = frame_refused a.r a.page.now a.array.now a.security.now a.sent.now a.reply.now a.marks.now x _ _ _ _ _ p (sym (ap answer_number c.in-Err.is) ∙ c.judge-answer.ensures) c.refused.ensures c.used.ensures c.fill_both.ensures }

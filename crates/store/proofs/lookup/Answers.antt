@@ -24,7 +24,7 @@ pub returns-then-i-eq2048 : goal.returns-then-i-eq2048
 unfolding slot_of
 returns-then-i-eq2048 c = let a = c.args in let g = c.read_list-after in let ok = sym c.lengths_right.ensures ∙ c.if-not-lengths_right.false in
     let gave = returned_of g.result g.new.array g.new.security g.new.reply g.new.marks in
-    lookup_17 a.s (desk_of a.array.now a.security.now a.reply.now a.marks.now) a.station a.buffer.now ok gave (read_is g.ensures) (done_none _ c.in-Done.is) _ c.live_from-i.ensures.value c.if-i-eq2048.true
+    lookup_17 a.s (desk_of a.array.now a.security.now a.reply.now a.marks.now) a.station a.buffer.now ok gave (read_is g.ensures) (done_none _ c.in-Ok.is) _ c.live_from-i.ensures.value c.if-i-eq2048.true
 
 pub give-requires : goal.give-requires
 give-requires c = let a = c.args in let r = right_lengths (length a.reply.now) (length a.marks.now) (length a.buffer.now) c.lengths_right.ensures c.if-not-lengths_right.false in (r.2, c.read_list-after.auto.reply ∙ r.0, omega (arith, c.if-i-eq2048.false, c.live_from-i.ensures.within.1))
@@ -33,4 +33,4 @@ pub returns : goal.returns
 unfolding slot_of
 returns c = let a = c.args in let g = c.read_list-after in let ok = sym c.lengths_right.ensures ∙ c.if-not-lengths_right.false in
     let gave = returned_of g.result g.new.array g.new.security g.new.reply g.new.marks in
-    lookup_found a.s (desk_of a.array.now a.security.now a.reply.now a.marks.now) a.station a.buffer.now ok gave (read_is g.ensures) (done_none _ c.in-Done.is) _ c.live_from-i.ensures.value (omega (arith, c.if-i-eq2048.false, c.live_from-i.ensures.within.1)) _ c.give.ensures
+    lookup_found a.s (desk_of a.array.now a.security.now a.reply.now a.marks.now) a.station a.buffer.now ok gave (read_is g.ensures) (done_none _ c.in-Ok.is) _ c.live_from-i.ensures.value (omega (arith, c.if-i-eq2048.false, c.live_from-i.ensures.within.1)) _ c.give.ensures

@@ -26,7 +26,7 @@ slot_for-i-requires c = let a = c.args in let q = and_split c.lengths_right.resu
 pub returns-then-i-eq2048 : goal.returns-then-i-eq2048
 returns-then-i-eq2048 c = let a = c.args in let g = c.read_list-after in let ok = ap (λ (b : Bool). b && leb a.allowance 65535) (sym c.lengths_right.ensures) ∙ c.if-not-lengths_right-allowance.false in
     let gave = returned_of g.result g.new.array g.new.security g.new.reply g.new.marks in
-    store_16 a.s (desk_of a.array.now a.security.now a.reply.now a.marks.now) a.station a.«data».now a.allowance a.list.now ok gave (read_is g.ensures) (done_none _ c.in-Done.is) _ c.slot_for-i.ensures.value c.if-i-eq2048.true
+    store_16 a.s (desk_of a.array.now a.security.now a.reply.now a.marks.now) a.station a.«data».now a.allowance a.list.now ok gave (read_is g.ensures) (done_none _ c.in-Ok.is) _ c.slot_for-i.ensures.value c.if-i-eq2048.true
 
 pub write_all-requires : goal.write_all-requires
 write_all-requires c = let a = c.args in let q = and_split c.lengths_right.result (leb a.allowance 65535) c.if-not-lengths_right-allowance.false in let r = right_lengths (length a.reply.now) (length a.marks.now) (length a.«data».now) c.lengths_right.ensures q.0 in (omega (arith, c.if-i-eq2048.false, c.slot_for-i.ensures.within), c.read_list-after.auto.reply ∙ r.0, r.2, leb-true _ 65535 q.1)
@@ -40,4 +40,4 @@ shape_of-security c = c.write_all.auto.security ∙ c.read_list-after.auto.secur
 pub returns : goal.returns
 returns c = let a = c.args in let g = c.read_list-after in let ok = ap (λ (b : Bool). b && leb a.allowance 65535) (sym c.lengths_right.ensures) ∙ c.if-not-lengths_right-allowance.false in
     let gave = returned_of g.result g.new.array g.new.security g.new.reply g.new.marks in
-    store_written a.s (desk_of a.array.now a.security.now a.reply.now a.marks.now) a.station a.«data».now a.allowance a.list.now ok gave (read_is g.ensures) (done_none _ c.in-Done.is) _ c.slot_for-i.ensures.value (omega (arith, c.if-i-eq2048.false, c.slot_for-i.ensures.within)) _ _ _ c.write_all.ensures
+    store_written a.s (desk_of a.array.now a.security.now a.reply.now a.marks.now) a.station a.«data».now a.allowance a.list.now ok gave (read_is g.ensures) (done_none _ c.in-Ok.is) _ c.slot_for-i.ensures.value (omega (arith, c.if-i-eq2048.false, c.slot_for-i.ensures.within)) _ _ _ c.write_all.ensures

@@ -6,11 +6,11 @@ use mathlib.Core.Bool.{Bool, false}
 use mathlib.Core.List.{List, []}
 use lib.ListN.{length}
 use Rattle.rules.specs.declared.After.{After}
-use Rattle.rules.specs.declared.Answer.{Answer}
 use Rattle.rules.specs.declared.Circumstances.{Circumstances}
 use Rattle.rules.specs.declared.Refusal.{Refusal}
 use Rattle.rules.specs.declared.Rest.{Rest}
 use Rattle.rules.specs.Fields.{chip_of}
+use Rattle.std.specs.Prelude.{Err}
 use Rattle.rules.specs.Numbers.{state_right}
 use Rattle.rules.specs.Promises.{Bench, Returned, bench_of, carried_of, returned_of, after_of, state_of, FramePromise, CompletionPromise}
 use Rattle.rules.specs.Tears.{resets}
@@ -33,7 +33,7 @@ module _ (b : Bench) (sent reply marks : List ℕ) where
 
 cut_met : (r : Rest) (page array security sent reply marks : List ℕ) (known : Bool) (e : Event) → e ≡ Event.Cut → known ≡ state_right (state_of (bench_of (chip_of page r) array security))
     → cutting e known ≡ false → LentFor e reply → LentFor e marks
-    → TurnPromise (bench_of (chip_of page r) array security) e sent reply marks (returned_of (after_of (record { answer = Answer.Refused Refusal.Malformed; rest = r }) page) array security reply marks)
+    → TurnPromise (bench_of (chip_of page r) array security) e sent reply marks (returned_of (after_of (record { answer = Err Refusal.Malformed; rest = r }) page) array security reply marks)
 cut_met r page array security sent reply marks known e t k = rw t (λ n ey em x. rw (ey, em) (record { outcome = cut_malformed r page array security known k x.tear _ refl n }))
 
 pub plain_turn-requires : goal.plain_turn-requires

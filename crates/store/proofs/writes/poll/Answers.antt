@@ -31,7 +31,7 @@ shape_of-security-then-not-t c = c.poll_once-t.auto.security ∙ c.loop-made.inv
 
 pub returns-then-not-t : goal.returns-then-not-t
 returns-then-not-t c = let l = c.loop-made in let a = c.args in record {
-  security_after = poll_ended (bench_of l.at l.array l.security) a.allowance l.made a.entry a.polls (omega (arith, c.loop-made-test.true)) c.arrives_next-arrives.ensures c.poll_once-t.ensures (done_none _ c.in-Done.is) (not-true _ c.if-not-t.true)
+  security_after = poll_ended (bench_of l.at l.array l.security) a.allowance l.made a.entry a.polls (omega (arith, c.loop-made-test.true)) c.arrives_next-arrives.ensures c.poll_once-t.ensures (done_none _ c.in-Ok.is) (not-true _ c.if-not-t.true)
       ∙ l.invariant.3;
   few = omega (arith, c.loop-made-test.true);
 }
@@ -41,7 +41,7 @@ loop-made-preserved c = let l = c.loop-made in let a = c.args in (
   omega (arith, c.loop-made-test.true),
   c.poll_once-t.auto.array ∙ c.loop-made.invariant.1,
   c.poll_once-t.auto.security ∙ c.loop-made.invariant.2,
-  poll_again (bench_of l.at l.array l.security) a.allowance l.made a.entry a.polls (omega (arith, c.loop-made-test.true)) c.arrives_next-arrives.ensures c.poll_once-t.ensures (done_none _ c.in-Done.is) (not-false _ c.if-not-t.false)
+  poll_again (bench_of l.at l.array l.security) a.allowance l.made a.entry a.polls (omega (arith, c.loop-made-test.true)) c.arrives_next-arrives.ensures c.poll_once-t.ensures (done_none _ c.in-Ok.is) (not-false _ c.if-not-t.false)
       ∙ l.invariant.3,
 )
 

@@ -12,7 +12,7 @@ returns-in_default c = let a = c.args in
 
 pub returns-in_default-taken : goal.returns-in_default-taken
 returns-in_default-taken c = let a = c.args in
-    record { security_after = frame_refused (bench_of a.s.chip a.array.now a.security.now) a.allowance a.entry a.s.polls a.frame.now (ends 0) c.send-latched.ensures (done_none _ c.in-Done.is) c.send-begun.ensures c.answer_number-in_default-taken.ensures (refused_some _ _ c.in_default-taken.is); few = omega arith }
+    record { security_after = frame_refused (bench_of a.s.chip a.array.now a.security.now) a.allowance a.entry a.s.polls a.frame.now (ends 0) c.send-latched.ensures (done_none _ c.in-Ok.is) c.send-begun.ensures c.answer_number-in_default-taken.ensures (refused_some _ _ c.in_default-taken.is); few = omega arith }
 
 pub poll-requires : goal.poll-requires
 poll-requires c = c.requires
@@ -25,4 +25,4 @@ shape_of-security c = c.poll.auto.security ∙ c.send-begun.auto.security ∙ c.
 
 pub returns : goal.returns
 returns c = let a = c.args in let polled = c.poll.ensures in
-    record { security_after = polled.security_after ∙ frame_begun (bench_of a.s.chip a.array.now a.security.now) a.allowance a.entry a.s.polls a.frame.now (ends 0) c.send-latched.ensures (done_none _ c.in-Done.is) c.send-begun.ensures (done_none _ c.in-Done-taken.is); few = polled.few }
+    record { security_after = polled.security_after ∙ frame_begun (bench_of a.s.chip a.array.now a.security.now) a.allowance a.entry a.s.polls a.frame.now (ends 0) c.send-latched.ensures (done_none _ c.in-Ok.is) c.send-begun.ensures (done_none _ c.in-Ok-taken.is); few = polled.few }
