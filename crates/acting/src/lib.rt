@@ -6,15 +6,15 @@ ghost use Rattle.rules.specs.Fields.{with_protection, with_running, with_suspend
 ghost use Rattle.rules.specs.Commands.{work_of, at_once, act};
 
 use numbering::burst_of;
-use rules::{Burst, Kind, Long, Rest, Short, Work, Works};
+use rules::{Burst, Kind, Long, Rest, Short, Work};
 
 // The enable is used up.
 pub fn used(r: Rest) -> Rest
     ensures { result ≡ with_enable false r }
 {
-    let mut left = r;
-    left.flags.enable = false;
-    left
+    let mut next = r;
+    next.flags.enable = false;
+    next
 }
 
 // ---- long commands
@@ -24,29 +24,15 @@ fn work_of(l: Long, sent: &[u8]) -> Work
     ensures { result ≡ work_of l sent.now }
 {
     match l {
-        Long::Sector => {
-            let a = opcodes::address_of(sent);
-            Work::EraseSector(a / 4096)
-        }
-        Long::Block => {
-            let a = opcodes::address_of(sent);
-            Work::EraseBlock(blocks::block_of(a))
-        }
+        Long::Sector => Work::EraseSector(opcodes::address_of(sent) / 4096),
+        Long::Block => Work::EraseBlock(blocks::block_of(opcodes::address_of(sent))),
         Long::Array => Work::EraseArray,
-        Long::Page => {
-            let a = opcodes::address_of(sent);
-            Work::ProgramPage(a / 256)
-        }
-        Long::SecurityPage => {
-            let a = opcodes::security_address_of(sent);
-            Work::ProgramSecurity(a / 256)
-        }
+        Long::Page => Work::ProgramPage(opcodes::address_of(sent) / 256),
+        Long::SecurityPage => Work::ProgramSecurity(opcodes::security_address_of(sent) / 256),
         Long::SecurityLock => Work::LockSecurity,
         Long::Configuration => {
             let v = opcodes::sent_byte(sent, 2);
-            let ioc = blocks::bit_at(v, 1);
-            let wpen = blocks::bit_at(v, 7);
-            Work::WriteConfiguration(ioc, wpen)
+            Work::WriteConfiguration(blocks::bit_at(v, 1), blocks::bit_at(v, 7))
         }
         Long::Permanent => Work::AddPermanent(opcodes::six_of(sent)),
     }
@@ -55,15 +41,8 @@ fn work_of(l: Long, sent: &[u8]) -> Work
 fn begin(r: Rest, w: Work) -> Rest
     ensures { result ≡ with_running w (with_enable false r) }
 {
-    let works = r.works;
-    let aside = works.suspended;
-    let both = Works {
-        running: w,
-        suspended: aside,
-    };
-    let mut next = r;
-    next.works = both;
-    next.flags.enable = false;
+    let mut next = used(r);
+    next.works.running = w;
     next
 }
 
@@ -72,68 +51,52 @@ fn begin(r: Rest, w: Work) -> Rest
 fn suspend(r: Rest) -> Rest
     ensures { result ≡ with_suspended r.works.running (with_running Work.Nothing (with_enable false r)) }
 {
-    let works = r.works;
-    let run = works.running;
-    let both = Works {
-        running: Work::Nothing,
-        suspended: run,
-    };
-    let mut next = r;
-    next.works = both;
-    next.flags.enable = false;
+    let mut next = used(r);
+    next.works.suspended = r.works.running;
+    next.works.running = Work::Nothing;
     next
 }
 
 fn resume(r: Rest) -> Rest
     ensures { result ≡ with_running r.works.suspended (with_suspended Work.Nothing (with_enable false r)) }
 {
-    let works = r.works;
-    let aside = works.suspended;
-    let both = Works {
-        running: aside,
-        suspended: Work::Nothing,
-    };
-    let mut next = r;
-    next.works = both;
-    next.flags.enable = false;
+    let mut next = used(r);
+    next.works.running = r.works.suspended;
+    next.works.suspended = Work::Nothing;
     next
 }
 
 fn with_wel(r: Rest, on: bool) -> Rest
     ensures { result ≡ with_wel on (with_enable false r) }
 {
-    let mut next = r;
+    let mut next = used(r);
     next.flags.wel = on;
-    next.flags.enable = false;
     next
 }
 
 fn with_protocol(r: Rest, sqi: bool) -> Rest
     ensures { result ≡ with_sqi sqi (with_enable false r) }
 {
-    let mut next = r;
+    let mut next = used(r);
     next.flags.sqi = sqi;
-    next.flags.enable = false;
     next
 }
 
 fn with_locks(r: Rest, p: u64) -> Rest
     ensures { result ≡ with_wel false (with_protection p (with_enable false r)) }
 {
-    let mut next = r;
+    let mut next = used(r);
     next.locks.protection = p;
     next.flags.wel = false;
-    next.flags.enable = false;
     next
 }
 
 fn locked_down(r: Rest) -> Rest
     ensures { result ≡ with_wel false (with_wpld true (with_enable false r)) }
 {
-    let mut next = r;
+    let mut next = used(r);
     next.flags.wpld = true;
     next.flags.wel = false;
-    next.flags.enable = false;
     next
 }
 
@@ -148,15 +111,9 @@ fn enabled(r: Rest) -> Rest
 fn with_burst(r: Rest, b: Burst) -> Rest
     ensures { result ≡ with_burst b (with_enable false r) }
 {
-    let locks = r.locks;
-    let works = r.works;
-    let mut flags = r.flags;
-    flags.enable = false;
     Rest {
-        locks,
-        works,
-        flags,
         burst: b,
+        ..used(r)
     }
 }
 

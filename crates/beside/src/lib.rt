@@ -9,7 +9,7 @@ ghost use Rattle.rules.specs.Frames.{address};
 ghost use Rattle.rules.specs.WellFormed.{numbers_right};
 ghost use Rattle.rules.specs.Numbers.{suspension};
 
-use rules::{Range, Rest, Work};
+use rules::{Range, Rest, Work, Works};
 
 // With WSE 1.
 fn beside_erase(aside: Work, op: u8, sent: &[u8]) -> bool
@@ -53,9 +53,10 @@ fn conflicts_beside(r: Rest, op: u8, sent: &[u8]) -> bool
     requires { numbers_right r.works.suspended ≡ true }
     ensures { result ≡ suspension r op sent.now }
 {
-    let works = r.works;
-    let run = works.running;
-    let aside = works.suspended;
+    let Works {
+        running: run,
+        suspended: aside,
+    } = r.works;
     let wrongly = named::is(op, 0xb0) & !(blocks::can_suspend(run) & blocks::is_nothing(aside));
     let nothing = named::is(op, 0x30) & blocks::is_nothing(aside);
     let waits = named::must_wait(op) & !blocks::is_nothing(aside);
@@ -72,9 +73,10 @@ pub fn conflicts(r: Rest, op: u8, sent: &[u8]) -> bool
     requires { numbers_right r.works.suspended ≡ true }
     ensures { result ≡ suspension r op sent.now }
 {
-    let works = r.works;
-    let run = works.running;
-    let aside = works.suspended;
+    let Works {
+        running: run,
+        suspended: aside,
+    } = r.works;
     if blocks::is_nothing(aside) {
         return named::is(op, 0xb0) & !blocks::can_suspend(run) | named::is(op, 0x30);
     }

@@ -21,7 +21,7 @@ fn least_length(r: Rest, f: Form) -> usize
 fn not_listed(r: Rest, f: Form) -> bool
     ensures { result ≡ not (listed r.flags.sqi f) }
 {
-    !(least_length(r, f) != 0)
+    least_length(r, f) == 0
 }
 
 fn wrong_length(r: Rest, f: Form, n: usize) -> bool
@@ -34,9 +34,7 @@ fn wrong_length(r: Rest, f: Form, n: usize) -> bool
 fn while_busy(r: Rest, op: u8) -> bool
     ensures { result ≡ while_busy r op }
 {
-    let works = r.works;
-    let run = works.running;
-    !blocks::is_nothing(run) & !named::passes_busy(op)
+    !blocks::is_nothing(r.works.running) & !named::passes_busy(op)
 }
 
 fn no_enable(r: Rest, op: u8) -> bool

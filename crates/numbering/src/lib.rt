@@ -31,20 +31,12 @@ pub fn number_of(w: Work) -> u64
     ensures { result ≡ number_of w }
 {
     match w {
-        Work::Nothing => 0,
-        Work::EraseSector(n) => n as u64,
-        Work::EraseBlock(n) => n as u64,
-        Work::EraseArray => 0,
-        Work::ProgramPage(n) => n as u64,
-        Work::ProgramSecurity(n) => n as u64,
-        Work::LockSecurity => 0,
-        Work::WriteConfiguration(ioc, wpen) => {
-            if ioc {
-                if wpen { 3 } else { 1 }
-            } else {
-                if wpen { 2 } else { 0 }
-            }
-        }
+        Work::Nothing | Work::EraseArray | Work::LockSecurity => 0,
+        Work::EraseSector(n)
+        | Work::EraseBlock(n)
+        | Work::ProgramPage(n)
+        | Work::ProgramSecurity(n) => n as u64,
+        Work::WriteConfiguration(ioc, wpen) => u64::from(ioc) + 2 * u64::from(wpen),
         Work::AddPermanent(v) => v,
     }
 }
@@ -78,20 +70,20 @@ pub fn work_of(kind: u64, n: u64) -> Work
 pub fn bit_of(on: bool) -> u64
     ensures { (result ≡ num on) × (result ≤ 1) }
 {
-    if on { 1 } else { 0 }
+    u64::from(on)
 }
 
 pub fn flags_number(f: Flags) -> u64
     ensures { result ≡ flags_number f }
 {
-    bit_of(f.sqi)
-        + 2 * bit_of(f.wel)
-        + 4 * bit_of(f.ioc)
-        + 8 * bit_of(f.wpen)
-        + 16 * bit_of(f.wpld)
-        + 32 * bit_of(f.sec)
-        + 64 * bit_of(f.enable)
-        + 128 * bit_of(f.ba)
+    u64::from(f.sqi)
+        + 2 * u64::from(f.wel)
+        + 4 * u64::from(f.ioc)
+        + 8 * u64::from(f.wpen)
+        + 16 * u64::from(f.wpld)
+        + 32 * u64::from(f.sec)
+        + 64 * u64::from(f.enable)
+        + 128 * u64::from(f.ba)
 }
 
 pub fn flags_of(x: u8) -> Flags
@@ -115,24 +107,14 @@ pub fn flags_of(x: u8) -> Flags
 pub fn burst_byte(b: Burst) -> u64
     ensures { result ≡ burst_byte b }
 {
-    match b {
-        Burst::Eight => 0,
-        Burst::Sixteen => 1,
-        Burst::ThirtyTwo => 2,
-        Burst::SixtyFour => 3,
-    }
+    b as u64
 }
 
 // How many bytes it has.
 pub fn burst_length(b: Burst) -> usize
     ensures { result ≡ burst_length b }
 {
-    match b {
-        Burst::Eight => 8,
-        Burst::Sixteen => 16,
-        Burst::ThirtyTwo => 32,
-        Burst::SixtyFour => 64,
-    }
+    8 << (b as usize)
 }
 
 // The burst that a byte sets.

@@ -24,14 +24,13 @@ fn at_least(kind: Kind, spi: usize, sqi: usize) -> Form
     ensures { result ≡ record { kind = kind; spi = spi; sqi = sqi; more = true } }
 {
     Form {
-        kind,
-        spi,
-        sqi,
         more: true,
+        ..exact(kind, spi, sqi)
     }
 }
 
 // The table of frames, document 01's and 02's, by the opcode; an opcode that it does not list is in no protocol.
+#[tactic(auto, unfolding(rules::specs::Frames::form_of, rules::specs::Frames::find, rules::specs::Frames::frames))]
 pub fn form_of(op: u8) -> Form
     ensures { result ≡ form_of op }
 {
@@ -69,29 +68,7 @@ pub fn form_of(op: u8) -> Form
         0xe8 => exact(Kind::Begin(Long::Permanent), 7, 7),
         0xec => exact(Kind::Show(Source::ArrayBurst), 7, 0),
         0xff => exact(Kind::Do(Short::ToSpi), 1, 1),
-        0x07..=0x0a
-        | 0x0d..=0x1f
-        | 0x21..=0x2f
-        | 0x31
-        | 0x33..=0x34
-        | 0x36..=0x37
-        | 0x39..=0x41
-        | 0x43..=0x65
-        | 0x67..=0x6a
-        | 0x6c..=0x71
-        | 0x73..=0x84
-        | 0x86..=0x87
-        | 0x89..=0x8c
-        | 0x8e..=0x97
-        | 0x9a..=0x9e
-        | 0xa0..=0xa4
-        | 0xa6..=0xae
-        | 0xb1..=0xbf
-        | 0xc1..=0xc6
-        | 0xc8..=0xd7
-        | 0xd9..=0xe7
-        | 0xe9..=0xeb
-        | 0xed..=0xfe => exact(Kind::Do(Short::Nothing), 0, 0),
+        _ => exact(Kind::Do(Short::Nothing), 0, 0),
     }
 }
 
@@ -102,7 +79,7 @@ pub fn sent_byte(sent: &[u8], i: usize) -> u64
     ensures value { result ≡ sent_byte sent.now i }
     ensures small { result < 256 }
 {
-    if i < sent.len() { sent[i] as u64 } else { 0 }
+    u64::from(sent.get(i).copied().unwrap_or(0))
 }
 
 // Two bytes from byte i on, highest first.

@@ -7,14 +7,12 @@ ghost use Rattle.rules.specs.Commands.{buffer_of, buffer_at_once, buffer_after, 
 use rules::{Kind, Long, Short, Work};
 
 // With which a long command starts.
+#[tactic(auto, unfolding(rules::specs::Programs::page_buffer, rules::specs::Programs::security_buffer))]
 fn page_of(l: Long, sent: &[u8], page: &mut [u8])
     requires { (length page.old ≡ 256) × (length sent.now ≤ 65536) }
     ensures { page.new ≡ buffer_of l sent.now page.old }
 {
     match l {
-        Long::Sector => {}
-        Long::Block => {}
-        Long::Array => {}
         Long::Page => {
             let a = opcodes::address_of(sent);
             memory::fill_page(page, sent, 4, a % 256);
@@ -23,9 +21,7 @@ fn page_of(l: Long, sent: &[u8], page: &mut [u8])
             let a = opcodes::security_address_of(sent);
             memory::fill_page(page, sent, 3, a % 256);
         }
-        Long::SecurityLock => {}
-        Long::Configuration => {}
-        Long::Permanent => {}
+        _ => {}
     }
 }
 
@@ -34,20 +30,8 @@ fn page_at_once(s: Short, page: &mut [u8])
     requires { length page.old ≡ 256 }
     ensures { page.new ≡ buffer_at_once s page.old }
 {
-    match s {
-        Short::Nothing => {}
-        Short::EnableReset => {}
-        Short::Reset => memory::blank_page(page),
-        Short::ToSqi => {}
-        Short::ToSpi => {}
-        Short::SetWel => {}
-        Short::ClearWel => {}
-        Short::WriteProtection => {}
-        Short::LockDown => {}
-        Short::ClearLocks => {}
-        Short::Suspend => {}
-        Short::Resume => {}
-        Short::SetBurst => {}
+    if s == Short::Reset {
+        memory::blank_page(page);
     }
 }
 

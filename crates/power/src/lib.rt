@@ -5,7 +5,7 @@ ghost use Rattle.std.specs.Prelude.{◌≡◌, false};
 ghost use Rattle.rules.specs.Fields.{with_enable};
 ghost use Rattle.rules.specs.Commands.{power_up_ioc, powered_up, after_reset};
 
-use rules::{Burst, Flags, Locks, Rest, Work, Works};
+use rules::{Burst, Flags, Locks, Rest, Works};
 
 // IOC at power-up and after a reset, by the part.
 fn power_up_ioc(ba: bool) -> bool
@@ -18,27 +18,20 @@ fn power_up_ioc(ba: bool) -> bool
 pub fn powered_up(ba: bool, sec: bool, wpen: bool, permanent: u64) -> Rest
     ensures { result ≡ powered_up ba sec wpen permanent }
 {
-    let ioc = power_up_ioc(ba);
     Rest {
         locks: Locks {
             protection: 0x5555_ffff_ffff,
             permanent,
         },
-        works: Works {
-            running: Work::Nothing,
-            suspended: Work::Nothing,
-        },
+        works: Works::default(),
         flags: Flags {
-            sqi: false,
-            wel: false,
-            ioc,
-            wpen,
-            wpld: false,
-            sec,
-            enable: false,
             ba,
+            sec,
+            ioc: power_up_ioc(ba),
+            wpen,
+            ..Flags::default()
         },
-        burst: Burst::Eight,
+        burst: Burst::default(),
     }
 }
 
@@ -52,21 +45,12 @@ pub fn new_rest(ba: bool) -> Rest
 pub fn reset(r: Rest) -> Rest
     ensures { result ≡ after_reset (with_enable false r) }
 {
-    let none = Works {
-        running: Work::Nothing,
-        suspended: Work::Nothing,
-    };
-    let locks = r.locks;
-    let burst = Burst::Eight;
-    let mut flags = r.flags;
-    flags.sqi = false;
-    flags.wel = false;
-    flags.ioc = power_up_ioc(r.flags.ba);
-    flags.enable = false;
-    Rest {
-        locks,
-        works: none,
-        flags,
-        burst,
-    }
+    let mut next = r;
+    next.works = Works::default();
+    next.burst = Burst::default();
+    next.flags.sqi = false;
+    next.flags.wel = false;
+    next.flags.ioc = power_up_ioc(r.flags.ba);
+    next.flags.enable = false;
+    next
 }

@@ -4,15 +4,16 @@
 ghost use Rattle.std.specs.Prelude.{◌≡◌};
 ghost use Rattle.rules.specs.Registers.{status, configuration};
 
-use rules::Rest;
+use rules::{Rest, Works};
 
 // Status, bit by bit.
 pub fn status_of(r: Rest) -> u8
     ensures { result ≡ status r }
 {
-    let works = r.works;
-    let run = works.running;
-    let aside = works.suspended;
+    let Works {
+        running: run,
+        suspended: aside,
+    } = r.works;
     let busy = !blocks::is_nothing(run);
     let wse = blocks::is_erase(aside);
     let wsp = blocks::is_program(aside);
