@@ -1,8 +1,8 @@
 -- Assumes nothing.
-use Rattle.std.proofs.Common.{◌∙◌}
+use Rattle.std.proofs.Common.{arith}
 use Rattle.image_records.proofs.Laws.{number_at}
 use Rattle.image_records.proofs.two.Goals as goal
 
 pub returns : goal.returns
-returns c = let b = c in
-    record { value = c.joined.ensures.value ∙ number_at b.args.l.now b.args.at b.requires; small = c.joined.ensures.small }
+returns c = let a = c.args in
+    record { value = number_at a.l.now a.at c.requires; small = omega (arith, c.type_inv.l a.at, c.type_inv.l (a.at + 1)) }

@@ -1,8 +1,8 @@
 -- The fold's clause says that it is the OR of those bytes. Assumes nothing.
-use Prim.Native.Nat.{ℕ, zero, suc, ◌+◌, ◌-◌, ◌*◌, ◌≤◌}
-use mathlib.Core.Path.{◌≡◌, refl, sym, ap, ◌∙◌}
-use mathlib.Core.Bool.{Bool, true, ◌&&◌, and-true}
-use mathlib.Core.List.{List, ◌∷◌}
+use Prim.Native.Nat.{ℕ, zero, suc, ◌+◌, ◌*◌, ◌≤◌}
+use mathlib.Core.Path.{◌≡◌, sym, ap, ◌∙◌}
+use mathlib.Core.Bool.{true, ◌&&◌, and-true}
+use mathlib.Core.List.{List}
 use native.Mathlib.Omega.{arith}
 use native.Mathlib.Numerals.{add-one}
 use lib.Bits.{bit_or, or_add_and, and_le_l, and_le_r}
@@ -49,6 +49,6 @@ returns c =
     let run = c.fold.ensures.runs in
     let called : c.fold.result ≡ fold (λ x (y : Bor ℕ). bit_or x y.now) 0 run.0.items = run.3 (λ x y. bit_or x y.now) (λ x y r f said. search rules) in
     let e : c.fold.result ≡ fold bit_or 0 (take 28 (drop 292 l)) =
-        called ∙ (c.iter.ensures.runs run.0 run.0.seen).5 bit_or 0 run.2
-        ∙ ap (λ (i : Iter ℕ). fold bit_or 0 i.rest.now) run.1 ∙ ap (fold bit_or 0) c.iter.ensures.rest in
+    called ∙ (c.iter.ensures.runs run.0 run.0.seen).5 bit_or 0 run.2
+    ∙ ap (λ (i : Iter ℕ). fold bit_or 0 i.rest.now) run.1 ∙ ap (fold bit_or 0) c.iter.ensures.rest in
     rw e (zeros l 292 28 0 (omega arith))

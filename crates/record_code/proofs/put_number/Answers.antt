@@ -33,6 +33,7 @@ returns c =
     let a = c.args in
     let size₀ : length (take (a.at + a.n - a.at) (drop a.at a.coded.now)) ≡ a.n = omega (arith, length-take {A = ℕ}, length-drop {A = ℕ}) in
     let size : length l.part ≡ a.n = omega arith in
-    let p : l.part ≡ bytes a.n a.x = put_whole l.part a.n l.b-index l.left a.x size (omega arith) (rw size₀ at l.invariant) in
-    (take-put_mid a.at (a.at + a.n - a.at) a.coded.now l.part (a.at + a.n) (omega arith) (omega arith) ∙ ap (λ (k : List ℕ). take a.at a.coded.now ++ k) p,
-    drop-put_mid a.at (a.at + a.n - a.at) a.coded.now l.part (a.at + a.n) (omega arith) (omega arith) (omega arith))
+    let p : l.part ≡ bytes a.n a.x = put_whole l.part a.n l.b-index l.left a.x size (omega arith) (rw size₀ at l.invariant) in (
+      take-put_mid a.at (a.at + a.n - a.at) a.coded.now l.part (a.at + a.n) (omega arith) (omega arith) ∙ ap (λ (k : List ℕ). take a.at a.coded.now ++ k) p,
+      drop-put_mid a.at (a.at + a.n - a.at) a.coded.now l.part (a.at + a.n) (omega arith) (omega arith) (omega arith),
+    )
