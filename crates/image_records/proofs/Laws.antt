@@ -26,10 +26,13 @@ put_two l at x h = let e : suc at ≡ at + 1 = omega arith in rw (sym e) (sets-e
 -- ---- a sum
 
 -- additions that wrap give the sum
-pub sum_fold : (s : ℕ) (l : List ℕ) → s < 65536 → fold (λ a b. (a + b) % 65536) s l ≡ (s + total l) % 65536
+sum_on : (s : ℕ) (l : List ℕ) → s < 65536 → fold (λ a b. (a + b) % 65536) s l ≡ (s + total l) % 65536
 unfolding total
-sum_fold s [] h = omega arith
-sum_fold s (b ∷ l) h = sum_fold ((s + b) % 65536) l (omega arith) ∙ omega arith
+sum_on s [] h = omega arith
+sum_on s (b ∷ l) h = sum_on ((s + b) % 65536) l (omega arith) ∙ omega arith
+
+pub sum_wraps : (l : List ℕ) → fold (λ a b. (a + b) % 65536) 0 l ≡ sum l
+sum_wraps l = let e : 0 + total l ≡ total l = omega arith in sum_on 0 l (omega arith) ∙ ap (λ n. n % 65536) e
 
 -- ---- bytes put into a list
 
