@@ -110,28 +110,19 @@ pub fn read_locked(p: u64, a: usize) -> bool
 pub fn is_nothing(w: Work) -> bool
     ensures { result ≡ is_nothing w }
 {
-    match w {
-        Work::Nothing => true,
-        _ => false,
-    }
+    matches!(w, Work::Nothing)
 }
 
 pub fn is_erase(w: Work) -> bool
     ensures { result ≡ is_erase w }
 {
-    match w {
-        Work::EraseSector(_) | Work::EraseBlock(_) | Work::EraseArray => true,
-        _ => false,
-    }
+    matches!(w, Work::EraseSector(_) | Work::EraseBlock(_) | Work::EraseArray)
 }
 
 pub fn is_program(w: Work) -> bool
     ensures { result ≡ is_program w }
 {
-    match w {
-        Work::ProgramPage(_) | Work::ProgramSecurity(_) => true,
-        _ => false,
-    }
+    matches!(w, Work::ProgramPage(_) | Work::ProgramSecurity(_))
 }
 
 // The m with which a stop leaves byte k as it was: that of document 01's power cut and reset.
@@ -145,10 +136,7 @@ pub fn clean_m(w: Work) -> u8
 pub fn can_suspend(w: Work) -> bool
     ensures { result ≡ can_suspend w }
 {
-    match w {
-        Work::EraseSector(_) | Work::EraseBlock(_) | Work::ProgramPage(_) => true,
-        _ => false,
-    }
+    matches!(w, Work::EraseSector(_) | Work::EraseBlock(_) | Work::ProgramPage(_))
 }
 
 // The range of work in the array.

@@ -1,6 +1,7 @@
 -- Two bytes of a list, a sum that goes on, and bytes put into a list. Assumes nothing.
 use Rattle.std.proofs.Common.{◌≡◌, ℕ, suc, ◌+◌, ◌-◌, ◌*◌, ◌/◌, ◌%◌, ◌<◌, ◌≤◌, List, [], ◌∷◌, ◌++◌, length, get_or, take, drop, set, sym, ap, ◌∙◌, append_assoc, append-nil, add-mul, arith, length-append, length-drop, take-append-drop, length-take-le, get_or-drop, take_all, drop-cons, get_or-take, take-suc, take-take, drop-drop, take_at, ext_get_or, take-add, drop_at}
 use lib.Seq.{paste, take-paste, sets-eq, take-append-le, length_paste_head}
+use Rattle.std.specs.List.{fold}
 use Rattle.memory.specs.Patched.{Patched}
 use Rattle.image.specs.Form.{high_first, number, total, sum, joined}
 use Rattle.image.specs.Files.{part, body_in}
@@ -24,22 +25,14 @@ put_two l at x h = let e : suc at ≡ at + 1 = omega arith in rw (sym e) (sets-e
 
 -- ---- a sum
 
-total_snoc : (l : List ℕ) (b : ℕ) → total (l ++ b ∷ []) ≡ total l + b
+-- additions that wrap give the sum
+sum_on : (s : ℕ) (l : List ℕ) → s < 65536 → fold (λ a b. (a + b) % 65536) s l ≡ (s + total l) % 65536
 unfolding total
-total_snoc [] b = omega arith
-total_snoc (a ∷ l) b = let e = total_snoc l b in rw e (omega arith)
+sum_on s [] h = omega arith
+sum_on s (b ∷ l) h = sum_on ((s + b) % 65536) l (omega arith) ∙ omega arith
 
-pub sum_none : (l : List ℕ) (from : ℕ) → 0 ≡ sum (part l from (from - from))
-unfolding total
-sum_none l from = let e : from - from ≡ 0 = omega arith in rw e
-
-pub sum_more : (l : List ℕ) (from i s : ℕ) → from ≤ i → i < length l → s ≡ sum (part l from (i - from)) → (s + get_or l i 0) % 65536 ≡ sum (part l from (i + 1 - from))
-sum_more l from i s low h e =
-    let k : i + 1 - from ≡ suc (i - from) = omega arith in
-    let j : from + (i - from) ≡ i = omega arith in
-    let t : part l from (suc (i - from)) ≡ part l from (i - from) ++ get_or l i 0 ∷ [] =
-    take-suc (drop from l) (i - from) 0 (rw length-drop (omega arith)) ∙ ap (λ b. part l from (i - from) ++ b ∷ []) (get_or-drop from l (i - from) 0 ∙ ap (λ m. get_or l m 0) j) in
-    rw (k, t, total_snoc, e) (omega arith)
+pub sum_wraps : (l : List ℕ) → fold (λ a b. (a + b) % 65536) 0 l ≡ sum l
+sum_wraps l = let e : 0 + total l ≡ total l = omega arith in sum_on 0 l (omega arith) ∙ ap (λ n. n % 65536) e
 
 -- ---- bytes put into a list
 

@@ -7,20 +7,13 @@ ghost use Rattle.rules.specs.Blocks.{array_size_lem, security_size_lem};
 ghost use Rattle.image.specs.Form.{high_first, number, sum, file_size_lem};
 ghost use Rattle.image.specs.Files.{part, body_in};
 
-fn joined(high: u8, low: u8) -> u64
-    ensures value { result ≡ high * 256 + low }
-    ensures small { result < 65536 }
-{
-    (high as u64) * 256 + (low as u64)
-}
-
 // The number in two bytes, high byte first.
 pub fn two(l: &[u8], at: usize) -> u64
     requires { at + 2 ≤ length l.now }
     ensures value { result ≡ number (part l.now at 2) }
     ensures small { result < 65536 }
 {
-    joined(l[at], l[at + 1])
+    u64::from(l[at]) * 256 + u64::from(l[at + 1])
 }
 
 // A number in two bytes, high byte first.
@@ -32,24 +25,14 @@ pub fn put_two(l: &mut [u8], at: usize, x: u64)
     l[at + 1] = (x % 256) as u8;
 }
 
-fn word_of(b: u8) -> u16
-    ensures { result ≡ b }
-{
-    b as u16
-}
-
 // The sum of the bytes between two places, which wraps at 65,536. No branch, so that the loop becomes wide additions.
 pub fn sum(l: &[u8], from: usize, to: usize) -> u16
     requires { (from ≤ to) × (to ≤ length l.now) }
     ensures { result ≡ sum (part l.now from (to - from)) }
 {
-    let mut s: u16 = 0;
-    let mut i = from;
-    while i < to {
-        s = std::num::wrapping_add_u16(s, word_of(l[i]));
-        i += 1;
-    }
-    s
+    l[from..to]
+        .iter()
+        .fold(0, |s: u16, b| s.wrapping_add(u16::from(*b)))
 }
 
 // Array, Security ID and file have their sizes.
@@ -68,5 +51,5 @@ pub fn seal(l: &mut [u8], at: usize, n: usize, mark: u64)
     let to = from + n;
     put_two(l, at, mark);
     let s = sum(l, from, to);
-    put_two(l, to, s as u64);
+    put_two(l, to, u64::from(s));
 }

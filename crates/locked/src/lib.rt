@@ -14,13 +14,11 @@ fn first_locked(p: u64) -> usize
     ensures value { result ≡ locked_from 40 p 0 }
     ensures inside { result < 40 }
 {
-    let mut i: usize = 0;
-    while i < 40 {
+    for i in 0..40 {
         let b = blocks::block_at(i);
         if blocks::bit_at(p, b.write) {
             return i;
         }
-        i += 1;
     }
     0
 }

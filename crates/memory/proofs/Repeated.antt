@@ -1,12 +1,13 @@
 -- Turns of n bytes, one behind the other. Assumes nothing.
 use Prim.Native.Nat.{ℕ, ◌+◌, ◌-◌, ◌%◌, ◌≤◌, ◌<◌, min}
 use mathlib.Core.Path.{◌≡◌, sym, ap, ◌∙◌}
-use mathlib.Core.List.{List}
+use mathlib.Core.List.{List, ◌++◌}
 use mathlib.Core.Logic.{◌⊎◌, inl, inr}
 use native.Mathlib.Nat.{mod-eq_of_lt, mod-add-mod, zero-add}
 use native.Mathlib.Omega.{arith}
 use native.Mathlib.Decide.{dec_lt}
-use lib.ListN.{get_or}
+use Rattle.std.proofs.lemmas.Grind.{common_steps}
+use lib.ListN.{length, get_or, take, drop}
 use Rattle.memory.specs.Patched.{Patched}
 
 -- the first turn is there
@@ -36,3 +37,13 @@ turns_more n d z m e h f = go (dec_lt d (z - d))
     go : Dec (d < z - d) → (d + m ≡ z) ⊎ ((d + m) % n ≡ 0)
     go (yes q) = let s : m ≡ d = omega arith in inr (ap (λ (x : ℕ). (d + x) % n) s ∙ past_turns n d d e ∙ e)
     go (no q) = inl (omega arith)
+
+-- the list cut at d, with the first m bytes of the front put at the start of the rest
+pub turn_added : (s t r x : List ℕ) (d m : ℕ) → t ≡ take d s → r ≡ drop d s → x ≡ take m t → m ≤ d → d + m ≤ length s
+    → Patched (t ++ (x ++ drop m r)) s d m (λ i. get_or s i 0)
+turn_added s t r x d m et er ex h fits = rw (ex, et, er) record {
+  size = grind (arith, common_steps);
+  inside = λ i below. grind (arith, common_steps);
+  before = λ a below. grind (arith, common_steps);
+  after = λ a above. grind (arith, common_steps);
+}

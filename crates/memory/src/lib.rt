@@ -12,18 +12,13 @@ ghost use Rattle.rules.specs.WellFormed.{first_ff, numbers_right};
 ghost use Rattle.memory.specs.Patched.{Patched, Repeated};
 
 use rules::Work;
-use rules::plain::smaller;
 
 // n bytes from `from` on become v.
 pub fn set_all(s: &mut [u8], from: usize, n: usize, v: u8)
     requires { from + n ≤ length s.old }
     ensures { Patched s.new s.old from n (λ i. v) }
 {
-    let mut i: usize = 0;
-    while i < n {
-        s[from + i] = v;
-        i += 1;
-    }
+    s[from..from + n].fill(v);
 }
 
 // n bytes from `from` on become those of `src` from `at` on.
@@ -31,34 +26,19 @@ pub fn copy(s: &mut [u8], from: usize, n: usize, src: &[u8], at: usize)
     requires { (from + n ≤ length s.old) × (at + n ≤ length src.now) }
     ensures { Patched s.new s.old from n (λ i. get_or src.now (at + i) 0) }
 {
-    let mut i: usize = 0;
-    while i < n {
-        s[from + i] = src[at + i];
-        i += 1;
-    }
+    s[from..from + n].copy_from_slice(&src[at..at + n]);
 }
 
-// n bytes from `to` on become the first n.
-fn copy_up(s: &mut [u8], to: usize, n: usize)
-    requires { (n ≤ to) × (to + n ≤ length s.old) }
-    ensures { Patched s.new s.old to n (λ i. get_or s.old i 0) }
-{
-    let mut i: usize = 0;
-    while i < n {
-        s[to + i] = s[i];
-        i += 1;
-    }
-}
-
-// The first n bytes again and again, to the end. Each round copies all that is there, so that a few rounds of wide copies do.
+// The first n bytes again and again, to the end. Each round copies all that is there, so that a few rounds of wide copies do; the steps double, so no range has them.
 pub fn repeat(s: &mut [u8], n: usize)
     requires { (0 < n) × ((n ≤ length s.old) × (length s.old ≤ 65536)) }
     ensures { Repeated s.new s.old n }
 {
     let mut done = n;
     while done < s.len() {
-        let m = smaller(done, s.len() - done);
-        copy_up(s, done, m);
+        let (there, rest) = s.split_at_mut(done);
+        let m = done.min(rest.len());
+        rest[..m].copy_from_slice(&there[..m]);
         done += m;
     }
 }
@@ -68,10 +48,9 @@ pub fn clear_bits(s: &mut [u8], from: usize, n: usize, page: &[u8])
     requires { (from + n ≤ length s.old) × (n ≤ length page.now) }
     ensures { Patched s.new s.old from n (λ i. bit_and (get_or s.old (from + i) 0) (get_or page.now i 0)) }
 {
-    let mut i: usize = 0;
-    while i < n {
-        s[from + i] = s[from + i] & page[i];
-        i += 1;
+    let part = &mut s[from..from + n];
+    for (i, b) in part.iter_mut().enumerate() {
+        *b &= page[i];
     }
 }
 
@@ -79,7 +58,7 @@ pub fn blank_page(page: &mut [u8])
     requires { length page.old ≡ 256 }
     ensures { page.new ≡ blank }
 {
-    set_all(page, 0, 256, 255);
+    page.fill(255);
 }
 
 // The page buffer of the bytes sent from `skip` on, from place `at` of the page.
@@ -88,11 +67,9 @@ pub fn fill_page(page: &mut [u8], sent: &[u8], skip: usize, at: usize)
     ensures { page.new ≡ fill blank at (drop skip sent.now) }
 {
     blank_page(page);
-    let mut i = skip;
-    while i < sent.len() {
-        let to = (at + (i - skip)) % 256;
-        page[to] = sent[i];
-        i += 1;
+    let data = &sent[skip.min(sent.len())..];
+    for (i, b) in data.iter().enumerate() {
+        page[(at + i) % 256] = *b;
     }
 }
 
@@ -101,13 +78,7 @@ pub fn first_ff(page: &[u8], n: usize) -> bool
     requires { n ≤ length page.now }
     ensures { result ≡ first_ff n page.now }
 {
-    let mut other: u8 = 0;
-    let mut i: usize = 0;
-    while i < n {
-        other = other | (page[i] ^ 255);
-        i += 1;
-    }
-    other == 0
+    page[..n].iter().fold(255, |all, b| all & *b) == 255
 }
 
 // ---- work: the first k bytes are finished, byte k is torn by m, the rest is unchanged. Two numbers and no Tear: at a completion's they are then known where this becomes a part of it
@@ -117,10 +88,10 @@ fn erase(s: &mut [u8], from: usize, n: usize, k: u64, m: u8)
     requires { from + n ≤ length s.old }
     ensures { Patched s.new s.old from n (λ i. stopped Work.EraseArray [] (tear_of k m) i (get_or s.old (from + i) 0)) }
 {
-    let whole = smaller(k as usize, n);
+    let whole = (k as usize).min(n);
     set_all(s, from, whole, 255);
     if whole < n {
-        s[from + whole] = s[from + whole] | m;
+        s[from + whole] |= m;
     }
 }
 
@@ -129,7 +100,7 @@ fn program(s: &mut [u8], from: usize, page: &[u8], k: u64, m: u8)
     requires { (from + 256 ≤ length s.old) × (length page.now ≡ 256) }
     ensures { Patched s.new s.old from 256 (λ i. stopped (Work.ProgramPage 0) page.now (tear_of k m) i (get_or s.old (from + i) 0)) }
 {
-    let whole = smaller(k as usize, 256);
+    let whole = (k as usize).min(256);
     clear_bits(s, from, whole, page);
     if whole < 256 {
         let old = s[from + whole];
@@ -159,8 +130,7 @@ pub fn finish_security(w: Work, page: &[u8], k: u64, m: u8, security: &mut [u8])
     requires { (numbers_right w ≡ true) × ((length security.old ≡ security_size_lem) × (length page.now ≡ 256)) }
     ensures { lent security.new ≡ finish w (security_range w) page.now (tear_of k m) (lent security.old) }
 {
-    match w {
-        Work::ProgramSecurity(n) => program(security, n * 256, page, k, m),
-        _ => {}
+    if let Work::ProgramSecurity(n) = w {
+        program(security, n * 256, page, k, m);
     }
 }

@@ -1,4 +1,4 @@
-// The opcodes that a rule names.
+// The opcodes that a rule names. Each rule has its list under a name of its own: one function that takes the list would leave the lists to those who ask.
 #![tactic(auto)]
 
 ghost use Rattle.std.specs.Prelude.{◌≡◌, [], ◌∷◌};
@@ -15,80 +15,56 @@ pub fn is(op: u8, o: u8) -> bool
 pub fn passes_busy(op: u8) -> bool
     ensures { result ≡ one_of op (0x05 ∷ 0x66 ∷ 0x99 ∷ 0xB0 ∷ []) }
 {
-    match op {
-        0x05 | 0x66 | 0x99 | 0xb0 => true,
-        _ => false,
-    }
+    matches!(op, 0x05 | 0x66 | 0x99 | 0xb0)
 }
 
 // These need IOC.
 pub fn needs_ioc(op: u8) -> bool
     ensures { result ≡ one_of op (0x6B ∷ 0x32 ∷ 0xEC ∷ []) }
 {
-    match op {
-        0x6b | 0x32 | 0xec => true,
-        _ => false,
-    }
+    matches!(op, 0x6b | 0x32 | 0xec)
 }
 
 // These wait while anything is suspended.
 pub fn must_wait(op: u8) -> bool
     ensures { result ≡ one_of op (0xC7 ∷ 0x01 ∷ 0x42 ∷ 0x8D ∷ 0xE8 ∷ 0x98 ∷ 0xA5 ∷ 0x85 ∷ []) }
 {
-    match op {
-        0xc7 | 0x01 | 0x42 | 0x8d | 0xe8 | 0x98 | 0xa5 | 0x85 => true,
-        _ => false,
-    }
+    matches!(op, 0xc7 | 0x01 | 0x42 | 0x8d | 0xe8 | 0x98 | 0xa5 | 0x85)
 }
 
 // One sector or block erase.
 pub fn erases(op: u8) -> bool
     ensures { result ≡ one_of op (0x20 ∷ 0xD8 ∷ []) }
 {
-    match op {
-        0x20 | 0xd8 => true,
-        _ => false,
-    }
+    matches!(op, 0x20 | 0xd8)
 }
 
 // One page program.
 pub fn programs(op: u8) -> bool
     ensures { result ≡ one_of op (0x02 ∷ 0x32 ∷ []) }
 {
-    match op {
-        0x02 | 0x32 => true,
-        _ => false,
-    }
+    matches!(op, 0x02 | 0x32)
 }
 
 // These change the protection register.
 pub fn changes_locks(op: u8) -> bool
     ensures { result ≡ one_of op (0x42 ∷ 0x98 ∷ []) }
 {
-    match op {
-        0x42 | 0x98 => true,
-        _ => false,
-    }
+    matches!(op, 0x42 | 0x98)
 }
 
 // These change the Security ID.
 pub fn to_security(op: u8) -> bool
     ensures { result ≡ one_of op (0xA5 ∷ 0x85 ∷ []) }
 {
-    match op {
-        0xa5 | 0x85 => true,
-        _ => false,
-    }
+    matches!(op, 0xa5 | 0x85)
 }
 
 // These go to one block.
 pub fn in_a_block(op: u8) -> bool
     ensures { result ≡ one_of op (0x20 ∷ 0xD8 ∷ 0x02 ∷ 0x32 ∷ []) }
 {
-    match op {
-        0x20 | 0xd8 | 0x02 | 0x32 => true,
-        _ => false,
-    }
+    matches!(op, 0x20 | 0xd8 | 0x02 | 0x32)
 }
 
 // These need WEL: those that go to one block, and those that wait.

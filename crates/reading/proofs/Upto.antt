@@ -22,14 +22,6 @@ use Rattle.reading.specs.Upto.{Upto, Pages}
 pub upto_none : (l : List ℕ) (f : ℕ → ℕ) → Upto l (length l) 0 f
 upto_none l f = record { size = refl; at = λ i h. absurd (omega arith) }
 
--- one byte more
-pub upto_set : (l : List ℕ) (n k v : ℕ) (f : ℕ → ℕ) → Upto l n k f → k < n → v ≡ f k → Upto (set l k v) n (k + 1) f
-upto_set l n k v f h fits e = record { size = length-set l k v ∙ h.size; at = λ i below. go i below (ℕ_discrete i k) }
-  where
-    go : (i : ℕ) → i < k + 1 → Dec (i ≡ k) → get_or (set l k v) i 0 ≡ f i
-    go i below (yes q) = rw q (get_or-set_same l k v 0 (let s = h.size in omega arith) ∙ e)
-    go i below (no q) = get_or-set_other l k i v 0 q ∙ h.at i (omega arith)
-
 -- a whole piece more
 pub upto_piece : (l l₀ : List ℕ) (n k m : ℕ) (f g : ℕ → ℕ) → Upto l₀ n k f → Patched l l₀ k m g → ((j : ℕ) → j < m → g j ≡ f (k + j)) → Upto l n (k + m) f
 upto_piece l l₀ n k m f g h p e = record { size = p.size ∙ h.size; at = λ i below. go i below (dec_lt i k) }

@@ -10,7 +10,6 @@ ghost use Rattle.memory.specs.Patched.{Patched};
 ghost use Rattle.reading.specs.Upto.{Upto, Pages, cell_from, burst_cell};
 
 use rules::Range;
-use rules::plain::smaller;
 
 // How many places from a on lie in its sector and, as it does, in the range or outside: neither read lock nor suspended range changes among them.
 fn alike(r: Range, a: usize) -> usize
@@ -21,10 +20,10 @@ fn alike(r: Range, a: usize) -> usize
     let start = r.start;
     let end = start + r.size;
     if a < start {
-        return smaller(left, start - a);
+        return left.min(start - a);
     }
     if a < end {
-        return smaller(left, end - a);
+        return left.min(end - a);
     }
     left
 }
@@ -76,7 +75,7 @@ fn read_piece(
     read_alike(p, r, array, a, n, reply, marks, i);
 }
 
-// The array from place `at` on, going round, as far each time as places are alike.
+// The array from place `at` on, going round, as far each time as places are alike: the steps differ, so no range has them.
 pub fn read_array(p: u64, r: Range, array: &[u8], at: usize, reply: &mut [u8], marks: &mut [u8])
     requires { (Pages r) × ((length array.now ≡ array_size_lem) × ((at < array_size_lem) × ((length marks.old ≡ length reply.old) × (length reply.old ≤ 65536)))) }
     ensures bytes { Upto reply.new (length reply.old) (length reply.old) (λ i. (cell_from p r array.now at i).byte) }
@@ -85,7 +84,7 @@ pub fn read_array(p: u64, r: Range, array: &[u8], at: usize, reply: &mut [u8], m
     let mut i: usize = 0;
     while i < reply.len() {
         let a = (at + i) % 2097152;
-        let n = smaller(alike(r, a), reply.len() - i);
+        let n = alike(r, a).min(reply.len() - i);
         read_alike(p, r, array, a, n, reply, marks, i);
         i += n;
     }
@@ -107,10 +106,10 @@ fn first_turn(
 {
     let all = reply.len();
     let off = at % n;
-    let high = smaller(n - off, all);
+    let high = (n - off).min(all);
     read_piece(p, r, array, at, high, reply, marks, 0);
     if high < all {
-        let low = smaller(off, all - high);
+        let low = off.min(all - high);
         read_piece(p, r, array, at - off, low, reply, marks, high);
     }
 }
@@ -141,10 +140,8 @@ pub fn read_security(security: &[u8], at: usize, reply: &mut [u8])
     requires { (length security.now ≡ security_size_lem) × ((at < security_size_lem) × (length reply.old ≤ 65536)) }
     ensures { Upto reply.new (length reply.old) (length reply.old) (λ i. get_or security.now ((at + i) % security_size_lem) 0) }
 {
-    let mut i: usize = 0;
-    while i < reply.len() {
-        reply[i] = security[(at + i) % 2048];
-        i += 1;
+    for (i, b) in reply.iter_mut().enumerate() {
+        *b = security[(at + i) % 2048];
     }
 }
 
@@ -152,45 +149,28 @@ pub fn read_security(security: &[u8], at: usize, reply: &mut [u8])
 fn protection_byte(p: u64, i: usize) -> u8
     ensures { result ≡ pick (ltb i 6) (p / 2 ^ (8 * (5 - i)) % 256) 0 }
 {
-    match i {
-        0 => ((p >> 40) % 256) as u8,
-        1 => ((p >> 32) % 256) as u8,
-        2 => ((p >> 24) % 256) as u8,
-        3 => ((p >> 16) % 256) as u8,
-        4 => ((p >> 8) % 256) as u8,
-        5 => (p % 256) as u8,
-        _ => 0,
+    if i < 6 {
+        ((p >> (8 * (5 - i))) % 256) as u8
+    } else {
+        0
     }
 }
 
 pub fn read_protection(p: u64, reply: &mut [u8])
     ensures { Upto reply.new (length reply.old) (length reply.old) (λ i. pick (ltb i 6) (p / 2 ^ (8 * (5 - i)) % 256) 0) }
 {
-    let mut i: usize = 0;
-    while i < reply.len() {
-        reply[i] = protection_byte(p, i);
-        i += 1;
+    for (i, b) in reply.iter_mut().enumerate() {
+        *b = protection_byte(p, i);
     }
 }
 
-// Byte i of the identity.
-fn identity_byte(i: usize) -> u8
-    ensures { result ≡ get_or (191 ∷ 38 ∷ 81 ∷ []) (i % 3) 0 }
-{
-    let k = i % 3;
-    match k {
-        0 => 0xbf,
-        1 => 0x26,
-        _ => 0x51,
-    }
-}
+const IDENTITY: [u8; 3] = [0xbf, 0x26, 0x51];
 
+// The identity, again and again.
 pub fn read_identity(reply: &mut [u8])
     ensures { Upto reply.new (length reply.old) (length reply.old) (λ i. get_or (191 ∷ 38 ∷ 81 ∷ []) (i % 3) 0) }
 {
-    let mut i: usize = 0;
-    while i < reply.len() {
-        reply[i] = identity_byte(i);
-        i += 1;
+    for (i, b) in reply.iter_mut().enumerate() {
+        *b = IDENTITY[i % 3];
     }
 }

@@ -20,11 +20,10 @@ fn put_number(coded: &mut [u8], at: usize, n: usize, x: u64)
     ensures { (take (at + n) coded.new ≡ take at coded.old ++ bytes n x) × (drop (at + n) coded.new ≡ drop (at + n) coded.old) }
 {
     let mut left = x;
-    let mut i: usize = 0;
-    while i < n {
-        coded[at + i] = (left % 256) as u8;
-        left = left / 256;
-        i += 1;
+    let part = &mut coded[at..at + n];
+    for b in part.iter_mut() {
+        *b = (left % 256) as u8;
+        left /= 256;
     }
 }
 
@@ -71,25 +70,12 @@ pub fn put_idle(coded: &mut [u8], r: Rest)
 
 // ---- from bytes to a record
 
-// A sum of shifted bytes, which becomes one load.
-fn joined(a: u8, b: u8, c: u8, d: u8, e: u8, f: u8, g: u8, h: u8) -> u64
-    ensures { result ≡ a + 256 * (b + 256 * (c + 256 * (d + 256 * (e + 256 * (f + 256 * (g + 256 * (h + 256 * 0))))))) }
-{
-    (a as u64)
-        + 256 * (b as u64)
-        + 65536 * (c as u64)
-        + 16777216 * (d as u64)
-        + 4294967296 * (e as u64)
-        + 1099511627776 * (f as u64)
-        + 281474976710656 * (g as u64)
-        + 72057594037927936 * (h as u64)
-}
-
+// Eight bytes as a number: one load.
 fn get_word(coded: &[u8], at: usize) -> u64
     requires { at + 8 ≤ length coded.now }
     ensures { result ≡ word coded.now at }
 {
-    joined(
+    u64::from_le_bytes([
         coded[at],
         coded[at + 1],
         coded[at + 2],
@@ -98,33 +84,33 @@ fn get_word(coded: &[u8], at: usize) -> u64
         coded[at + 5],
         coded[at + 6],
         coded[at + 7],
-    )
+    ])
 }
 
 // A byte of the code as a kind.
 fn work_right(kind: u8, n: u64) -> bool
     ensures { result ≡ work_right kind n }
 {
-    numbering::work_right(kind as u64, n)
+    numbering::work_right(u64::from(kind), n)
 }
 
 fn work_of(kind: u8, n: u64) -> Work
     ensures { result ≡ work_of kind n }
 {
-    numbering::work_of(kind as u64, n)
+    numbering::work_of(u64::from(kind), n)
 }
 
 // A byte of the code as a burst's.
 fn burst_right(x: u8) -> bool
     ensures { result ≡ leb x last_burst }
 {
-    numbering::burst_right(x as u64)
+    numbering::burst_right(u64::from(x))
 }
 
 fn burst_of(x: u8) -> Burst
     ensures { result ≡ burst_of x }
 {
-    numbering::burst_of(x as u64)
+    numbering::burst_of(u64::from(x))
 }
 
 // The reserved bytes are all 0. No early exit, so that the loop becomes a few wide instructions.
@@ -132,13 +118,7 @@ fn nothing_reserved(coded: &[u8]) -> bool
     requires { length coded.now ≡ 320 }
     ensures { result ≡ eqb (number_at coded.now 292 28) 0 }
 {
-    let mut other: u8 = 0;
-    let mut i: usize = 292;
-    while i < 320 {
-        other = other | coded[i];
-        i += 1;
-    }
-    other == 0
+    coded[292..320].iter().fold(0, |other, b| other | *b) == 0
 }
 
 // The bytes are some record's code.

@@ -7,13 +7,10 @@ use Rattle.image_records.proofs.Laws.{sealed}
 use Rattle.image_records.proofs.seal.Goals as goal
 
 pub returns : goal.returns
-returns c = let s₂ = c in
-    let m = s₂ in
-    let s₁ = m in
-    let b = s₁ in
-    let a = b.args in
-    let e = s₁.put_two.ensures in
-    s₂.put_two-2.ensures
-    ∙ ap (λ r. paste r (a.at + 2 + a.n) (high_first 2 m.sum-s.result) 2) e
-    ∙ sealed a.l.now a.at a.n a.mark m.sum-s.result b.requires
-    (m.sum-s.ensures ∙ ap (λ r. sum (part r (a.at + 2) (a.at + 2 + a.n - (a.at + 2)))) e)
+returns c =
+    let a = c.args in
+    let e = c.put_two.ensures in
+    c.put_two-2.ensures
+    ∙ ap (λ r. paste r (a.at + 2 + a.n) (high_first 2 c.from.result) 2) e
+    ∙ sealed a.l.now a.at a.n a.mark c.from.result c.requires
+    (c.from.ensures ∙ c.sum-s.ensures ∙ ap (λ r. sum (part r (a.at + 2) (a.at + 2 + a.n - (a.at + 2)))) e)

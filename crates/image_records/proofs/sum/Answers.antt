@@ -1,23 +1,11 @@
-use Rattle.std.proofs.Common.{◌≡◌, sym, ◌∙◌, arith}
-use Rattle.image_records.proofs.Laws.{sum_none, sum_more}
+-- The fold's clause says that it is additions that wrap. Assumes nothing.
+use Rattle.std.proofs.Common.{◌≡◌, ◌+◌, ◌-◌, ◌%◌, ◌∙◌, take, drop, rules}
+use Rattle.std.specs.List.{fold}
+use Rattle.image_records.proofs.Laws.{sum_wraps}
 use Rattle.image_records.proofs.sum.Goals as goal
 
-pub loop-i-init : goal.loop-i-init
-loop-i-init c = let b = c in record { low = omega arith; high = b.requires.0; fits = b.requires.1; is = sum_none b.args.l.now b.args.from }
-
-pub loop-i-smaller : goal.loop-i-smaller
-loop-i-smaller c = omega arith
-
-pub loop-i-preserved : goal.loop-i-preserved
-loop-i-preserved c = let l = c.loop-i in
-    let a = c.args in
-    let byte = c.word_of.ensures in
-    record {
-      low = omega arith;
-      high = omega arith;
-      fits = l.invariant.fits;
-      is = c.wrapping_add_u16-s.ensures.value ∙ (rw byte (sum_more a.l.now a.from l.i l.s l.invariant.low (omega arith) l.invariant.is));
-    }
-
 pub returns : goal.returns
-returns c = let e : c.loop-i.i ≡ c.args.to = omega arith in rw (sym e) c.loop-i.invariant.is
+returns c =
+    let a = c.args in
+    let e : c.fold.result ≡ fold (λ s b. (s + b) % 65536) 0 (take (a.to - a.from) (drop a.from a.l.now)) = search rules in
+    e ∙ sum_wraps _

@@ -6,6 +6,3 @@ use Rattle.locked.proofs.first_locked.Given as goal
 
 abbrev pub invariant-loop-i : goal.invariant-loop-i
 invariant-loop-i l = record { low : l.i ≤ 40; is : locked_from 40 l.p 0 ≡ locked_from (40 - l.i) l.p l.i }
-
-abbrev pub decreases-loop-i : goal.decreases-loop-i
-decreases-loop-i l = 40 - l.i

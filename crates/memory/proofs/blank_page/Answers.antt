@@ -1,8 +1,10 @@
--- The whole page is patched with FF. Assumes nothing.
+-- A page of 256 bytes, filled with FF, is the blank one. Assumes nothing.
+use mathlib.Core.Path.{ap, ◌∙◌}
+use Prim.Native.Nat.{ℕ}
+use lib.ListN.{replicate}
 use Rattle.rules.specs.Programs.{blank}
-use Rattle.memory.proofs.Patched.{patched_whole}
 use Rattle.memory.proofs.blank_page.Goals as goal
 
 pub returns : goal.returns
 unfolding blank
-returns c = patched_whole _ _ 256 255 c.requires c.set_all.ensures
+returns c = c.fill.ensures.after (λ y h. h) ∙ ap (λ (n : ℕ). replicate n 255) c.requires

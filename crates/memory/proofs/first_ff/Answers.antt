@@ -1,20 +1,13 @@
-use mathlib.Core.Path.{◌≡◌, refl, sym}
-use Rattle.rules.specs.WellFormed.{first_ff}
-use Rattle.memory.proofs.Buffers.{ff_next}
-use native.Mathlib.Omega.{arith}
+-- The fold's clause says that it is the AND of those bytes. Assumes nothing.
+use mathlib.Core.Path.{◌≡◌}
+use lib.ListN.{take}
+use lib.Bits.{bit_and}
+use Rattle.std.specs.List.{fold}
+use Rattle.std.proofs.Common.{rules, arith}
+use Rattle.memory.proofs.Buffers.{ff_all}
 use Rattle.memory.proofs.first_ff.Goals as goal
 
-pub loop-i-init : goal.loop-i-init
-unfolding first_ff
-loop-i-init c = record { low = omega arith; small = c.requires; is = refl }
-
-pub loop-i-smaller : goal.loop-i-smaller
-loop-i-smaller c = omega arith
-
-pub loop-i-preserved : goal.loop-i-preserved
-loop-i-preserved c = let l = c.loop-i in
-    let a = c.args in
-    record { low = omega arith; small = l.invariant.small; is = ff_next a.page.now l.i l.other l.invariant.is }
-
 pub returns : goal.returns
-returns c = let e : c.loop-i.i ≡ c.args.n = omega arith in rw (sym e) c.loop-i.invariant.is
+returns c =
+    let e : c.fold.result ≡ fold bit_and 255 (take c.args.n c.args.page.now) = search rules in
+    rw e (ff_all c.args.page.now (λ i. omega (arith, c.type_inv.page i)) c.args.n c.requires).1

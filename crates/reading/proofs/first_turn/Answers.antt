@@ -15,7 +15,7 @@ overflow_sub-n c = let s = c in let l = mod-lt s.args.at s.requires.1.1.1.0.some
 
 pub read_piece-requires : goal.read_piece-requires
 read_piece-requires c = let s = c in
-    let h = c.smaller-high.ensures in
+    let h = c.min-high.ensures in
     let g = group_in_page s.args.n s.args.at s.requires.1.1.1.0 in
     let m = s.requires.1.1.1.1 in
     (s.requires.0, (s.requires.1.0, (s.requires.1.1.0, (omega arith, (omega arith, omega arith)))))
@@ -25,8 +25,8 @@ overflow_sub-at c = let a = c.args in let l = mod-le a.at a.n in omega arith
 
 pub read_piece-requires-then-high-all : goal.read_piece-requires-then-high-all
 read_piece-requires-then-high-all c = let s = c in
-    let h = c.smaller-high.ensures in
-    let k = c.smaller-low.ensures in
+    let h = c.min-high.ensures in
+    let k = c.min-low.ensures in
     let t = c.if-high-all.true in
     let g = start_in_page s.args.n s.args.at s.requires.1.1.1.0 in
     let b = s.requires.1.1.0 in
@@ -47,8 +47,8 @@ returns-then-high-all c = let s = c in
     let a = s.args in
     let d = s.requires.1.1.1.0 in
     let m = s.requires.1.1.1.1 in
-    let h = c.smaller-high.ensures in
-    let k = c.smaller-low.ensures in
+    let h = c.min-high.ensures in
+    let k = c.min-low.ensures in
     let t = c.if-high-all.true in
     let q = c.read_piece.ensures in
     let w = c.read_piece-then-high-all.ensures in record {
@@ -67,7 +67,7 @@ returns-else-high-all c = let s = c in
     let a = s.args in
     let d = s.requires.1.1.1.0 in
     let m = s.requires.1.1.1.1 in
-    let h = c.smaller-high.ensures in
+    let h = c.min-high.ensures in
     let t = c.if-high-all.false in
     let q = c.read_piece.ensures in record {
       bytes = turn_short a.p a.r a.array.now a.n a.at d (λ (x : Cell). x.byte) _ a.reply.now _ h (omega arith) q.bytes;

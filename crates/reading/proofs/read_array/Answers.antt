@@ -22,14 +22,14 @@ read_alike-requires c = let l = c.loop-i in
     let h = l.invariant.bytes.size in
     let k = l.invariant.known.size in
     let m = s.requires.1.1.1.0 in
-    let q = piece s.args.r _ _ _ _ c.alike.ensures c.smaller-n.ensures (omega arith) in
+    let q = piece s.args.r _ _ _ _ c.alike.ensures c.min-n.ensures (omega arith) in
     let n = q.most in
     let g = q.in_sector in
     (s.requires.0.inside, (s.requires.1.0, (omega arith, (omega arith, (q.is_alike, (omega arith, omega arith))))))
 
 pub overflow_add-i : goal.overflow_add-i
 overflow_add-i c = let l = c.loop-i in
-    let n = c.smaller-n.ensures in
+    let n = c.min-n.ensures in
     let h = l.invariant.bytes.size in
     let t = c.loop-i-test.true in
     let s = c.requires.1.1.1.1 in
@@ -41,7 +41,7 @@ loop-i-smaller c = let w = c in
     let s = w in
     let t = w.loop-i-test.true in
     let h = l.invariant.bytes.size in
-    let q = piece s.args.r _ _ _ _ w.alike.ensures w.smaller-n.ensures (omega arith) in
+    let q = piece s.args.r _ _ _ _ w.alike.ensures w.min-n.ensures (omega arith) in
     let x = q.some in
     let y = q.most in
     omega arith
@@ -52,7 +52,7 @@ loop-i-preserved c = let w = c in
     let s = w in
     let t = w.loop-i-test.true in
     let h = l.invariant.bytes.size in
-    let q = piece s.args.r _ _ _ _ w.alike.ensures w.smaller-n.ensures (omega arith) in
+    let q = piece s.args.r _ _ _ _ w.alike.ensures w.min-n.ensures (omega arith) in
     let y = q.most in
     let g = q.in_sector in
     record {

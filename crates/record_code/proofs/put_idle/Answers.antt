@@ -24,30 +24,6 @@ rest_put : (r : Rest) (t : List ℕ) {t₁ t₂ t₃ t₄ t₅ t₆ : List ℕ} 
 unfolding rest_code
 rest_put r t p₁ p₂ p₃ p₄ p₅ p₆ ef eb = rw (p₆, p₅, p₄, p₃, p₂, p₁, ef, eb, no_work) (simp append_assoc)
 
-pub flags_number-flags-requires : goal.flags_number-flags-requires
-flags_number-flags-requires c = tt
-
-pub burst_byte-burst-requires : goal.burst_byte-burst-requires
-burst_byte-burst-requires c = tt
-
-pub put_number-requires : goal.put_number-requires
-put_number-requires c = omega arith
-
-pub put_number-requires-2 : goal.put_number-requires-2
-put_number-requires-2 c = omega arith
-
-pub put_number-requires-3 : goal.put_number-requires-3
-put_number-requires-3 c = omega arith
-
-pub put_number-requires-4 : goal.put_number-requires-4
-put_number-requires-4 c = omega arith
-
-pub put_number-requires-5 : goal.put_number-requires-5
-put_number-requires-5 c = omega arith
-
-pub put_number-requires-6 : goal.put_number-requires-6
-put_number-requires-6 c = omega arith
-
 pub returns : goal.returns
 returns c =
     let l = c.put_number-6.new.coded in

@@ -9,7 +9,6 @@ use Rattle.rules.specs.Bursts.{burst_byte}
 use Rattle.rules.specs.Fields.{flags_number}
 use Rattle.numbering.specs.Numbering.{kind_of, number_of}
 use Rattle.record_code.specs.Layout.{bytes, rest_code}
-use native.Mathlib.Omega.{arith}
 use Rattle.record_code.proofs.put_rest.Goals as goal
 
 -- the record's numbers, each behind what is there
@@ -24,48 +23,6 @@ rest_put r t p₁ p₂ p₃ p₄ p₅ p₆ p₇ p₈ en₁ en₂ ek₁ ek₂ ef 
 -- what stands alike from a place on stands alike from a later one on
 further : (m n : ℕ) (l k : List ℕ) → drop m l ≡ drop m k → drop (m + n) l ≡ drop (m + n) k
 further m n l k e = sym (drop-drop n m l) ∙ ap (drop n) e ∙ drop-drop n m k
-
-pub number_of-running_number-requires : goal.number_of-running_number-requires
-number_of-running_number-requires c = tt
-
-pub number_of-suspended_number-requires : goal.number_of-suspended_number-requires
-number_of-suspended_number-requires c = tt
-
-pub kind_of-running_kind-requires : goal.kind_of-running_kind-requires
-kind_of-running_kind-requires c = tt
-
-pub kind_of-suspended_kind-requires : goal.kind_of-suspended_kind-requires
-kind_of-suspended_kind-requires c = tt
-
-pub flags_number-flags-requires : goal.flags_number-flags-requires
-flags_number-flags-requires c = tt
-
-pub burst_byte-burst-requires : goal.burst_byte-burst-requires
-burst_byte-burst-requires c = tt
-
-pub put_number-requires : goal.put_number-requires
-put_number-requires c = omega arith
-
-pub put_number-requires-2 : goal.put_number-requires-2
-put_number-requires-2 c = omega arith
-
-pub put_number-requires-3 : goal.put_number-requires-3
-put_number-requires-3 c = omega arith
-
-pub put_number-requires-4 : goal.put_number-requires-4
-put_number-requires-4 c = omega arith
-
-pub put_number-requires-5 : goal.put_number-requires-5
-put_number-requires-5 c = omega arith
-
-pub put_number-requires-6 : goal.put_number-requires-6
-put_number-requires-6 c = omega arith
-
-pub put_number-requires-7 : goal.put_number-requires-7
-put_number-requires-7 c = omega (arith, c)
-
-pub put_number-requires-8 : goal.put_number-requires-8
-put_number-requires-8 c = omega (arith, c)
 
 pub returns : goal.returns
 returns c =
