@@ -1,14 +1,15 @@
-// The slots of the station list counted, as the two buffers of a read show them. specs/Census.antt.
+// The slots of the station list counted, as one read of it shows them. specs/Census.antt.
 #![tactic(auto)]
 
-ghost use Rattle.std.specs.Prelude.{◌≡◌, ◌+◌, ◌<◌, ◌≤◌, length, get_or};
-ghost use Rattle.rules.specs.Words.{num};
-ghost use Rattle.stations.specs.Slots.{shown_in, those_from, live_of, passed_over_lem, slot_count};
-ghost use Rattle.stations.specs.Calls.{list_size};
+ghost use Rattle.std.specs.Prelude.{◌≡◌, ◌+◌, ◌<◌, get_or};
+ghost use Rattle.stations.specs.Slots.{those_from, live_of, passed_over_lem, slot_count};
+ghost use Rattle.slots.specs.Reads.{shown_of, IsSlot};
 ghost use Rattle.census.specs.Census.{found, counts_below, cut_after};
 
+use slots::ListRead;
+
 // How many slots are empty, live, passed over and dead: a slot that is passed over is live too.
-#[derive(Clone, Copy)]
+#[derive(Clone, Copy, Default)]
 pub struct Counts {
     pub empty: u64,
     pub live: u64,
@@ -16,122 +17,70 @@ pub struct Counts {
     pub dead: u64,
 }
 
-fn one(b: bool) -> u64
-    ensures value { result ≡ num b }
-    ensures small { result ≤ 1 }
-{
-    if b { 1 } else { 0 }
-}
-
-// Slot i is a live one of that number.
-fn is_numbered(reply: &[u8], marks: &[u8], number: u64, i: usize) -> bool
-    requires { (length reply.now ≡ list_size) × (i < 2048) }
-    ensures { result ≡ live_of (shown_in reply.now marks.now) number i }
-{
-    if slots::is_live(reply, marks, i) {
-        return slots::station_of(reply, marks, i) == number;
-    }
-    false
-}
-
 // Slot i is live, and a live one of its number lies below.
-pub fn is_passed_over(reply: &[u8], marks: &[u8], i: usize) -> bool
-    requires { (length reply.now ≡ list_size) × (i < 2048) }
-    ensures { result ≡ passed_over_lem (shown_in reply.now marks.now) i }
+pub fn is_passed_over(read: &ListRead, i: usize) -> bool
+    requires { i < 2048 }
+    ensures { result ≡ passed_over_lem (shown_of read.now) i }
 {
-    if !slots::is_live(reply, marks, i) {
-        return false;
-    }
-    let number = slots::station_of(reply, marks, i);
-    let mut j: usize = 0;
-    while j < i {
-        if is_numbered(reply, marks, number, j) {
-            return true;
-        }
-        j += 1;
-    }
-    false
+    let number = read.station_of(i);
+    read.is_live(i) && (0..i).any(|j| read.is_live_of(number, j))
 }
 
 // Lookup finds slot i.
-pub fn is_found(reply: &[u8], marks: &[u8], i: usize) -> bool
-    requires { (length reply.now ≡ list_size) × (i < 2048) }
-    ensures { result ≡ found (shown_in reply.now marks.now) i }
+#[tactic(auto, unfolding(crate::specs::Census::found))]
+pub fn is_found(read: &ListRead, i: usize) -> bool
+    requires { i < 2048 }
+    ensures { result ≡ found (shown_of read.now) i }
 {
-    let live = slots::is_live(reply, marks, i);
-    let passed = is_passed_over(reply, marks, i);
-    live & !passed
+    read.is_live(i) && !is_passed_over(read, i)
 }
 
 // The counts with one slot more.
-fn with_slot(c: Counts, reply: &[u8], marks: &[u8], i: usize) -> Counts
-    requires { (length reply.now ≡ list_size) × (i < 2048) × (c ≡ counts_below (shown_in reply.now marks.now) i) }
-    ensures { result ≡ counts_below (shown_in reply.now marks.now) (i + 1) }
+fn with_slot(c: Counts, read: &ListRead, i: usize) -> Counts
+    requires { (i < 2048) × (c ≡ counts_below (shown_of read.now) i) }
+    ensures { result ≡ counts_below (shown_of read.now) (i + 1) }
 {
-    let empty = slots::is_empty(reply, marks, i);
-    let live = slots::is_live(reply, marks, i);
-    let passed = is_passed_over(reply, marks, i);
+    let empty = read.is_empty(i);
+    let live = read.is_live(i);
+    let passed = is_passed_over(read, i);
     Counts {
-        empty: c.empty + one(empty),
-        live: c.live + one(live),
-        passed: c.passed + one(passed),
-        dead: c.dead + one(!(empty | live)),
+        empty: c.empty + u64::from(empty),
+        live: c.live + u64::from(live),
+        passed: c.passed + u64::from(passed),
+        dead: c.dead + u64::from(!(empty | live)),
     }
 }
 
 // Of all slots.
-pub fn counted(reply: &[u8], marks: &[u8]) -> Counts
-    requires { length reply.now ≡ list_size }
-    ensures { result ≡ counts_below (shown_in reply.now marks.now) slot_count }
+pub fn counted(read: &ListRead) -> Counts
+    ensures { result ≡ counts_below (shown_of read.now) slot_count }
 {
-    let mut c = Counts {
-        empty: 0,
-        live: 0,
-        passed: 0,
-        dead: 0,
-    };
-    let mut i: usize = 0;
-    while i < 2048 {
-        c = with_slot(c, reply, marks, i);
-        i += 1;
+    let mut c = Counts::default();
+    for i in 0..2048 {
+        c = with_slot(c, read, i);
     }
     c
 }
 
-// The first slot below which k are found, 2048 where fewer are.
-pub fn cut_after(reply: &[u8], marks: &[u8], k: usize) -> usize
-    requires { length reply.now ≡ list_size }
-    ensures { result ≡ cut_after (shown_in reply.now marks.now) k }
+// The first slot below which k are found, 2048 where fewer are: how many slots are shown, if k stations are.
+pub fn cut_after(read: &ListRead, k: usize) -> usize
+    ensures { result ≡ cut_after (shown_of read.now) k }
 {
-    let mut n: usize = 0;
-    let mut i: usize = 0;
-    while i < 2048 {
+    let mut n = 0;
+    for i in 0..2048 {
         if k <= n {
             return i;
         }
-        if is_found(reply, marks, i) {
+        if is_found(read, i) {
             n += 1;
         }
-        i += 1;
     }
-    i
+    2048
 }
 
-// The k-th live slot of a number, counted from 0; 2048 where there are not so many.
-pub fn live_at(reply: &[u8], marks: &[u8], number: u16, k: usize) -> usize
-    requires { length reply.now ≡ list_size }
-    ensures { result ≡ get_or (those_from (live_of (shown_in reply.now marks.now) number) 0 slot_count) k slot_count }
+// The k-th live slot of a number, counted from 0.
+pub fn live_at(read: &ListRead, number: u16, k: usize) -> Option<usize>
+    ensures { IsSlot (get_or (those_from (live_of (shown_of read.now) number) 0 slot_count) k slot_count) result }
 {
-    let mut left = k;
-    let mut i: usize = 0;
-    while i < 2048 {
-        if slots::is_live_of(reply, marks, number, i) {
-            if left == 0 {
-                return i;
-            }
-            left -= 1;
-        }
-        i += 1;
-    }
-    i
+    (0..2048).filter(|&i| read.is_live_of(number, i)).nth(k)
 }

@@ -1,24 +1,21 @@
 -- A call: 1 before anything is sent, the read, what it shows, and then the writes. By the definitions of a call. Assumes nothing.
-use Prim.Native.Nat.{ℕ, ◌+◌, ◌*◌, ◌<◌}
+use Prim.Native.Nat.{ℕ, zero, suc, ◌<◌, ◌^◌}
 use mathlib.Core.Path.{◌≡◌, refl, sym, ap, ◌∙◌}
-use mathlib.Core.Bool.{Bool, true, false, ◌&&◌}
+use mathlib.Core.Bool.{Bool, true, false, ◌&&◌, and-false}
 use mathlib.Core.List.{List, []}
 use native.Mathlib.Omega.{arith}
 use lib.Dec.{eqb}
-use lib.ListN.{length, get_or}
-use borrow.Author.Tests.{eqb-true, lt-ltb, le-ltb}
+use lib.ListN.{length}
+use borrow.Author.Tests.{eq-eqb, ne_eqb, lt-ltb, le-ltb, le-leb, lt-leb}
 use Rattle.rules.specs.Words.{pick, Lent, lent}
 use Rattle.rules.specs.Numbers.{State, answer_number}
 use Rattle.rules.specs.Machine.{Outcome, step, left}
 use Rattle.rules.specs.Promises.{Bench, Returned, zeroed, bench_of, carried_of, state_of, outcome_of, FramePromise}
-use Rattle.rules.proofs.Bools.{and_split}
-use Rattle.memory.specs.Patched.{Patched}
 use Rattle.stations.specs.declared.StoreRecord.{StoreRecord}
-use Rattle.stations.specs.Slots.{Shown, shown_in, byte_of, bytes_of, slot_of, found, free_slot}
+use Rattle.stations.specs.Slots.{Shown, shown_in, bytes_of, slot_of, found, free_slot}
 use Rattle.stations.specs.Plans.{Plan, refused, writing, storing_at, storing, looking_up}
 use Rattle.stations.specs.Calls.{Script, Ended, ended_of, played, on_done, writes, reading, shown_by, carried_out, calling, store_right, lookup_right, store_call, lookup_call}
 use Rattle.stations.specs.Promises.{Desk, desk_of, state_at, Came, came_by, stored, looked_of, looked_up, StorePromise, LookupPromise}
-use Rattle.stations.proofs.Same.{bytes_are}
 use Rattle.store.specs.Steps.{read_frame, leaves}
 use Rattle.store.proofs.Steps.{stops_there, goes_on}
 
@@ -56,14 +53,6 @@ module _ (s : State) (reply marks : Lent) (a : ℕ) (list : List ℕ) (plan : Sh
       plan_written : (fs : List (List ℕ)) → plan (shown_by q) ≡ writing fs → came_as (played (left q) (writes a list 0 fs 0)) q.reply q.marks ≡ call right
       plan_written fs e = planned (writing fs) e
 
--- ---- the lengths of a call that is right
-
-pub right_lengths : {b : Bool} (r m x : ℕ) → b ≡ ((eqb r 65536 && eqb m 65536) && eqb x 28) → b ≡ true → (r ≡ 65536) × (m ≡ 65536) × (x ≡ 28)
-right_lengths r m x is t =
-    let e = and_split (eqb r 65536 && eqb m 65536) (eqb x 28) (sym is ∙ t) in
-    let f = and_split (eqb r 65536) (eqb m 65536) e.0 in
-    (eqb-true r 65536 f.0, eqb-true m 65536 f.1, eqb-true x 28 e.1)
-
 -- ---- what the read gave back
 
 module _ {b : Bench} {reply marks : List ℕ} {g : Returned} where
@@ -76,6 +65,19 @@ module _ {b : Bench} {reply marks : List ℕ} {g : Returned} where
 module _ (s : StoreRecord) (d : Desk) (n : ℕ) (bytes : List ℕ) (allowance : ℕ) (list : List ℕ) where
   abbrev storeOk : Bool
   storeOk = store_right (lent d.reply) (lent d.marks) bytes allowance
+
+  -- a call that is right, and what makes it a wrong one
+  pub store_ok : {b : Bool} → b ≡ (eqb (length d.reply) 65536 && eqb (length d.marks) 65536) → b ≡ true → length bytes ≡ 28 → allowance < 2 ^ 16 → storeOk ≡ true
+  store_ok is t x a = rw (sym is ∙ t, eq-eqb (length bytes) 28 x, le-leb allowance 65535 (omega arith))
+
+  pub wrong_buffers : {b : Bool} → b ≡ (eqb (length d.reply) 65536 && eqb (length d.marks) 65536) → b ≡ false → storeOk ≡ false
+  wrong_buffers is f = rw (sym is ∙ f)
+
+  pub wrong_data : (length bytes ≡ 28 → ⊥) → storeOk ≡ false
+  wrong_data h = rw (ne_eqb (length bytes) 28 h, and-false (eqb (length d.reply) 65536 && eqb (length d.marks) 65536))
+
+  pub wrong_allowance : (allowance < 2 ^ 16 → ⊥) → storeOk ≡ false
+  wrong_allowance h = rw (lt-leb allowance 65535 (omega arith), and-false ((eqb (length d.reply) 65536 && eqb (length d.marks) 65536) && eqb (length bytes) 28))
 
   pub store_1 : storeOk ≡ false → StorePromise s d n bytes allowance list (record { chip = s.chip; number = 1; polls = 0 }) d
   unfolding stored store_call
@@ -106,13 +108,13 @@ module _ (s : StoreRecord) (d : Desk) (n : ℕ) (bytes : List ℕ) (allowance : 
           full : storing v n bytes ≡ refused 16
           full = ap (λ (b : Bool). pick b (writing (storing_at v n bytes (free_slot v))) (refused 16)) (le-ltb (free_slot v) 2048 (omega arith))
 
-      pub store_written : (i : ℕ) → i ≡ free_slot v → i < 2048 → (r : StoreRecord) (array security : List ℕ)
-          → leaves r array security ≡ played (state_of (bench_of g.after.chip g.array g.security)) (writes allowance list 0 (storing_at v n bytes i) 0)
+      pub store_written : (i : ℕ) → i ≡ free_slot v → i < 2048 → {sent : List ℕ} → sent ≡ bytes → {most : ℕ} → most ≡ allowance → (r : StoreRecord) (array security : List ℕ)
+          → leaves r array security ≡ played (state_of (bench_of g.after.chip g.array g.security)) (writes most list 0 (storing_at v n sent i) 0)
           → StorePromise s d n bytes allowance list r (desk_of array security g.reply g.marks)
       unfolding stored store_call storing
-      store_written i e l r array security w =
+      store_written i e l eb ea r array security w =
           record {
-            equal = ap (λ (x : Ended). came_as x (lent g.reply) (lent g.marks)) w
+            equal = ap (λ (x : Ended). came_as x (lent g.reply) (lent g.marks)) (w ∙ (λ j. played (state_of (bench_of g.after.chip g.array g.security)) (writes (ea j) list 0 (storing_at v n (eb j) i) 0)))
                 ∙ plan_written (state_at s d) (lent d.reply) (lent d.marks) allowance list (λ v. storing v n bytes) ok (outcome_of g) is done (storing_at v n bytes i) room;
           }
         where
@@ -123,18 +125,10 @@ module _ (s : StoreRecord) (d : Desk) (n : ℕ) (bytes : List ℕ) (allowance : 
 
 -- ---- lookup
 
-zero_plus : (i : ℕ) → 0 + i ≡ i
-zero_plus i = omega arith
-
--- 28 bytes from the slot's byte 4 on
-pub given_data : (l l₀ reply marks : List ℕ) (i : ℕ) → length l₀ ≡ 28 → Patched l l₀ 0 28 (λ k. get_or reply (i * 32 + 4 + k) 0) → l ≡ bytes_of (shown_in reply marks) i 4 28
-unfolding byte_of
-given_data l l₀ reply marks i whole p = sym (bytes_are (shown_in reply marks) i 4 28 l (p.size ∙ whole) at)
-  where
-    at : (k : ℕ) → k < 28 → get_or reply (i * 32 + (4 + k)) 0 ≡ get_or l k 0
-    at k h =
-        let e : i * 32 + (4 + k) ≡ i * 32 + 4 + k = omega arith in
-        ap (λ (x : ℕ). get_or reply x 0) e ∙ sym (p.inside k h) ∙ ap (λ (x : ℕ). get_or l x 0) (zero_plus k)
+pub bytes_count : (v : Shown) (i j n : ℕ) → length (bytes_of v i j n) ≡ n
+unfolding bytes_of
+bytes_count v i j zero = refl
+bytes_count v i j (suc n) = ap suc (bytes_count v i (suc j) n)
 
 module _ (s : StoreRecord) (d : Desk) (n : ℕ) (buffer : List ℕ) where
   abbrev lookupOk : Bool

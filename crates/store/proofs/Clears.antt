@@ -1,20 +1,18 @@
 -- The writes of a store in a row: each goes on from where the one before ended, if it is done. Assumes nothing.
 use Prim.Native.Nat.{ℕ, suc, ◌+◌, ◌-◌, ◌<◌, ◌≤◌}
 use mathlib.Core.Path.{◌≡◌, sym, ap, ◌∙◌}
-use mathlib.Core.Bool.{Bool}
-use mathlib.Core.List.{List, [], ◌∷◌}
+use mathlib.Core.Bool.{Bool, true, false}
+use mathlib.Core.List.{List, ◌∷◌}
 use native.Mathlib.Omega.{arith}
-use lib.Dec.{ltb}
 use lib.ListN.{get_or}
-use borrow.Author.Tests.{eq-eqb, ne_eqb, lt-ltb, le-ltb}
+use borrow.Author.Tests.{eq-eqb, ne_eqb}
 use Rattle.rules.specs.Words.{pick}
 use Rattle.rules.specs.Numbers.{State}
 use Rattle.rules.specs.Promises.{bench_of, state_of}
 use Rattle.stations.specs.declared.StoreRecord.{StoreRecord}
-use Rattle.stations.specs.Slots.{first_from, those_from}
+use Rattle.stations.specs.Slots.{those_from}
 use Rattle.stations.specs.Plans.{mark_frame, clearings}
 use Rattle.stations.specs.Calls.{Script, ends, Ended, ended_of, played, write, writes}
-use Rattle.stations.proofs.Next.{those_first}
 use Rattle.stations.proofs.Sequel.{continued, write_then}
 use Rattle.store.specs.Steps.{leaves}
 
@@ -49,20 +47,39 @@ module _ (s : State) (a e n : ℕ) (list : List ℕ) (j : ℕ) (f : List ℕ) (f
   goes_on_from h =
       sym (then ∙ ap (λ (b : Bool). pick b (played (leaves r array security).state (rest r.polls)) (leaves r array security)) (eq-eqb r.number 0 h))
 
--- ---- the clears, from slot i on: it is the first of them, or 2,048
+-- ---- the clears, from slot i on
 
-abbrev pub clears_at : (ℕ → Bool) → ℕ → List (List ℕ)
-clears_at t i = clearings (pick (ltb i 2048) (i ∷ those_from t (i + 1) (2048 - (i + 1))) [])
+module _ (t : ℕ → Bool) (i : ℕ) (below : i < 2048) where
+  those_next : those_from t i (2048 - i) ≡ pick (t i) (i ∷ those_from t (i + 1) (2048 - (i + 1))) (those_from t (i + 1) (2048 - (i + 1)))
+  unfolding those_from
+  those_next =
+      let more : 2048 - i ≡ suc (2048 - (i + 1)) = omega arith in
+      let next : suc i ≡ i + 1 = omega arith in
+      ap (those_from t i) more
+      ∙ ap (λ (k : ℕ). pick (t i) (i ∷ those_from t k (2048 - (i + 1))) (those_from t k (2048 - (i + 1)))) next
 
--- as the first live slot from i on is found
-pub clears_first : (t : ℕ → Bool) (i r : ℕ) → i ≤ 2048 → r ≡ first_from t i (2048 - i) → clearings (those_from t i (2048 - i)) ≡ clears_at t r
-clears_first t i r h e = ap clearings (those_first t 2048 i h) ∙ ap (clears_at t) (sym e)
+  module _ (s : State) (a : ℕ) (list : List ℕ) (j n : ℕ) where
+    clears_as : (b : Bool) → t i ≡ b
+        → played s (writes a list j (clearings (pick b (i ∷ those_from t (i + 1) (2048 - (i + 1))) (those_from t (i + 1) (2048 - (i + 1))))) n)
+        ≡ played s (writes a list j (clearings (those_from t i (2048 - i))) n)
+    clears_as b e =
+        ap (λ (xs : List ℕ). played s (writes a list j (clearings xs) n))
+        (sym (those_next ∙ ap (λ (x : Bool). pick x (i ∷ those_from t (i + 1) (2048 - (i + 1))) (those_from t (i + 1) (2048 - (i + 1)))) e))
 
-pub clears_here : (t : ℕ → Bool) (i : ℕ) → i < 2048 → clears_at t i ≡ mark_frame i 0x00 0x00 ∷ clearings (those_from t (i + 1) (2048 - (i + 1)))
-unfolding clearings
-clears_here t i h = ap (λ (b : Bool). clearings (pick b (i ∷ those_from t (i + 1) (2048 - (i + 1))) [])) (lt-ltb i 2048 h)
+    -- the slot is one of them
+    pub clears_here : t i ≡ true
+        → played s (writes a list j (mark_frame i 0x00 0x00 ∷ clearings (those_from t (i + 1) (2048 - (i + 1)))) n)
+        ≡ played s (writes a list j (clearings (those_from t i (2048 - i))) n)
+    unfolding clearings
+    clears_here e = clears_as true e
 
-pub clears_end : (t : ℕ → Bool) (i : ℕ) → 2048 ≤ i → (s : State) (a : ℕ) (list : List ℕ) (j n : ℕ) → ended_of 0 n s ≡ played s (writes a list j (clears_at t i) n)
-unfolding clearings writes played
+    -- it is not
+    pub clears_past : t i ≡ false
+        → played s (writes a list j (clearings (those_from t (i + 1) (2048 - (i + 1)))) n) ≡ played s (writes a list j (clearings (those_from t i (2048 - i))) n)
+    clears_past e = clears_as false e
+
+pub clears_end : (t : ℕ → Bool) (i : ℕ) → 2048 ≤ i → (s : State) (a : ℕ) (list : List ℕ) (j n : ℕ) → ended_of 0 n s ≡ played s (writes a list j (clearings (those_from t i (2048 - i))) n)
+unfolding clearings writes played those_from
 clears_end t i h s a list j n =
-    sym (ap (λ (b : Bool). played s (writes a list j (clearings (pick b (i ∷ those_from t (i + 1) (2048 - (i + 1))) [])) n)) (le-ltb i 2048 h))
+    let z : 2048 - i ≡ 0 = omega arith in
+    ap (λ (k : ℕ). played s (writes a list j (clearings (those_from t i k)) n)) (sym z)

@@ -2,12 +2,11 @@
 use Prim.Native.Nat.{ℕ, suc, ◌+◌, ◌-◌, ◌/◌, ◌%◌, ◌<◌, ◌≤◌}
 use mathlib.Core.Path.{◌≡◌, refl, sym, ap, ◌∙◌, subst}
 use mathlib.Core.Bool.{Bool, true, false, true≢false}
-use mathlib.Core.List.{List, [], ◌∷◌, ◌++◌}
+use mathlib.Core.List.{List, [], ◌∷◌}
 use native.Mathlib.Omega.{arith}
-use lib.Dec.{eqb, ltb}
-use lib.ListN.{length, get_or, length-append, get_or-append}
-use lib.Seq.{ext_get_or, get_or-append-add}
-use borrow.Author.Tests.{ne_eqb, ltb-true, ltb-false}
+use lib.Dec.{eqb}
+use lib.ListN.{get_or}
+use borrow.Author.Tests.{ne_eqb}
 use Rattle.rules.specs.declared.Refusal.{Refusal}
 use Rattle.rules.proofs.Promises.{answer_one}
 use Rattle.rules.specs.declared.Circumstances.{Circumstances}
@@ -16,7 +15,6 @@ use Rattle.std.specs.Prelude.{Ok, Err}
 use Rattle.rules.specs.Numbers.{Answer, State, answer_number}
 use Rattle.rules.specs.Machine.{Outcome, step, left}
 use Rattle.rules.specs.Promises.{Bench, Returned, zeroed, bench_of, carried_of, state_of, FramePromise, CompletionPromise}
-use Rattle.memory.specs.Patched.{Patched}
 use Rattle.stations.specs.Calls.{Script, ends, does, Ended, ended_of, played, short, on_done, arriving, polling, write}
 use Rattle.store.specs.Steps.{SentPromise, ArrivedPromise, PolledPromise, arrived_state, polled_of}
 use Rattle.store.specs.declared.writes.Polled.{Polled}
@@ -189,41 +187,3 @@ refused_some a w e =
 
 pub done_none : (a : Answer) → a ≡ Ok tt → eqb (answer_number a) 0 ≡ true
 done_none a e = ap (λ (x : Answer). eqb (answer_number x) 0) e
-
--- ---- a frame of two parts
-
-zero_plus : (i : ℕ) → 0 + i ≡ i
-zero_plus i = omega arith
-
-pub two_parts : (l l₁ l₀ head bytes : List ℕ) → Patched l l₁ 6 28 (λ i. get_or bytes (0 + i) 0) → Patched l₁ l₀ 0 6 (λ i. get_or head (0 + i) 0)
-    → length l₀ ≡ 34 → length head ≡ 6 → length bytes ≡ 28 → l ≡ head ++ bytes
-two_parts l l₁ l₀ head bytes second first whole six rest = ext_get_or 0 l (head ++ bytes) (second.size ∙ first.size ∙ whole ∙ sym size) at
-  where
-    size : length (head ++ bytes) ≡ 34
-    size = let e = length-append head bytes in omega arith
-
-    front : (i : ℕ) → i < 6 → get_or l i 0 ≡ get_or (head ++ bytes) i 0
-    front i k =
-        second.before i k
-        ∙ ap (λ (x : ℕ). get_or l₁ x 0) (sym (zero_plus i))
-        ∙ first.inside i k
-        ∙ ap (λ (x : ℕ). get_or head x 0) (zero_plus i)
-        ∙ sym (get_or-append head bytes 0 i (omega arith))
-
-    behind : (j : ℕ) → j < 28 → get_or l (6 + j) 0 ≡ get_or (head ++ bytes) (6 + j) 0
-    behind j k =
-        let q : length head + j ≡ 6 + j = omega arith in
-        second.inside j k
-        ∙ ap (λ (x : ℕ). get_or bytes x 0) (zero_plus j)
-        ∙ sym (ap (λ (x : ℕ). get_or (head ++ bytes) x 0) (sym q) ∙ get_or-append-add head bytes j 0)
-
-    at : (i : ℕ) → i < length l → get_or l i 0 ≡ get_or (head ++ bytes) i 0
-    at i h = go (ltb i 6) refl
-      where
-        go : (b : Bool) → ltb i 6 ≡ b → get_or l i 0 ≡ get_or (head ++ bytes) i 0
-        go true e = front i (ltb-true i 6 e)
-        go false e =
-            let k = ltb-false i 6 e in
-            let long : length l ≡ 34 = second.size ∙ first.size ∙ whole in
-            let j : 6 + (i - 6) ≡ i = omega arith in
-            ap (λ (x : ℕ). get_or l x 0) (sym j) ∙ behind (i - 6) (omega arith) ∙ ap (λ (x : ℕ). get_or (head ++ bytes) x 0) j

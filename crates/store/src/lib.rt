@@ -4,14 +4,16 @@
 
 mod writes;
 
-ghost use Rattle.std.specs.Prelude.{◌≡◌, ◌&&◌, eqb, length, ◌<◌, ◌≤◌};
+ghost use Rattle.std.specs.Prelude.{◌≡◌, ◌&&◌, eqb};
 ghost use Rattle.rules.specs.Promises.{zeroed, bench_of, carried_of, returned_of, FramePromise};
-ghost use Rattle.stations.specs.Slots.{data_size, shown_in, bytes_of, free_slot};
+ghost use Rattle.stations.specs.Slots.{free_slot};
 ghost use Rattle.stations.specs.Calls.{list_size};
 ghost use Rattle.stations.specs.Promises.{desk_of, LookupPromise, StorePromise};
+ghost use Rattle.slots.specs.Reads.{shown_of, IsSlot};
 ghost use Rattle.store.specs.Steps.{read_frame};
 
 use rules::{After, Chip};
+use slots::ListRead;
 pub use stations::StoreRecord;
 
 // The read of the whole list.
@@ -28,19 +30,11 @@ fn read_list(
     chip::frame(c, array, security, b"\x03\x01\x00\x00", reply, marks, x)
 }
 
-// Both buffers hold the list, and data or a lookup's buffer have 28 bytes.
-fn lengths_right(reply: usize, marks: usize, bytes: usize) -> bool
-    ensures { result ≡ ((eqb reply list_size && eqb marks list_size) && eqb bytes data_size) }
+// Both buffers hold the list.
+fn buffers_right(reply: usize, marks: usize) -> bool
+    ensures { result ≡ (eqb reply list_size && eqb marks list_size) }
 {
-    ((reply == 65536) & (marks == 65536)) & (bytes == 28)
-}
-
-// The data of slot i.
-fn give(buffer: &mut [u8], reply: &[u8], marks: &[u8], i: usize)
-    requires { (length buffer.old ≡ data_size) × (length reply.now ≡ list_size) × (i < 2048) }
-    ensures { buffer.new ≡ bytes_of (shown_in reply.now marks.now) i 4 data_size }
-{
-    memory::copy(buffer, 0, 28, reply, i * 32 + 4);
+    (reply == 65536) & (marks == 65536)
 }
 
 // The data of the first live slot of a number, into the lent buffer.
@@ -56,7 +50,7 @@ pub fn lookup(
     ensures { LookupPromise s (desk_of array.old security.old reply.old marks.old) station buffer.old result (desk_of array.new security.new reply.new marks.new) buffer.new }
 {
     let c = s.chip;
-    if !lengths_right(reply.len(), marks.len(), buffer.len()) {
+    if !(buffers_right(reply.len(), marks.len()) & (buffer.len() == 28)) {
         return StoreRecord {
             chip: c,
             number: 1,
@@ -73,15 +67,15 @@ pub fn lookup(
             polls: 0,
         };
     };
-    let i = slots::live_from(reply, marks, station, 0);
-    if i == 2048 {
+    let read = ListRead { reply, marks };
+    let Some(i) = read.live_from(station, 0) else {
         return StoreRecord {
             chip: next,
             number: 17,
             polls: 0,
         };
-    }
-    give(buffer, reply, marks, i);
+    };
+    buffer.copy_from_slice(read.data(i));
     StoreRecord {
         chip: next,
         number: 0,
@@ -89,13 +83,11 @@ pub fn lookup(
     }
 }
 
-// The slot that a store writes into: the first empty one, 2048 where there is none. Never its own.
-fn slot_for(reply: &[u8], marks: &[u8], station: u16) -> usize
-    requires { length reply.now ≡ list_size }
-    ensures value { result ≡ free_slot (shown_in reply.now marks.now) }
-    ensures within { result ≤ 2048 }
+// The slot that a store writes into: the first empty one. Never its own.
+fn slot_for(read: &ListRead, station: u16) -> Option<usize>
+    ensures { IsSlot (free_slot (shown_of read.now)) result }
 {
-    slots::first_empty(reply, marks)
+    read.first_empty()
 }
 
 // Number and data into the first empty slot, its mark, and the marks of the other live slots of that number.
@@ -113,13 +105,20 @@ pub fn store(
     ensures { StorePromise s (desk_of array.old security.old reply.old marks.old) station «data».now allowance list.now result (desk_of array.new security.new reply.new marks.new) }
 {
     let c = s.chip;
-    if !(lengths_right(reply.len(), marks.len(), data.len()) & (allowance <= 65535)) {
-        return StoreRecord {
-            chip: c,
-            number: 1,
-            polls: 0,
-        };
+    let wrong = StoreRecord {
+        chip: c,
+        number: 1,
+        polls: 0,
+    };
+    if !buffers_right(reply.len(), marks.len()) {
+        return wrong;
     }
+    let Some(bytes) = data.as_array::<28>() else {
+        return wrong;
+    };
+    let Ok(most) = u16::try_from(allowance) else {
+        return wrong;
+    };
     let after = read_list(c, array, security, reply, marks);
     let answer = after.answer;
     let next = after.chip;
@@ -130,15 +129,13 @@ pub fn store(
             polls: 0,
         };
     };
-    let i = slot_for(reply, marks, station);
-    if i == 2048 {
+    let read = ListRead { reply, marks };
+    let Some(i) = slot_for(&read, station) else {
         return StoreRecord {
             chip: next,
             number: 16,
             polls: 0,
         };
-    }
-    writes::write_all(
-        next, array, security, reply, marks, i, station, data, allowance, list,
-    )
+    };
+    writes::write_all(next, array, security, &read, i, station, bytes, most, list)
 }

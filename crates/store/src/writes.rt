@@ -1,13 +1,15 @@
 // The writes of a call: 06, the frame, polls.
-ghost use Rattle.std.specs.Prelude.{◌≡◌, ◌+◌, ◌%◌, ◌<◌, ◌≤◌, eqb, get_or, length};
+ghost use Rattle.std.specs.Prelude.{◌≡◌, ◌+◌, ◌%◌, ◌<◌, ◌≤◌, eqb, get_or};
 ghost use Rattle.rules.specs.Promises.{zeroed, bench_of, state_of};
-ghost use Rattle.stations.specs.Slots.{slot_count, those_from, shown_in, live_of};
+ghost use Rattle.stations.specs.Slots.{slot_count, those_from, live_of};
 ghost use Rattle.stations.specs.Plans.{record_frame, mark_frame, clearings, storing_at};
-ghost use Rattle.stations.specs.Calls.{list_size, ends, played, polling};
+ghost use Rattle.stations.specs.Calls.{ends, played, polling};
 ghost use Rattle.stations.specs.Calls as calls;
+ghost use Rattle.slots.specs.Reads.{shown_of};
 ghost use Rattle.store.specs.Steps.{most_polls, leaves, SentPromise, ArrivedPromise, PolledPromise};
 
 use rules::{After, Chip, Circumstances, Refusal, Tear};
+use slots::ListRead;
 use stations::StoreRecord;
 
 // A frame of the store is no reset: it tears nothing.
@@ -66,19 +68,18 @@ fn poll_once(c: Chip, array: &mut [u8], security: &mut [u8], arrives: bool) -> P
 }
 
 // Whether the completion arrives before the next poll of a write, of which `made` are made.
-fn arrives_next(made: u64, entry: u64) -> bool
-    requires { made < 65535 }
+fn arrives_next(made: u16, entry: u64) -> bool
     ensures { result ≡ eqb (made + 1) entry }
 {
-    made + 1 == entry
+    u64::from(made) + 1 == entry
 }
 
 // The polls of a call whose last write used up what it was allowed.
-fn used_up(polls: u64, made: u64) -> u64
-    requires { (polls ≤ most_polls) × (made ≤ 65535) }
+fn used_up(polls: u64, made: u16) -> u64
+    requires { polls ≤ most_polls }
     ensures { result ≡ polls + made }
 {
-    polls + made
+    polls + u64::from(made)
 }
 
 // Polls of one write, of whose completion `entry` says before which poll it arrives; `polls` were made before it.
@@ -86,19 +87,17 @@ fn poll(
     c: Chip,
     array: &mut [u8],
     security: &mut [u8],
-    allowance: u64,
+    allowance: u16,
     entry: u64,
     polls: u64,
 ) -> StoreRecord
-    requires { (allowance ≤ 65535) × (polls ≤ most_polls) }
+    requires { polls ≤ most_polls }
     ensures security_after { leaves result array.new security.new ≡ played (state_of (bench_of c array.old security.old)) (polling allowance 0 entry polls (ends 0)) }
     ensures few { result.polls ≤ polls + allowance }
 {
     let mut at = c;
-    let mut made: u64 = 0;
-    while made < allowance {
+    for made in 0..allowance {
         let arrives = arrives_next(made, entry);
-        made += 1;
         let t = poll_once(at, array, security, arrives);
         let answer = t.answer;
         at = t.chip;
@@ -113,14 +112,14 @@ fn poll(
             return StoreRecord {
                 chip: at,
                 number: 0,
-                polls: polls + made,
+                polls: polls + u64::from(made) + 1,
             };
         }
     }
     StoreRecord {
         chip: at,
         number: 18,
-        polls: used_up(polls, made),
+        polls: used_up(polls, allowance),
     }
 }
 
@@ -130,10 +129,10 @@ fn write(
     array: &mut [u8],
     security: &mut [u8],
     frame: &[u8],
-    allowance: u64,
+    allowance: u16,
     entry: u64,
 ) -> StoreRecord
-    requires { (allowance ≤ 65535) × (s.polls ≤ most_polls) }
+    requires { s.polls ≤ most_polls }
     ensures security_after { leaves result array.new security.new ≡ played (state_of (bench_of s.chip array.old security.old)) (calls.write allowance entry frame.now s.polls (ends 0)) }
     ensures few { result.polls ≤ s.polls + allowance }
 {
@@ -166,7 +165,7 @@ fn write(
 pub fn entry_of(list: &[u64], turn: usize) -> u64
     ensures { result ≡ get_or list.now turn 0 }
 {
-    if turn < list.len() { list[turn] } else { 0 }
+    list.get(turn).copied().unwrap_or(0)
 }
 
 // A byte of a place in the list.
@@ -184,10 +183,10 @@ pub fn write_mark(
     i: usize,
     first: u8,
     second: u8,
-    allowance: u64,
+    allowance: u16,
     entry: u64,
 ) -> StoreRecord
-    requires { (i < 2048) × (allowance ≤ 65535) × (s.polls ≤ most_polls) }
+    requires { (i < 2048) × (s.polls ≤ most_polls) }
     ensures security_after { leaves result array.new security.new ≡ played (state_of (bench_of s.chip array.old security.old)) (calls.write allowance entry (mark_frame i first second) s.polls (ends 0)) }
     ensures few { result.polls ≤ s.polls + allowance }
 {
@@ -197,8 +196,8 @@ pub fn write_mark(
 }
 
 // The frame that writes number and data into slot i.
-fn put_record(frame: &mut [u8; 34], i: usize, station: u16, data: &[u8])
-    requires { (i < 2048) × (length «data».now ≡ 28) }
+fn put_record(frame: &mut [u8; 34], i: usize, station: u16, data: &[u8; 28])
+    requires { i < 2048 }
     ensures { frame.new ≡ record_frame i station «data».now }
 {
     let p = i * 32 + 2;
@@ -211,8 +210,8 @@ fn put_record(frame: &mut [u8; 34], i: usize, station: u16, data: &[u8])
         byte_of(n / 256),
         byte_of(n),
     ];
-    memory::copy(frame, 0, 6, &head, 0);
-    memory::copy(frame, 6, 28, data, 0);
+    frame[..6].copy_from_slice(&head);
+    frame[6..].copy_from_slice(data);
 }
 
 // Number and data of slot i.
@@ -222,11 +221,11 @@ pub fn write_record(
     security: &mut [u8],
     i: usize,
     station: u16,
-    data: &[u8],
-    allowance: u64,
+    data: &[u8; 28],
+    allowance: u16,
     entry: u64,
 ) -> StoreRecord
-    requires { (i < 2048) × (length «data».now ≡ 28) × (allowance ≤ 65535) × (s.polls ≤ most_polls) }
+    requires { (i < 2048) × (s.polls ≤ most_polls) }
     ensures security_after { leaves result array.new security.new ≡ played (state_of (bench_of s.chip array.old security.old)) (calls.write allowance entry (record_frame i station «data».now) s.polls (ends 0)) }
     ensures few { result.polls ≤ s.polls + allowance }
 {
@@ -240,34 +239,26 @@ pub fn clear_others(
     s: StoreRecord,
     array: &mut [u8],
     security: &mut [u8],
-    reply: &[u8],
-    marks: &[u8],
+    read: &ListRead,
     station: u16,
-    allowance: u64,
+    allowance: u16,
     list: &[u64],
 ) -> StoreRecord
-    requires { (s.number ≡ 0) × (length reply.now ≡ list_size) × (allowance ≤ 65535) × (s.polls ≤ 131070) }
-    ensures { leaves result array.new security.new ≡ played (state_of (bench_of s.chip array.old security.old)) (calls.writes allowance list.now 2 (clearings (those_from (live_of (shown_in reply.now marks.now) station) 0 slot_count)) s.polls) }
+    requires { (s.number ≡ 0) × (s.polls ≤ 131070) }
+    ensures { leaves result array.new security.new ≡ played (state_of (bench_of s.chip array.old security.old)) (calls.writes allowance list.now 2 (clearings (those_from (live_of (shown_of read.now) station) 0 slot_count)) s.polls) }
 {
     let mut at = s;
-    let mut turn: usize = 2;
-    let mut i = slots::live_from(reply, marks, station, 0);
-    while i < 2048 {
-        at = write_mark(
-            at,
-            array,
-            security,
-            i,
-            0x00,
-            0x00,
-            allowance,
-            entry_of(list, turn),
-        );
+    let mut turn = 2;
+    for i in 0..2048 {
+        if !read.is_live_of(station, i) {
+            continue;
+        }
+        let entry = entry_of(list, turn);
+        at = write_mark(at, array, security, i, 0x00, 0x00, allowance, entry);
         if at.number != 0 {
             return at;
         }
         turn += 1;
-        i = slots::live_from(reply, marks, station, i + 1);
     }
     at
 }
@@ -277,16 +268,15 @@ pub fn write_all(
     c: Chip,
     array: &mut [u8],
     security: &mut [u8],
-    reply: &[u8],
-    marks: &[u8],
+    read: &ListRead,
     i: usize,
     station: u16,
-    data: &[u8],
-    allowance: u64,
+    data: &[u8; 28],
+    allowance: u16,
     list: &[u64],
 ) -> StoreRecord
-    requires { (i < 2048) × (length reply.now ≡ list_size) × (length «data».now ≡ 28) × (allowance ≤ 65535) }
-    ensures { leaves result array.new security.new ≡ played (state_of (bench_of c array.old security.old)) (calls.writes allowance list.now 0 (storing_at (shown_in reply.now marks.now) station «data».now i) 0) }
+    requires { i < 2048 }
+    ensures { leaves result array.new security.new ≡ played (state_of (bench_of c array.old security.old)) (calls.writes allowance list.now 0 (storing_at (shown_of read.now) station «data».now i) 0) }
 {
     let s = StoreRecord {
         chip: c,
@@ -319,7 +309,5 @@ pub fn write_all(
     if marked.number != 0 {
         return marked;
     }
-    clear_others(
-        marked, array, security, reply, marks, station, allowance, list,
-    )
+    clear_others(marked, array, security, read, station, allowance, list)
 }

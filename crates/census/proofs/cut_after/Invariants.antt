@@ -2,14 +2,12 @@
 use Prim.Native.Nat.{◌≤◌, ◌-◌}
 use mathlib.Core.Path.{◌≡◌}
 use lib.Dec.{leb}
-use Rattle.stations.specs.Slots.{shown_in, first_from}
+use Rattle.stations.specs.Slots.{first_from}
+use Rattle.slots.specs.Reads.{shown_of}
 use Rattle.census.specs.Census.{found, count_below, cut_after}
 use Rattle.census.proofs.cut_after.Given as goal
 
 abbrev pub invariant-loop-i : goal.invariant-loop-i
 invariant-loop-i l =
-    (l.i ≤ 2048) × (l.n ≤ l.i) × (l.n ≡ count_below (found (shown_in l.reply l.marks)) l.i)
-    × (cut_after (shown_in l.reply l.marks) l.k ≡ first_from (λ j. leb l.k (count_below (found (shown_in l.reply l.marks)) j)) l.i (2048 - l.i))
-
-abbrev pub decreases-loop-i : goal.decreases-loop-i
-decreases-loop-i l = 2048 - l.i
+    (l.n ≤ l.i) × (l.n ≡ count_below (found (shown_of l.read)) l.i)
+    × (cut_after (shown_of l.read) l.k ≡ first_from (λ j. leb l.k (count_below (found (shown_of l.read)) j)) l.i (2048 - l.i))

@@ -1,27 +1,18 @@
-use Prim.Native.Nat.{ℕ}
-use mathlib.Core.Path.{◌≡◌, refl, sym, ap, ◌∙◌}
-use mathlib.Core.Bool.{not}
-use Rattle.stations.specs.Slots.{shown_in, some_below, live_of}
-use Rattle.census.proofs.Numbers.{some_hit, some_next, passed_not, passed_by_lem}
+-- Live, and some live slot of its number lies below. Assumes nothing.
 use native.Mathlib.Omega.{arith}
+use borrow.Author.Rules.{rules}
+use borrow.Author.Tests.{tests}
+use Rattle.std.proofs.lemmas.Iterator.{YieldsList-from_range}
+use Rattle.std.proofs.lemmas.Iterator.Search.{any_from_yields_List}
+use Rattle.stations.specs.Slots.{live_of}
+use Rattle.slots.specs.Reads.{shown_of}
+use Rattle.census.proofs.Numbers.{passed_not, passed_by_lem}
 use Rattle.census.proofs.is_passed_over.Goals as goal
 
-pub returns-then-not-is_live : goal.returns-then-not-is_live
-returns-then-not-is_live c = passed_not _ _ c.is_live.ensures (ap not c.if-not-is_live.true)
+pub returns-then-is_live : goal.returns-then-is_live
+returns-then-is_live c =
+    passed_by_lem _ _ c.is_live.ensures c.if-is_live.true c.station_of-number.ensures
+    (any_from_yields_List (live_of (shown_of c.args.read.now) c.station_of-number.result) _ _ _ c.any.ensures.ran (YieldsList-from_range 0 c.args.i c.args.i (cc) (omega arith)) (λ x b q k. search (rules, tests)))
 
-pub loop-j-init : goal.loop-j-init
-unfolding some_below
-loop-j-init c = (omega arith, refl)
-
-pub returns-then-is_numbered : goal.returns-then-is_numbered
-returns-then-is_numbered c = let l = c.loop-j in
-    passed_by_lem _ _ c.is_live.ensures (ap not c.if-not-is_live.false) c.station_of-number.ensures (some_hit _ _ l.j (omega arith) (sym c.is_numbered.ensures ∙ c.if-is_numbered.true))
-
-pub loop-j-preserved : goal.loop-j-preserved
-loop-j-preserved c = (omega arith, some_next _ _ c.loop-j.invariant.1 (sym c.is_numbered.ensures ∙ c.if-is_numbered.false))
-
-pub returns : goal.returns
-returns c = let l = c.loop-j in
-    let a = c.args in
-    let e : l.j ≡ a.i = omega arith in
-    passed_by_lem _ _ c.is_live.ensures (ap not c.if-not-is_live.false) c.station_of-number.ensures (ap (λ (k : ℕ). some_below k (live_of (shown_in a.reply.now a.marks.now) c.station_of-number.result)) (sym e) ∙ l.invariant.1)
+pub returns-else-is_live : goal.returns-else-is_live
+returns-else-is_live c = passed_not _ _ c.is_live.ensures c.if-is_live.false

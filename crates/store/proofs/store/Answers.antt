@@ -1,35 +1,32 @@
 -- 1 before anything is sent; the read; no empty slot; the writes. Assumes nothing.
-use mathlib.Core.Path.{sym, ap, ◌∙◌}
-use mathlib.Core.Bool.{Bool, ◌&&◌}
-use native.Mathlib.Omega.{arith}
-use lib.Dec.{leb}
-use lib.ListN.{length}
-use borrow.Author.Tests.{leb-true}
-use Rattle.rules.proofs.Bools.{and_split}
+use mathlib.Core.Path.{refl, ◌∙◌}
 use Rattle.rules.specs.Promises.{returned_of}
 use Rattle.stations.specs.Promises.{desk_of}
 use Rattle.store.proofs.Steps.{refused_some, done_none}
-use Rattle.store.proofs.Calls.{right_lengths, read_is, store_1, store_read, store_16, store_written}
+use Rattle.store.proofs.Calls.{store_ok, wrong_buffers, wrong_data, wrong_allowance, read_is, store_1, store_read, store_16, store_written}
 use Rattle.store.proofs.store.Goals as goal
 
-pub returns-then-not-lengths_right-allowance : goal.returns-then-not-lengths_right-allowance
-returns-then-not-lengths_right-allowance c = let a = c.args in store_1 a.s (desk_of a.array.now a.security.now a.reply.now a.marks.now) a.station a.«data».now a.allowance a.list.now (ap (λ (b : Bool). b && leb a.allowance 65535) (sym c.lengths_right.ensures) ∙ c.if-not-lengths_right-allowance.true)
+pub returns-then-not-buffers_right : goal.returns-then-not-buffers_right
+returns-then-not-buffers_right c = let a = c.args in let d = (desk_of a.array.now a.security.now a.reply.now a.marks.now) in
+    store_1 a.s d a.station a.«data».now a.allowance a.list.now (wrong_buffers a.s d a.station a.«data».now a.allowance a.list.now c.buffers_right.ensures c.if-not-buffers_right.true)
 
 pub returns-in_default : goal.returns-in_default
-returns-in_default c = let a = c.args in let g = c.read_list-after in let ok = ap (λ (b : Bool). b && leb a.allowance 65535) (sym c.lengths_right.ensures) ∙ c.if-not-lengths_right-allowance.false in
+returns-in_default c = let a = c.args in let d = (desk_of a.array.now a.security.now a.reply.now a.marks.now) in
+    store_1 a.s d a.station a.«data».now a.allowance a.list.now (wrong_data a.s d a.station a.«data».now a.allowance a.list.now c.in_default.ensures.cases)
+
+pub returns-in_default-try_from : goal.returns-in_default-try_from
+returns-in_default-try_from c = let a = c.args in let d = (desk_of a.array.now a.security.now a.reply.now a.marks.now) in
+    store_1 a.s d a.station a.«data».now a.allowance a.list.now (wrong_allowance a.s d a.station a.«data».now a.allowance a.list.now c.in_default-try_from.ensures)
+
+pub returns-in_default-answer : goal.returns-in_default-answer
+returns-in_default-answer c = let a = c.args in let g = c.read_list-after in let ok = store_ok a.s (desk_of a.array.now a.security.now a.reply.now a.marks.now) a.station a.«data».now a.allowance a.list.now c.buffers_right.ensures c.if-not-buffers_right.false c.in-Some.ensures.cases.long c.in-Ok.ensures.0 in
     let gave = returned_of g.result g.new.array g.new.security g.new.reply g.new.marks in
-    store_read a.s (desk_of a.array.now a.security.now a.reply.now a.marks.now) a.station a.«data».now a.allowance a.list.now ok gave (read_is g.ensures) _ c.answer_number.ensures (refused_some _ _ c.in_default.is)
+    store_read a.s (desk_of a.array.now a.security.now a.reply.now a.marks.now) a.station a.«data».now a.allowance a.list.now ok gave (read_is g.ensures) _ c.answer_number.ensures (refused_some _ _ c.in_default-answer.is)
 
-pub slot_for-i-requires : goal.slot_for-i-requires
-slot_for-i-requires c = let a = c.args in let q = and_split c.lengths_right.result (leb a.allowance 65535) c.if-not-lengths_right-allowance.false in let r = right_lengths (length a.reply.now) (length a.marks.now) (length a.«data».now) c.lengths_right.ensures q.0 in c.read_list-after.auto.reply ∙ r.0
-
-pub returns-then-i-eq2048 : goal.returns-then-i-eq2048
-returns-then-i-eq2048 c = let a = c.args in let g = c.read_list-after in let ok = ap (λ (b : Bool). b && leb a.allowance 65535) (sym c.lengths_right.ensures) ∙ c.if-not-lengths_right-allowance.false in
+pub returns-in_default-slot_for : goal.returns-in_default-slot_for
+returns-in_default-slot_for c = let a = c.args in let g = c.read_list-after in let ok = store_ok a.s (desk_of a.array.now a.security.now a.reply.now a.marks.now) a.station a.«data».now a.allowance a.list.now c.buffers_right.ensures c.if-not-buffers_right.false c.in-Some.ensures.cases.long c.in-Ok.ensures.0 in
     let gave = returned_of g.result g.new.array g.new.security g.new.reply g.new.marks in
-    store_16 a.s (desk_of a.array.now a.security.now a.reply.now a.marks.now) a.station a.«data».now a.allowance a.list.now ok gave (read_is g.ensures) (done_none _ c.in-Ok.is) _ c.slot_for-i.ensures.value c.if-i-eq2048.true
-
-pub write_all-requires : goal.write_all-requires
-write_all-requires c = let a = c.args in let q = and_split c.lengths_right.result (leb a.allowance 65535) c.if-not-lengths_right-allowance.false in let r = right_lengths (length a.reply.now) (length a.marks.now) (length a.«data».now) c.lengths_right.ensures q.0 in (omega (arith, c.if-i-eq2048.false, c.slot_for-i.ensures.within), c.read_list-after.auto.reply ∙ r.0, r.2, leb-true _ 65535 q.1)
+    store_16 a.s (desk_of a.array.now a.security.now a.reply.now a.marks.now) a.station a.«data».now a.allowance a.list.now ok gave (read_is g.ensures) (done_none _ c.in-Ok.is) _ refl c.in_default-slot_for.ensures
 
 pub shape_of-array : goal.shape_of-array
 shape_of-array c = c.write_all.auto.array ∙ c.read_list-after.auto.array
@@ -38,6 +35,6 @@ pub shape_of-security : goal.shape_of-security
 shape_of-security c = c.write_all.auto.security ∙ c.read_list-after.auto.security
 
 pub returns : goal.returns
-returns c = let a = c.args in let g = c.read_list-after in let ok = ap (λ (b : Bool). b && leb a.allowance 65535) (sym c.lengths_right.ensures) ∙ c.if-not-lengths_right-allowance.false in
+returns c = let a = c.args in let g = c.read_list-after in let ok = store_ok a.s (desk_of a.array.now a.security.now a.reply.now a.marks.now) a.station a.«data».now a.allowance a.list.now c.buffers_right.ensures c.if-not-buffers_right.false c.in-Some.ensures.cases.long c.in-Ok.ensures.0 in
     let gave = returned_of g.result g.new.array g.new.security g.new.reply g.new.marks in
-    store_written a.s (desk_of a.array.now a.security.now a.reply.now a.marks.now) a.station a.«data».now a.allowance a.list.now ok gave (read_is g.ensures) (done_none _ c.in-Ok.is) _ c.slot_for-i.ensures.value (omega (arith, c.if-i-eq2048.false, c.slot_for-i.ensures.within)) _ _ _ c.write_all.ensures
+    store_written a.s (desk_of a.array.now a.security.now a.reply.now a.marks.now) a.station a.«data».now a.allowance a.list.now ok gave (read_is g.ensures) (done_none _ c.in-Ok.is) _ c.in-Some-slot_for.ensures.0 c.in-Some-slot_for.ensures.1 c.in-Some.ensures.cases.same c.in-Ok.ensures.1 _ _ _ c.write_all.ensures

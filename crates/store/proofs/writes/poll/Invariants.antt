@@ -1,5 +1,5 @@
 -- What is left of the polls comes, from where the chip is now, to what all of them come to from the start. Assumes nothing.
-use Prim.Native.Nat.{◌-◌, ◌≤◌}
+use Prim.Native.Nat.{◌-◌}
 use mathlib.Core.Path.{◌≡◌}
 use lib.ListN.{length}
 use Rattle.rules.specs.Promises.{bench_of, state_of}
@@ -8,9 +8,6 @@ use Rattle.store.proofs.writes.poll.Given as goal
 
 abbrev pub invariant-loop-made : goal.invariant-loop-made
 invariant-loop-made l =
-    (l.made ≤ l.allowance) × (length l.array ≡ length l.initial.array) × (length l.security ≡ length l.initial.security)
+    (length l.array ≡ length l.initial.array) × (length l.security ≡ length l.initial.security)
     × (played (state_of (bench_of l.at l.array l.security)) (polling (l.allowance - l.made) l.made l.entry l.polls (ends 0))
     ≡ played (state_of (bench_of l.initial.at l.initial.array l.initial.security)) (polling l.allowance 0 l.entry l.polls (ends 0)))
-
-abbrev pub decreases-loop-made : goal.decreases-loop-made
-decreases-loop-made l = l.allowance - l.made
