@@ -5,8 +5,9 @@ pub mod plain;
 
 // An internal operation that runs or is suspended, with what it needs until it ends.
 // Sectors, blocks and pages are given by number: a block by its place in document 01's table, counted from 0.
-#[derive(Clone, Copy)]
+#[derive(Clone, Copy, PartialEq, Eq, Default)]
 pub enum Work {
+    #[default]
     Nothing,
     EraseSector(usize),
     EraseBlock(usize),
@@ -21,19 +22,19 @@ pub enum Work {
 }
 
 // The protection register and the permanent one.
-#[derive(Clone, Copy)]
+#[derive(Clone, Copy, PartialEq, Eq)]
 pub struct Locks {
     pub protection: u64,
     pub permanent: u64,
 }
 
-#[derive(Clone, Copy)]
+#[derive(Clone, Copy, PartialEq, Eq, Default)]
 pub struct Works {
     pub running: Work,
     pub suspended: Work,
 }
 
-#[derive(Clone, Copy)]
+#[derive(Clone, Copy, PartialEq, Eq, Default)]
 pub struct Flags {
     // the part: BA, else the old one. No event changes it, and it stands first: behind those that frames change, a frame takes more instructions
     pub ba: bool,
@@ -49,8 +50,9 @@ pub struct Flags {
 }
 
 // How many bytes a burst read goes round in.
-#[derive(Clone, Copy)]
+#[derive(Clone, Copy, PartialEq, Eq, Default)]
 pub enum Burst {
+    #[default]
     Eight,
     Sixteen,
     ThirtyTwo,
@@ -58,7 +60,7 @@ pub enum Burst {
 }
 
 // The chip record without its page buffer.
-#[derive(Clone, Copy)]
+#[derive(Clone, Copy, PartialEq, Eq)]
 pub struct Rest {
     pub locks: Locks,
     // apart from the flags: next to them both are moved as one word, and an event takes more instructions
@@ -89,9 +91,9 @@ pub struct Circumstances {
 }
 
 // Why an event is refused: document 01's list, in its order, then document 02's numbers.
-#[derive(Clone, Copy)]
+#[derive(Clone, Copy, PartialEq, Eq)]
 pub enum Refusal {
-    Malformed,
+    Malformed = 1,
     Empty,
     NotListed,
     WrongLength,
