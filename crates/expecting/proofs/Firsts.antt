@@ -1,16 +1,20 @@
--- Laws of first places and of flags as numbers. Assumes nothing.
+-- Laws of first places. Assumes nothing.
 use Prim.Native.Nat.{ℕ, ◌≤◌, ◌<◌}
 use mathlib.Core.Path.{◌≡◌, sym, ◌∙◌}
-use mathlib.Core.Bool.{Bool, true, false, true≢false}
+use mathlib.Core.Bool.{Bool, true, false, true≢false, ◌&&◌}
 use native.Mathlib.Omega.{arith}
 use native.Mathlib.Decide.{dec_lt}
-use Rattle.rules.specs.Words.{num}
-use Rattle.expecting.specs.Expectations.{First}
-
--- a flag counts at most once
-pub num_small : (b : Bool) → num b ≤ 1
-num_small true = omega arith
-num_small false = omega arith
+use mathlib.Core.List.{List, [], ◌∷◌}
+use mathlib.Core.Path.{refl, ap}
+use borrow.Author.Tests.{ne_eqb}
+use Prim.Native.Nat.{◌+◌, ◌%◌}
+use Rattle.std.specs.Prelude.{MatchOption}
+use Rattle.std.specs.List.{list_all}
+use Rattle.std.specs.declared.option.Option.TheVariants.{None, Some}
+use Rattle.std.specs.declared.option.Option.{Option}
+use Rattle.std.specs.Option.{unwrap_or}
+use Rattle.rules.specs.Words.{every}
+use Rattle.expecting.specs.Expectations.{First, unheld, unheld_at}
 
 -- there is one first place
 pub first_one : (test : ℕ → Bool) (n r r' : ℕ) → First test n r → First test n r' → r ≡ r'
@@ -20,3 +24,21 @@ first_one test n r r' p q = go (dec_lt r r') (dec_lt r' r)
     go (yes h) d = let w = q.within in absurd (true≢false (sym (p.there (omega arith)) ∙ q.before r h))
     go (no h) (yes k) = let w = p.within in absurd (true≢false (sym (q.there (omega arith)) ∙ p.before r' k))
     go (no h) (no k) = omega arith
+
+-- what a search of the numbers below n finds, or n, is the first place
+pub first_found : (test : ℕ → Bool) (n : ℕ) (r : Option ℕ)
+    → MatchOption r ((k : ℕ) → 0 ≤ k → k < n → test k ≡ false) (λ i. (0 ≤ i) × (i < n) × (test i ≡ true) × ((k : ℕ) → 0 ≤ k → k < i → test k ≡ false))
+    → First test n (unwrap_or r n)
+first_found test n None h = record { within = omega arith; before = λ i l. h i (omega arith) l; there = λ l. absurd (omega arith) }
+first_found test n (Some i) h = record { within = omega arith; before = λ k l. h.3 k (omega arith) l; there = λ l. h.2 }
+
+-- where bytes are expected, the one at i is compared
+pub compared_at : (memory : List ℕ) (from : ℕ) (expected known : List ℕ) (count i : ℕ) → (count ≡ 0 → ⊥)
+    → unheld memory from expected known count i ≡ unheld_at memory (from + i) expected known (i % count)
+unfolding unheld
+compared_at memory from expected known count i some = rw (ne_eqb _ _ some)
+
+-- the test holds at each entry: as the library says it
+pub every_is : (t : ℕ → Bool) (xs : List ℕ) → list_all t xs ≡ every t xs
+every_is t [] = refl
+every_is t (x ∷ xs) = ap (λ b. t x && b) (every_is t xs)

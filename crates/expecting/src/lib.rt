@@ -2,13 +2,11 @@
 #![tactic(auto)]
 
 ghost use Rattle.std.specs.Prelude.{◌≡◌, not, ◌&&◌, ◌+◌, eqb, length, get_or};
-ghost use Rattle.rules.specs.Words.{num, every};
+ghost use Rattle.rules.specs.Words.{every};
 ghost use Rattle.expecting.specs.Expectations.{First, Judged};
 
-use rules::plain::smaller;
-
 // What is not met.
-#[derive(Clone, Copy)]
+#[derive(Clone, Copy, Default, PartialEq, Eq)]
 pub struct Verdict {
     // another number came
     pub number: bool,
@@ -27,20 +25,20 @@ pub struct Verdict {
 fn at(s: &[u8], i: usize) -> u8
     ensures { result ≡ get_or s.now i 0 }
 {
-    if i < s.len() {
-        return s[i];
-    }
-    0
+    s.get(i).copied().unwrap_or(0)
 }
 
+#[tactic(auto, unfolding(crate::specs::Expectations::differs))]
 fn differs(reply: &[u8], marks: &[u8], expected: &[u8], known: &[u8], i: usize) -> bool
     ensures { result ≡ Rattle.expecting.specs.Expectations.differs reply.now marks.now expected.now known.now i }
 {
-    let wanted = at(known, i);
-    let mark = at(marks, i);
-    let came = at(reply, i);
-    let byte = at(expected, i);
-    (wanted != 0) & ((came != byte) | (wanted == 2) & (mark != 0) | (wanted != 2) & (mark == 0))
+    let other = at(reply, i) != at(expected, i);
+    let unknown = at(marks, i) == 0;
+    match at(known, i) {
+        0 => false,
+        2 => other || !unknown,
+        _ => other || unknown,
+    }
 }
 
 // The first of n places at which the reply is not as expected; n where there is none.
@@ -53,38 +51,22 @@ pub fn first_difference(
 ) -> usize
     ensures { First (Rattle.expecting.specs.Expectations.differs reply.now marks.now expected.now known.now) n result }
 {
-    let mut i: usize = 0;
-    while i < n {
-        if differs(reply, marks, expected, known, i) {
-            return i;
-        }
-        i += 1;
-    }
-    n
+    (0..n)
+        .find(|&i| differs(reply, marks, expected, known, i))
+        .unwrap_or(n)
 }
 
 fn compared(expects: u64, replied: usize, count: usize) -> usize
     ensures { result ≡ Rattle.expecting.specs.Expectations.compared expects replied count }
 {
-    if expects == 1 {
-        smaller(replied, count)
-    } else {
-        0
-    }
+    if expects == 1 { replied.min(count) } else { 0 }
 }
 
 // Every byte is v.
 fn all_are(s: &[u8], v: u8) -> bool
     ensures { result ≡ every (λ x. eqb x v) s.now }
 {
-    let mut i: usize = 0;
-    while i < s.len() {
-        if s[i] != v {
-            return false;
-        }
-        i += 1;
-    }
-    true
+    s.iter().all(|&x| x == v)
 }
 
 // `number` is expected if judged, else, if strict, no refusal; `count` bytes if expects is 1, an unchanged reply if it is 2;
@@ -104,15 +86,13 @@ pub fn judge(
     ensures { Judged judged number strict given expects count reply.now marks.now expected.now known.now result }
 {
     let n = compared(expects, reply.len(), count);
-    let place = first_difference(reply, marks, expected, known, n);
-    let same_reply = all_are(reply, 0x5a);
-    let same_marks = all_are(marks, 7);
+    let untouched = all_are(reply, 0x5a) & all_are(marks, 7);
     Verdict {
         number: judged & (number != given as u64),
         strict: strict & !judged & (given != 0),
         length: (expects == 1) & (reply.len() != count),
-        kept: (expects == 2) & !(same_reply & same_marks),
-        place,
+        kept: (expects == 2) & !untouched,
+        place: first_difference(reply, marks, expected, known, n),
         compared: n,
     }
 }
@@ -123,25 +103,21 @@ pub fn judge(
 fn behind(memory: &[u8], from: usize, i: usize) -> u8
     ensures { result ≡ get_or memory.now (from + i) 0 }
 {
-    if from < memory.len() {
-        if i < memory.len() - from {
-            return memory[from + i];
-        }
-    }
-    0
+    from.checked_add(i)
+        .and_then(|place| memory.get(place).copied())
+        .unwrap_or(0)
 }
 
+#[tactic(auto, unfolding(crate::specs::Expectations::unheld_at))]
 fn unheld(memory: &[u8], from: usize, expected: &[u8], known: &[u8], j: usize, i: usize) -> bool
     ensures { result ≡ Rattle.expecting.specs.Expectations.unheld_at memory.now (from + j) expected.now known.now i }
 {
-    let wanted = at(known, i);
-    let holds = behind(memory, from, j);
-    let byte = at(expected, i);
-    (wanted != 0) & (holds != byte)
+    at(known, i) != 0 && behind(memory, from, j) != at(expected, i)
 }
 
 // The first of n places from `from` on at which the memory is not as `count` expected bytes, over and over, say; n where there is
 // none, or no byte is expected.
+#[tactic(auto, unfolding(crate::specs::Expectations::unheld))]
 pub fn first_unheld(
     memory: &[u8],
     from: usize,
@@ -155,29 +131,19 @@ pub fn first_unheld(
     if count == 0 {
         return n;
     }
-    let mut i: usize = 0;
-    while i < n {
-        if unheld(memory, from, expected, known, i, i % count) {
-            return i;
-        }
-        i += 1;
-    }
-    n
+    (0..n)
+        .find(|&i| unheld(memory, from, expected, known, i, i % count))
+        .unwrap_or(n)
 }
 
 // ---- how many
 
-fn one(b: bool) -> u64
-    ensures { result ≡ num b }
-{
-    if b { 1 } else { 0 }
-}
-
 // How many of a line's two expectations are not met.
+#[tactic(auto, unfolding(crate::specs::Expectations::unmet))]
 pub fn unmet(v: Verdict) -> u64
     ensures { result ≡ Rattle.expecting.specs.Expectations.unmet v }
 {
     let number = v.number | v.strict;
     let bytes = v.length | v.kept | (v.place < v.compared);
-    one(number) + one(bytes)
+    u64::from(number) + u64::from(bytes)
 }

@@ -5,57 +5,55 @@ ghost use Rattle.std.specs.Prelude.{◌≡◌, eqb};
 ghost use Rattle.rules.specs.Words.{num};
 ghost use Rattle.fields.specs.Records.{record_of, same_work, same_flags_lem, same_rest_lem, same_record_lem};
 
-use numbering::{bit_of, burst_byte, burst_of, kind_of, number_of, work_of};
+use numbering::{burst_byte, burst_of, kind_of, number_of, work_of};
 use rules::{Chip, Flags, Locks, Rest, Work, Works};
 
 // The record of a line's fields, with a buffer of FF.
+#[tactic(auto, unfolding(crate::specs::Records::record_of, rules::specs::Programs::blank))]
 pub fn record_of(slots: [u64; 24]) -> Chip
     ensures { result ≡ record_of slots }
 {
-    let locks = Locks {
-        protection: slots[11],
-        permanent: slots[12],
-    };
-    let works = Works {
-        running: work_of(slots[13], slots[14]),
-        suspended: work_of(slots[15], slots[16]),
-    };
-    let flags = Flags {
-        wpld: slots[21] != 0,
-        sec: slots[22] != 0,
-        ioc: slots[19] != 0,
-        wpen: slots[20] != 0,
-        sqi: slots[17] != 0,
-        wel: slots[18] != 0,
-        enable: slots[23] != 0,
-        ba: slots[10] != 0,
-    };
-    let rest = Rest {
-        locks,
-        works,
-        flags,
-        burst: burst_of(slots[9]),
-    };
     Chip {
         buffer: [255; 256],
-        rest,
+        rest: Rest {
+            locks: Locks {
+                protection: slots[11],
+                permanent: slots[12],
+            },
+            works: Works {
+                running: work_of(slots[13], slots[14]),
+                suspended: work_of(slots[15], slots[16]),
+            },
+            flags: Flags {
+                wpld: slots[21] != 0,
+                sec: slots[22] != 0,
+                ioc: slots[19] != 0,
+                wpen: slots[20] != 0,
+                sqi: slots[17] != 0,
+                wel: slots[18] != 0,
+                enable: slots[23] != 0,
+                ba: slots[10] != 0,
+            },
+            burst: burst_of(slots[9]),
+        },
     }
 }
 
+// Kind and number and not the derived ==: that the two agree, case by case of both, did not prove.
+#[tactic(auto, unfolding(crate::specs::Records::same_work))]
 fn same_work(a: Work, b: Work) -> bool
     ensures { result ≡ same_work a b }
 {
-    let kinds = kind_of(a) == kind_of(b);
-    let numbers = number_of(a) == number_of(b);
-    kinds & numbers
+    (kind_of(a) == kind_of(b)) & (number_of(a) == number_of(b))
 }
 
 fn same_flag(a: bool, b: bool) -> bool
     ensures { result ≡ eqb (num a) (num b) }
 {
-    bit_of(a) == bit_of(b)
+    a == b
 }
 
+#[tactic(auto, unfolding(crate::specs::Records::same_flags_lem))]
 fn same_flags(a: Flags, b: Flags) -> bool
     ensures { result ≡ same_flags_lem a b }
 {
@@ -70,33 +68,21 @@ fn same_flags(a: Flags, b: Flags) -> bool
 }
 
 // Both are the same but for their buffers.
+#[tactic(auto, unfolding(crate::specs::Records::same_rest_lem))]
 pub fn same_rest(a: Rest, b: Rest) -> bool
     ensures { result ≡ same_rest_lem a b }
 {
-    let one = a.locks;
-    let two = b.locks;
-    let works = a.works;
-    let others = b.works;
-    let locks = (one.protection == two.protection) & (one.permanent == two.permanent);
-    let run = works.running;
-    let aside = works.suspended;
-    let other_run = others.running;
-    let other_aside = others.suspended;
-    let running = same_work(run, other_run);
-    let suspended = same_work(aside, other_aside);
-    let flags = same_flags(a.flags, b.flags);
-    let set = a.burst;
-    let other_set = b.burst;
-    let bursts = burst_byte(set) == burst_byte(other_set);
-    locks & running & suspended & flags & bursts
+    (a.locks == b.locks)
+        & same_work(a.works.running, b.works.running)
+        & same_work(a.works.suspended, b.works.suspended)
+        & same_flags(a.flags, b.flags)
+        & (burst_byte(a.burst) == burst_byte(b.burst))
 }
 
 // Every field but the buffer is as the slots say.
+#[tactic(auto, unfolding(crate::specs::Records::same_record_lem))]
 pub fn same_record(c: Chip, slots: [u64; 24]) -> bool
     ensures { result ≡ same_record_lem c slots }
 {
-    let said = record_of(slots);
-    let rest = c.rest;
-    let other = said.rest;
-    same_rest(rest, other)
+    same_rest(c.rest, record_of(slots).rest)
 }

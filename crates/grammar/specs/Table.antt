@@ -431,8 +431,3 @@ rows_in l = rows_from (length l / 6) l
 unfoldable pub keys_from : ℕ → List ℕ → List ℕ
 keys_from k [] = []
 keys_from k (b ∷ bs) = pick (eqb b 0x20) (k ∷ keys_from 1 bs) (keys_from (key_with k b) bs)
-
--- a place is one byte
-unfoldable pub numbers_in : List ℕ → List ℕ
-numbers_in [] = []
-numbers_in (b ∷ bs) = (b - 48) ∷ numbers_in bs

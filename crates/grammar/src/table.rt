@@ -1,30 +1,12 @@
 // The table: what may follow what, and what a word says where it stands. specs/Table.antt.
-ghost use Rattle.std.specs.Prelude.{◌≡◌, ◌+◌, ◌-◌, min, eqb, get_or};
-ghost use Rattle.rules.specs.Words.{pick, one_of};
-ghost use Rattle.spelling.specs.Words.{key_with};
+ghost use Rattle.std.specs.Prelude.{◌≡◌, ◌-◌};
 ghost use Rattle.grammar.specs.Places.{takes_name};
-ghost use Rattle.grammar.specs.Table.{position, keys_from, called, called_long, has_class, first_of, rows_in, numbers_in, next_of, can_end, value_of, slots_with};
+ghost use Rattle.grammar.specs.Table.{position, keys_from, called, called_long, has_class, first_of, row_in, rows_in, next_of, can_end, value_of, slots_with};
 
 use crate::Entry;
 use spelling::{Word, key_after};
 
 // ---- the words
-
-fn number_after(n: u8, b: u8) -> u8
-    ensures { result ≡ pick (eqb b 32) (min (n + 1) 255) n }
-{
-    if b == 32 {
-        if n < 255 { n + 1 } else { 255 }
-    } else {
-        n
-    }
-}
-
-fn key_or_next(key: u64, b: u8) -> u64
-    ensures { result ≡ pick (eqb b 32) 1 (key_with key b) }
-{
-    if b == 32 { 1 } else { key_after(key, b) }
-}
 
 // The class of the word with that key, in a text where a blank follows each word; 255 where it is none of them.
 fn position(text: &[u8], key: u64) -> u8
@@ -32,29 +14,32 @@ fn position(text: &[u8], key: u64) -> u8
 {
     let mut n: u8 = 16;
     let mut k: u64 = 1;
-    let mut i = 0;
-    while i < text.len() {
-        let b = text[i];
-        if (b == 32) & (k == key) {
+    for &b in text {
+        if b != b' ' {
+            k = key_after(k, b);
+        } else if k == key {
             return n;
+        } else {
+            n = n.saturating_add(1);
+            k = 1;
         }
-        n = number_after(n, b);
-        k = key_or_next(k, b);
-        i += 1;
     }
     255
 }
 
 // The one word of eight bytes.
+#[tactic(auto, unfolding(crate::specs::Table::called_long))]
 fn called_long(length: usize, key: u64) -> u8
     ensures { result ≡ called_long length key }
 {
-    if (length == 8) & (key == 0x73746174696F6E73) {
-        return 15;
+    if length == 8 && key == u64::from_be_bytes(*b"stations") {
+        15
+    } else {
+        255
     }
-    255
 }
 
+#[tactic(auto, unfolding(crate::specs::Table::called, crate::specs::Table::keys, crate::specs::Table::word_list, crate::specs::Table::keys_from))]
 fn called(w: Word) -> u8
     ensures { result ≡ called w }
 {
@@ -73,6 +58,7 @@ fn called(w: Word) -> u8
 
 // ---- the rows
 
+#[tactic(auto, unfolding(crate::specs::Table::has_class))]
 fn has_class(class: u8, w: Word, name: u8) -> bool
     ensures { result ≡ has_class class w name }
 {
@@ -93,34 +79,34 @@ fn has_class(class: u8, w: Word, name: u8) -> bool
 fn less(b: u8) -> u8
     ensures { result ≡ b - 48 }
 {
-    if b < 48 { 0 } else { b - 48 }
+    b.saturating_sub(48)
 }
 
-fn number_at(text: &[u8], i: usize) -> u8
-    ensures { result ≡ get_or text.now i 0 - 48 }
+// What a row of six bytes says: its place, the word's class, the next place, what is stored, the slot, its source.
+fn entry_of(row: &[u8; 6]) -> Entry
+    ensures { result ≡ (row_in row.now).entry }
 {
-    if i < text.len() { less(text[i]) } else { 0 }
+    Entry {
+        class: less(row[1]),
+        next: less(row[2]),
+        store: less(row[3]),
+        slot: less(row[4]),
+        source: less(row[5]),
+    }
 }
 
 // The first row of that place whose class the word has.
 fn first_of(text: &[u8], place: u8, w: Word, name: u8) -> Entry
     ensures { result ≡ first_of (rows_in text.now) place w name }
 {
-    let n = text.len() / 6;
-    let mut k = 0;
-    while k < n {
-        let at = k * 6;
-        let class = number_at(text, at + 1);
-        if (number_at(text, at) == place) & has_class(class, w, name) {
-            return Entry {
-                class,
-                next: number_at(text, at + 2),
-                store: number_at(text, at + 3),
-                slot: number_at(text, at + 4),
-                source: number_at(text, at + 5),
-            };
+    let (rows, _) = text.as_chunks::<6>();
+    for row in rows {
+        if less(row[0]) == place {
+            let entry = entry_of(row);
+            if has_class(entry.class, w, name) {
+                return entry;
+            }
         }
-        k += 1;
     }
     Entry {
         class: 255,
@@ -165,58 +151,69 @@ pub fn follows(place: u8, w: Word) -> Entry
     )
 }
 
-fn listed(text: &[u8], x: u8) -> bool
-    ensures { result ≡ one_of x (numbers_in text.now) }
-{
-    let mut i = 0;
-    while i < text.len() {
-        if x == less(text[i]) {
-            return true;
-        }
-        i += 1;
-    }
-    false
-}
-
 // A word is a name here.
 pub fn takes_name(place: u8) -> bool
     ensures { result ≡ takes_name place }
 {
-    ((47 < place) & (place < 53)) | (place == 63)
+    matches!(place, 48..=52 | 63)
 }
 
 // The line may end here.
+#[tactic(auto, unfolding(crate::specs::Table::ends))]
 pub fn can_end(place: u8) -> bool
     ensures { result ≡ can_end place }
 {
-    listed(b"013579<>?ACFPWeghilnprtvx", place)
+    matches!(
+        place,
+        0 | 1
+            | 3
+            | 5
+            | 7
+            | 9
+            | 12
+            | 14
+            | 15
+            | 17
+            | 19
+            | 22
+            | 32
+            | 39
+            | 53
+            | 55
+            | 56
+            | 57
+            | 60
+            | 62
+            | 64
+            | 66
+            | 68
+            | 70
+            | 72
+    )
 }
 
 // ---- what a word says
 
+#[tactic(auto, unfolding(crate::specs::Table::value_of))]
 fn value(source: u8, w: Word) -> u64
     ensures { result ≡ value_of source w }
 {
-    if source == 1 {
-        return w.number;
+    match source {
+        1 => w.number,
+        2 => w.hex,
+        60 => 256 + w.hex % 256,
+        _ => u64::from(source.saturating_sub(3)),
     }
-    if source == 2 {
-        return w.hex;
-    }
-    if source == 60 {
-        return 256 + w.hex % 256;
-    }
-    if source < 3 { 0 } else { (source - 3) as u64 }
 }
 
+#[tactic(auto, unfolding(crate::specs::Table::slots_with))]
 pub fn heard(slots: [u64; 24], e: Entry, w: Word) -> [u64; 24]
     ensures { result ≡ slots_with slots e w }
 {
     let mut all = slots;
-    let at = e.slot as usize;
-    let v = value(e.source, w);
-    if (e.source != 0) & (at < 24) {
-        all[at] = v;
+    let at = usize::from(e.slot);
+    if e.source != 0 && at < all.len() {
+        all[at] = value(e.source, w);
     }
     all
 }

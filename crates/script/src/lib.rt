@@ -7,7 +7,6 @@ ghost use Rattle.std.specs.Prelude.{◌≡◌};
 ghost use Rattle.script.specs.Lines.{fresh, stored, StepPromise, FinishPromise};
 
 pub use lines::line_of;
-use rules::plain::smaller;
 use spelling::Word;
 
 // ---- what a line says
@@ -74,11 +73,9 @@ pub fn start() -> Reading
 fn store(a: &mut [u8; 65537], from: usize, to: usize, v: u8)
     ensures { a.new ≡ stored a.old from to v }
 {
-    let end = smaller(to, 65537);
-    let mut i = from;
-    while i < end {
-        a[i] = v;
-        i += 1;
+    let end = to.min(a.len());
+    if from < end {
+        a[from..end].fill(v);
     }
 }
 

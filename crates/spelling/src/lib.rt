@@ -5,7 +5,8 @@ ghost use Rattle.std.specs.Prelude.{◌≡◌, ◌+◌, ◌*◌, ◌%◌, ◌^�
 ghost use Rattle.rules.specs.Words.{pick};
 ghost use Rattle.spelling.specs.Words.{blank, line_end, sign, ends_words, digit_of, one_more_lem, tens_of, key_with, no_word, word_with, is_sign, byte_of};
 
-// A word half read; none while its length is 0.
+// A word half read; none while its length is 0, and no Option then: where none has begun, the column of a remark is still said (`no_word`).
+// The two numbers stand beside their flags and not in an Option: law `number_is` of grammar's proofs/Spelled is of a word of any bytes.
 #[derive(Clone, Copy)]
 pub struct Word {
     // at most 25
@@ -23,81 +24,66 @@ pub struct Word {
 }
 
 // One more, at most 2^64 - 1.
+#[tactic(auto, unfolding(crate::specs::Words::one_more_lem, crate::specs::Words::most))]
 pub fn one_more(n: usize) -> usize
     ensures { result ≡ one_more_lem n }
 {
-    if n < 18446744073709551615 { n + 1 } else { n }
+    n.saturating_add(1)
 }
 
 // Space, tab, vertical tab, form feed.
 pub fn is_blank(b: u8) -> bool
     ensures { result ≡ blank b }
 {
-    (b == 32) | ((b == 9) | ((b == 11) | (b == 12)))
+    matches!(b, b' ' | b'\t' | 0x0b | 0x0c)
 }
 
 // LF, CR.
 pub fn ends_line(b: u8) -> bool
     ensures { result ≡ line_end b }
 {
-    (b == 10) | (b == 13)
+    matches!(b, b'\n' | b'\r')
 }
 
 // One of the signs > = ! / * ~.
 fn is_sign(b: u8) -> bool
     ensures { result ≡ sign b }
 {
-    (b == 62) | ((b == 61) | ((b == 33) | ((b == 47) | ((b == 42) | (b == 126)))))
+    matches!(b, b'>' | b'=' | b'!' | b'/' | b'*' | b'~')
 }
 
 // #, a sign, a blank or a line's end.
 pub fn ends_words(b: u8) -> bool
     ensures { result ≡ ends_words b }
 {
-    (b == 35) | (is_sign(b) | (is_blank(b) | ends_line(b)))
+    b == b'#' || is_sign(b) || is_blank(b) || ends_line(b)
 }
 
-// What a hex digit stands for; 16 for any other byte.
+// What a hex digit stands for; 16 for any other byte, a number too, since each byte of a word adds to its numbers (`word_with`).
+#[tactic(auto, unfolding(crate::specs::Words::digit_of))]
 fn digit(b: u8) -> u8
     ensures { result ≡ digit_of b }
 {
-    if b < 0x30 {
-        return 16;
+    match b {
+        b'0'..=b'9' => b - b'0',
+        b'A'..=b'F' => b - b'A' + 10,
+        b'a'..=b'f' => b - b'a' + 10,
+        _ => 16,
     }
-    if b < 0x3a {
-        return b - 0x30;
-    }
-    if b < 0x41 {
-        return 16;
-    }
-    if b < 0x47 {
-        return b - 0x37;
-    }
-    if b < 0x61 {
-        return 16;
-    }
-    if b < 0x67 {
-        return b - 0x57;
-    }
-    16
 }
 
 // One digit more, at most 2^64 - 1.
+#[tactic(auto, unfolding(crate::specs::Words::tens_of, crate::specs::Words::most))]
 fn tens(number: u64, d: u8) -> u64
     ensures { result ≡ tens_of number d }
 {
-    let digit = d as u64;
-    if number <= (18446744073709551615 - digit) / 10 {
-        number * 10 + digit
-    } else {
-        18446744073709551615
-    }
+    number.saturating_mul(10).saturating_add(u64::from(d))
 }
 
 fn length_after(n: usize) -> usize
     ensures { result ≡ min (n + 1) 25 }
 {
-    if n < 25 { n + 1 } else { 25 }
+    n.saturating_add(1).min(25)
 }
 
 fn column_after(length: usize, old: usize, column: usize) -> usize
@@ -109,13 +95,13 @@ fn column_after(length: usize, old: usize, column: usize) -> usize
 pub fn key_after(key: u64, b: u8) -> u64
     ensures { result ≡ key_with key b }
 {
-    key % 72057594037927936 * 256 + b as u64
+    key % 72057594037927936 * 256 + u64::from(b)
 }
 
 fn hex_after(hex: u64, d: u8) -> u64
     ensures { result ≡ hex % 2 ^ 60 * 16 + d % 16 }
 {
-    hex % 1152921504606846976 * 16 + (d % 16) as u64
+    hex % 1152921504606846976 * 16 + u64::from(d % 16)
 }
 
 // No word; where a remark begins, its column.
@@ -134,6 +120,7 @@ pub fn none(column: usize) -> Word
 }
 
 // The word with one byte more, which stands at that column.
+#[tactic(auto, unfolding(crate::specs::Words::word_with))]
 pub fn longer(w: Word, b: u8, column: usize) -> Word
     ensures { result ≡ word_with w b column }
 {

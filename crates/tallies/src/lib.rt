@@ -2,10 +2,9 @@
 #![tactic(auto)]
 
 ghost use Rattle.std.specs.Prelude.{◌≡◌};
-ghost use Rattle.rules.specs.Words.{num};
-ghost use Rattle.tallies.specs.Tallies.{added, untold, after_event, after_unmet, after_wrong, sum_of};
+ghost use Rattle.tallies.specs.Tallies.{untold, after_event, after_unmet, after_wrong, sum_of};
 
-#[derive(Clone, Copy)]
+#[derive(Clone, Copy, Default)]
 pub struct Tally {
     pub events: u64,
     pub refused: u64,
@@ -18,72 +17,52 @@ pub struct Tally {
 pub fn no_events() -> Tally
     ensures { result ≡ untold }
 {
-    Tally {
-        events: 0,
-        refused: 0,
-        differences: 0,
-        wrong: 0,
-    }
-}
-
-fn one(b: bool) -> u64
-    ensures { result ≡ num b }
-{
-    if b { 1 } else { 0 }
-}
-
-fn plus(n: u64, by: u64) -> u64
-    ensures { result ≡ added n by }
-{
-    if by <= 18446744073709551615 - n {
-        return n + by;
-    }
-    18446744073709551615
+    Tally::default()
 }
 
 // An event with this number came, and so many of its expectations are not met.
+#[tactic(auto, unfolding(crate::specs::Tallies::added))]
 pub fn with_event(t: Tally, number: u8, unmet: u64) -> Tally
     ensures { result ≡ after_event t number unmet }
 {
     Tally {
-        events: plus(t.events, 1),
-        refused: plus(t.refused, one(number != 0)),
-        differences: plus(t.differences, unmet),
-        wrong: t.wrong,
+        events: t.events.saturating_add(1),
+        refused: t.refused.saturating_add(u64::from(number != 0)),
+        differences: t.differences.saturating_add(unmet),
+        ..t
     }
 }
 
+#[tactic(auto, unfolding(crate::specs::Tallies::added))]
 pub fn with_wrong_line(t: Tally) -> Tally
     ensures { result ≡ after_wrong t }
 {
     Tally {
-        events: t.events,
-        refused: t.refused,
-        differences: t.differences,
-        wrong: plus(t.wrong, 1),
+        wrong: t.wrong.saturating_add(1),
+        ..t
     }
 }
 
 // So many expectations of a line that is no event are not met.
+#[tactic(auto, unfolding(crate::specs::Tallies::added))]
 pub fn with_unmet(t: Tally, unmet: u64) -> Tally
     ensures { result ≡ after_unmet t unmet }
 {
     Tally {
-        events: t.events,
-        refused: t.refused,
-        differences: plus(t.differences, unmet),
-        wrong: t.wrong,
+        differences: t.differences.saturating_add(unmet),
+        ..t
     }
 }
 
 // Of two scripts.
+#[tactic(auto, unfolding(crate::specs::Tallies::added))]
 pub fn sum_of(t: Tally, u: Tally) -> Tally
     ensures { result ≡ sum_of t u }
 {
     Tally {
-        events: plus(t.events, u.events),
-        refused: plus(t.refused, u.refused),
-        differences: plus(t.differences, u.differences),
-        wrong: plus(t.wrong, u.wrong),
+        events: t.events.saturating_add(u.events),
+        refused: t.refused.saturating_add(u.refused),
+        differences: t.differences.saturating_add(u.differences),
+        wrong: t.wrong.saturating_add(u.wrong),
     }
 }

@@ -1,16 +1,10 @@
-use mathlib.Core.Path.{sym, ◌∙◌}
-use borrow.Author.Count.{below_more}
-use native.Mathlib.Omega.{arith}
+use Rattle.std.proofs.lemmas.Iterator.{first_from_Range}
+use Rattle.std.proofs.Common.{rules, ◌≡◌, true, false}
+use Rattle.expecting.specs.Expectations.{differs}
+use Rattle.expecting.proofs.Firsts.{first_found}
 use Rattle.expecting.proofs.first_difference.Goals as goal
 
-pub loop-i-init : goal.loop-i-init
-loop-i-init c = record { low = omega arith; before = λ k h. absurd (omega arith) }
-
-pub returns-then-differs : goal.returns-then-differs
-returns-then-differs c = record { within = omega arith; before = c.loop-i.invariant.before; there = λ h. sym c.differs.ensures ∙ c.if-differs.true }
-
-pub loop-i-preserved : goal.loop-i-preserved
-loop-i-preserved c = record { low = omega arith; before = below_more _ _ c.loop-i.invariant.before (sym c.differs.ensures ∙ c.if-differs.false) }
-
 pub returns : goal.returns
-returns c = record { within = omega arith; before = λ k h. c.loop-i.invariant.before k (omega arith); there = λ h. absurd (omega arith) }
+returns c = let a = c.args in
+    let test = differs a.reply.now a.marks.now a.expected.now a.known.now in
+    rw c.unwrap_or.ensures (first_found test a.n _ (first_from_Range _ _ _ _ (λ i. test i ≡ true) (λ i. test i ≡ false) c.find.ensures.ran (λ x q k. search rules) (λ x q k. search rules)))

@@ -1,26 +1,19 @@
-use mathlib.Core.Path.{sym, ◌∙◌}
-use borrow.Author.Count.{below_more}
-use borrow.Author.Tests.{eq-eqb, ne_eqb}
+use Rattle.std.proofs.lemmas.Iterator.{first_from_Range}
+use Rattle.std.proofs.Common.{rules, arith, ℕ, ◌≡◌, true, false}
+use borrow.Author.Tests.{eq-eqb}
 use Rattle.expecting.specs.Expectations.{unheld}
-use native.Mathlib.Omega.{arith}
+use Rattle.expecting.proofs.Firsts.{first_found, compared_at}
 use Rattle.expecting.proofs.first_unheld.Goals as goal
+
+pub returns : goal.returns
+returns c = let a = c.args in
+    let test = unheld a.memory.now a.from a.expected.now a.known.now a.count in
+    let here = λ (i : ℕ). compared_at a.memory.now a.from a.expected.now a.known.now a.count i c.if-count-eq0.false in
+    rw c.unwrap_or.ensures
+    (first_found test a.n _
+    (first_from_Range _ _ _ _ (λ i. test i ≡ true) (λ i. test i ≡ false) c.find.ensures.ran (λ x q k. rw (here x) (search rules)) (λ x q k. (search rules, rw (here x) (search rules)))))
 
 pub returns-then-count-eq0 : goal.returns-then-count-eq0
 unfolding unheld
-returns-then-count-eq0 c = record { within = omega arith; before = λ k h. rw (eq-eqb c.args.count 0 c.if-count-eq0.true); there = λ h. absurd (omega arith) }
-
-pub loop-i-init : goal.loop-i-init
-loop-i-init c = record { low = omega arith; before = λ k h. absurd (omega arith) }
-
-pub returns-then-unheld : goal.returns-then-unheld
-unfolding unheld
-returns-then-unheld c = let a = c.args in
-    record { within = omega arith; before = c.loop-i.invariant.before; there = λ h. rw (ne_eqb a.count 0 c.if-count-eq0.false) (sym c.unheld.ensures ∙ c.if-unheld.true) }
-
-pub loop-i-preserved : goal.loop-i-preserved
-unfolding unheld
-loop-i-preserved c = let a = c.args in
-    record { low = omega arith; before = below_more _ _ c.loop-i.invariant.before (rw (ne_eqb a.count 0 c.if-count-eq0.false) (sym c.unheld.ensures ∙ c.if-unheld.false)) }
-
-pub returns : goal.returns
-returns c = record { within = omega arith; before = λ k h. c.loop-i.invariant.before k (omega arith); there = λ h. absurd (omega arith) }
+returns-then-count-eq0 c =
+    record { within = omega arith; before = λ i l. rw (eq-eqb _ _ c.if-count-eq0.true); there = λ l. absurd (omega arith) }

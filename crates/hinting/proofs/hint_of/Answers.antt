@@ -1,28 +1,33 @@
 -- No word, a word in lower case, or digits: the tests are the definition's, in its order. Assumes nothing.
-use Rattle.hinting.specs.Hints.{stands, in_lower, of_digits, hint_of}
-use Rattle.grammar.proofs.Picks.{picked, passed_over}
-use mathlib.Core.Path.{ap, ◌∙◌}
-use mathlib.Core.Bool.{◌&&◌}
-use Prim.Native.Nat.{ℕ}
+use borrow.Author.Tests.{eq-eqb, ne_eqb, lt-ltb}
+use Rattle.hinting.specs.Hints.{hint_of}
+use Rattle.hinting.proofs.Hinted.{same_part, shown_whole}
 use Rattle.hinting.proofs.hint_of.Goals as goal
+use Rattle.hinting.proofs.hint_of.Goals.{then-length-eq0-via-then-length-eq0, then-length-eq0-via-else-length-eq0+then-length-gt24}
 
-pub returns-then-length : goal.returns-then-length
+pub returns-then-length-eq0 : goal.returns-then-length-eq0
 unfolding hint_of
-returns-then-length c = rw c.if-length.true
+returns-then-length-eq0 c =
+    elim c.then-length-eq0.branch [
+      | then-length-eq0-via-then-length-eq0 w ↦ rw (eq-eqb _ _ w.if-length-eq0.true)
+      | then-length-eq0-via-else-length-eq0+then-length-gt24 w ↦ rw (ne_eqb _ _ w.if-length-eq0.false, lt-ltb _ _ w.if-length-gt24.true)
+    ]
 
 pub returns-then-stands : goal.returns-then-stands
-unfolding hint_of
-returns-then-stands c = let a = c.args in
-    rw c.if-length.false
-    (picked _ _ (c.stands.ensures ∙ ap (stands a.place) c.in_lower-whole.ensures) c.if-stands.true)
+returns-then-stands c =
+    rw (shown_whole c.args.place _ c.args.word.now c.if-length-eq0.false c.if-length-gt24.false, ← c.in_lower.ensures, ← c.stands.ensures, c.if-stands.true)
 
 pub returns : goal.returns
-unfolding hint_of
-returns c = let d = c in
-    let b = d in
-    let a = b.args in
-    let w = d.in_lower-digits.ensures ∙ ap (λ (n : ℕ). in_lower a.word.now n a.length) d.prefix-skipped.ensures in
-    rw b.if-length.false
-    (c.of_digits.ensures
-    ∙ (λ i. of_digits (c.takes_byte.ensures i && (w i).hexadecimal) (w i).length)
-    ∙ passed_over _ _ (b.stands.ensures ∙ ap (stands a.place) b.in_lower-whole.ensures) b.if-stands.false)
+returns c =
+    rw (
+      shown_whole c.args.place _ c.args.word.now c.if-length-eq0.false c.if-length-gt24.false,
+      ← c.in_lower.ensures,
+      ← c.stands.ensures,
+      c.if-stands.false,
+      ← c.prefix.ensures,
+      ← same_part c.prefix.result c.args.length c.args.word.now,
+      ← c.min-skipped.ensures,
+      ← c.in_lower-digits.ensures,
+      ← c.takes_byte.ensures,
+    )
+    c.of_digits.ensures

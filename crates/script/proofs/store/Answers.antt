@@ -1,18 +1,20 @@
-use Rattle.script.proofs.Filled.{filled_next, filled_end}
-use Rattle.script.specs.Lines.{filled, stored}
-use mathlib.Core.Path.{ap, ◌∙◌}
+-- Those places filled, or none. Assumes nothing.
+use mathlib.Core.Path.{◌≡◌}
 use Prim.Native.Nat.{ℕ, ◌-◌}
+use lib.ListN.{length, take, drop}
+use Rattle.std.proofs.Common.{length-take, length-drop}
+use native.Mathlib.Omega.{arith}
+use Rattle.script.specs.Lines.{stored}
+use Rattle.script.proofs.Filled.{filled_is, none_filled}
 use Rattle.script.proofs.store.Goals as goal
 
-pub loop-i-init : goal.loop-i-init
+pub returns-then-from-end : goal.returns-then-from-end
 unfolding stored
-loop-i-init c = let a = c.args in
-    record { ends = c.smaller-end.ensures; is = ap (λ (x : ℕ). filled (x - a.from) a.a.now a.from a.v) c.smaller-end.ensures }
+returns-then-from-end c = let a = c.args in
+    let end = c.min-end.result in
+    let z : length (take (end - a.from) (drop a.from a.a.now)) ≡ end - a.from = omega (arith, length-take {A = ℕ}, length-drop {A = ℕ}) in
+    rw (c.fill.ensures.after (λ y e. e), z, ← c.min-end.ensures) (filled_is (end - a.from) a.a.now a.from a.v (omega arith))
 
-pub loop-i-preserved : goal.loop-i-preserved
-loop-i-preserved c = let l = c.loop-i in
-    record { ends = l.invariant.ends; is = filled_next l.a _ l.i c.args.v c.loop-i-test.true ∙ l.invariant.is }
-
-pub returns : goal.returns
-returns c = let l = c.loop-i in
-    filled_end l.a _ l.i c.args.v c.loop-i-test.false ∙ l.invariant.is
+pub returns-else-from-end : goal.returns-else-from-end
+unfolding stored
+returns-else-from-end c = rw (← c.min-end.ensures) (none_filled c.args.a.now c.min-end.result c.args.from c.args.v c.if-from-end.false)

@@ -1,33 +1,27 @@
-use Rattle.grammar.proofs.Lookups.{rows_start, rows_end, row_met, row_passed}
-use Rattle.grammar.specs.Table.{Row, rows_in, first_of}
-use lib.ListN.{length}
-use mathlib.Core.Path.{refl, ap, ◌∙◌}
-use mathlib.Core.List.{List}
-use Prim.Native.Nat.{◌/◌}
+use Rattle.grammar.specs.Table.{rows_in}
+use Rattle.grammar.proofs.Lookups.{rows_are, row_met, other_place, other_class, rows_end}
+use mathlib.Core.Path.{sym, ◌∙◌}
 use Rattle.grammar.proofs.table.first_of.Goals as goal
+use Rattle.grammar.proofs.table.first_of.Goals.{then-less-place+else-has_class, else-less-place}
 
-pub loop-k-init : goal.loop-k-init
+pub loop-row-init : goal.loop-row-init
 unfolding rows_in
-loop-k-init c = let a = c.args in
-    record { ends = refl; is = ap (λ (r : List Row). first_of r a.place a.w a.name) (rows_start a.text.now (length a.text.now / 6)) }
+loop-row-init c = rw (c.as_chunks.ensures.front, rows_are)
 
-pub returns-then-number_at-place : goal.returns-then-number_at-place
-returns-then-number_at-place c = let t = c in
-    let l = t.loop-k in
-    let a = t.args in
-    (λ i. record { class = t.number_at-class.ensures i; next = c.number_at-then-number_at-place.ensures i; store = c.number_at-then-number_at-place-2.ensures i; slot = c.number_at-then-number_at-place-3.ensures i; source = c.number_at-then-number_at-place-4.ensures i })
-    ∙ row_met a.text.now _ l.k a.place a.w a.name _ _ _ t.loop-k-test.true t.number_at.ensures t.number_at-class.ensures t.has_class.ensures t.if-number_at-place.true
-    ∙ l.invariant.is
+pub returns-then-has_class : goal.returns-then-has_class
+returns-then-has_class c =
+    c.entry_of-entry.ensures
+    ∙ row_met _ _ _ _ _ c.loop-row-test.true (sym c.less.ensures ∙ c.if-less-place.true) (rw c.entry_of-entry.ensures at (sym c.has_class.ensures ∙ c.if-has_class.true))
+    ∙ c.loop-row.invariant
 
-pub loop-k-preserved : goal.loop-k-preserved
-loop-k-preserved c = let l = c.loop-k in
-    let a = c.args in
-    record {
-      ends = l.invariant.ends;
-      is = row_passed a.text.now _ l.k a.place a.w a.name _ _ _ c.loop-k-test.true c.number_at.ensures c.number_at-class.ensures c.has_class.ensures c.if-number_at-place.false ∙ l.invariant.is;
-    }
+pub loop-row-preserved : goal.loop-row-preserved
+loop-row-preserved c = let l = c.loop-row in let a = c.args in
+    elim c.if-less-place.branch [
+      | then-less-place+else-has_class w ↦
+          other_class c.as_chunks.result.0.now l.row-index a.place a.w a.name c.loop-row-test.true (sym c.less.ensures ∙ w.if-less-place.true) (rw w.entry_of-entry.ensures at (sym w.has_class.ensures ∙ w.if-has_class.false)) ∙ l.invariant
+      | else-less-place w ↦
+          other_place c.as_chunks.result.0.now l.row-index a.place a.w a.name c.loop-row-test.true (λ e. w.if-less-place.false (c.less.ensures ∙ e)) ∙ l.invariant
+    ]
 
 pub returns : goal.returns
-returns c = let l = c.loop-k in
-    let a = c.args in
-    rows_end a.text.now _ l.k a.place a.w a.name c.loop-k-test.false ∙ l.invariant.is
+returns c = rows_end _ _ _ _ _ c.loop-row-test.false ∙ c.loop-row.invariant

@@ -1,9 +1,0 @@
--- The test picks the answer. Assumes nothing.
-
-use Rattle.hinting.proofs.prefix.Goals as goal
-
-pub returns-then-a-b : goal.returns-then-a-b
-returns-then-a-b c = rw c.if-a-b.true
-
-pub returns-else-a-b : goal.returns-else-a-b
-returns-else-a-b c = rw c.if-a-b.false
