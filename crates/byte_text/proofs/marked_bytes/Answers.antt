@@ -1,8 +1,6 @@
 -- This turn's byte and mark are those at the number of turns so far. Assumes nothing.
-use Rattle.std.proofs.Common.{◌≡◌, take, drop, length, sym, ap, ◌∙◌, length-append}
+use Rattle.std.proofs.Common.{take, drop, length-append}
 use Rattle.std.proofs.lemmas.Slice.Zip.{zip_turn}
-use Rattle.writing.specs.Rows.{put}
-use Rattle.byte_text.specs.Bytes.{marked}
 use Rattle.byte_text.proofs.Laws.{marked_none, marked_next}
 use Rattle.byte_text.proofs.marked_bytes.Goals as goal
 
