@@ -1,8 +1,8 @@
 // A serprog command half heard, and what a byte makes of it. specs/Heard.antt.
 #![tactic(auto)]
 
-ghost use Rattle.std.specs.Prelude.{◌≡◌, true, ◌-◌};
-ghost use Rattle.hearing.specs.Heard.{listening, after_code, after_lengths, put, given_with, after_parameter, after_one, in_mode, heard_with, kept_in, kept_with};
+ghost use Rattle.std.specs.Prelude.{◌≡◌, true, Option, None, Some};
+ghost use Rattle.hearing.specs.Heard.{listening, after_code, after_lengths, given_with, after_parameter, after_one, heard_with, kept_with};
 
 use serprog::Command;
 
@@ -15,10 +15,9 @@ pub enum Mode {
     Skipped,
 }
 
-// What is due after a byte.
+// What is due after a byte that ends a command.
 #[derive(Clone, Copy)]
 pub enum Due {
-    Nothing,
     Answer,
     Operation,
 }
@@ -33,7 +32,7 @@ pub struct Heard {
     pub sends: bool,
     pub given: [u8; 6],
     pub left: usize,
-    pub due: Due,
+    pub due: Option<Due>,
 }
 
 // A command's code comes next.
@@ -47,199 +46,120 @@ pub fn listening() -> Heard
         sends: false,
         given: [0; 6],
         left: 0,
-        due: Due::Nothing,
+        due: None,
     }
 }
 
+impl Heard {
+    // No byte is left, and this is due.
+    fn ended(self, due: Due) -> Heard
+        ensures { result ≡ Rattle.hearing.specs.Heard.heard Mode.Code self.command self.parameters self.sends self.given 0 (Some due) }
+    {
+        Heard {
+            mode: Mode::Code,
+            left: 0,
+            due: Some(due),
+            ..self
+        }
+    }
+
+    // So many bytes are left.
+    fn awaiting(self, mode: Mode, left: usize) -> Heard
+        ensures { result ≡ Rattle.hearing.specs.Heard.heard mode self.command self.parameters self.sends self.given left None }
+    {
+        Heard {
+            mode,
+            left,
+            due: None,
+            ..self
+        }
+    }
+
+    fn given_with(self, b: u8) -> [u8; 6]
+        ensures { result ≡ given_with self b }
+    {
+        let mut p = self.given;
+        let at = self.parameters.saturating_sub(self.left);
+        if at < 6 {
+            p[at] = b;
+        }
+        p
+    }
+
+    // An operation, its six parameters given: no byte follows, or so many.
+    #[tactic(auto, unfolding(crate::specs::Heard::after_lengths))]
+    fn after_lengths(self) -> Heard
+        requires { self.sends ≡ true }
+        ensures { result ≡ after_lengths self.command self.parameters self.given }
+    {
+        let p = self.given;
+        let send = serprog::length_of(p[0], p[1], p[2]);
+        let receive = serprog::length_of(p[3], p[4], p[5]);
+        let fits = serprog::lengths_fit(send, receive);
+        if send == 0 {
+            return self.ended(if fits { Due::Operation } else { Due::Answer });
+        }
+        self.awaiting(if fits { Mode::Sent } else { Mode::Skipped }, send)
+    }
+
+    #[tactic(auto, unfolding(crate::specs::Heard::after_parameter))]
+    fn after_parameter(self, b: u8) -> Heard
+        ensures { result ≡ after_parameter self b }
+    {
+        let more = Heard {
+            given: self.given_with(b),
+            ..self
+        };
+        if 1 < self.left {
+            return more.awaiting(Mode::Parameters, self.left - 1);
+        }
+        if self.sends {
+            return more.after_lengths();
+        }
+        more.ended(Due::Answer)
+    }
+
+    // One byte fewer is left; after the last one this is due.
+    #[tactic(auto, unfolding(crate::specs::Heard::after_one))]
+    fn after_one(self, due: Due) -> Heard
+        ensures { result ≡ after_one self due }
+    {
+        if 1 < self.left {
+            return self.awaiting(self.mode, self.left - 1);
+        }
+        self.ended(due)
+    }
+}
+
+#[tactic(auto, unfolding(crate::specs::Heard::after_code))]
 fn after_code(b: u8) -> Heard
     ensures { result ≡ after_code b }
 {
     let shape = serprog::shape_of(b);
-    let command = shape.command;
-    let n = shape.parameters;
-    if n == 0 {
-        return Heard {
-            mode: Mode::Code,
-            command,
-            parameters: n,
-            sends: shape.sends,
-            given: [0; 6],
-            left: 0,
-            due: Due::Answer,
-        };
-    }
-    Heard {
-        mode: Mode::Parameters,
-        command,
-        parameters: n,
+    let heard = Heard {
+        mode: Mode::Code,
+        command: shape.command,
+        parameters: shape.parameters,
         sends: shape.sends,
         given: [0; 6],
-        left: n,
-        due: Due::Nothing,
-    }
-}
-
-// An operation, its six parameters given: no byte follows, or so many.
-fn at_once(command: Command, n: usize, p: [u8; 6], due: Due) -> Heard
-    ensures { result ≡ Rattle.hearing.specs.Heard.heard Mode.Code command n true p 0 due }
-{
-    Heard {
-        mode: Mode::Code,
-        command,
-        parameters: n,
-        sends: true,
-        given: p,
         left: 0,
-        due,
+        due: None,
+    };
+    if shape.parameters == 0 {
+        return heard.ended(Due::Answer);
     }
-}
-
-fn to_come(mode: Mode, command: Command, n: usize, p: [u8; 6], left: usize) -> Heard
-    ensures { result ≡ Rattle.hearing.specs.Heard.heard mode command n true p left Due.Nothing }
-{
-    Heard {
-        mode,
-        command,
-        parameters: n,
-        sends: true,
-        given: p,
-        left,
-        due: Due::Nothing,
-    }
-}
-
-fn after_lengths(command: Command, n: usize, p: [u8; 6]) -> Heard
-    ensures { result ≡ after_lengths command n p }
-{
-    let send = serprog::length_of(p[0], p[1], p[2]);
-    let receive = serprog::length_of(p[3], p[4], p[5]);
-    if serprog::lengths_fit(send, receive) {
-        if send == 0 {
-            return at_once(command, n, p, Due::Operation);
-        }
-        return to_come(Mode::Sent, command, n, p, send);
-    }
-    if send == 0 {
-        return at_once(command, n, p, Due::Answer);
-    }
-    to_come(Mode::Skipped, command, n, p, send)
-}
-
-// What is left of a, 0 where b is more.
-fn minus(a: usize, b: usize) -> usize
-    ensures { result ≡ a - b }
-{
-    if b < a { a - b } else { 0 }
-}
-
-fn given_with(h: Heard, b: u8) -> [u8; 6]
-    ensures { result ≡ given_with h b }
-{
-    let mut p = h.given;
-    let at = minus(h.parameters, h.left);
-    if at < 6 {
-        p[at] = b;
-    }
-    p
-}
-
-fn after_parameter(h: Heard, b: u8) -> Heard
-    ensures { result ≡ after_parameter h b }
-{
-    let p = given_with(h, b);
-    let command = h.command;
-    if h.left <= 1 {
-        if h.sends {
-            return after_lengths(command, h.parameters, p);
-        }
-        return Heard {
-            mode: Mode::Code,
-            command,
-            parameters: h.parameters,
-            sends: false,
-            given: p,
-            left: 0,
-            due: Due::Answer,
-        };
-    }
-    Heard {
-        mode: Mode::Parameters,
-        command,
-        parameters: h.parameters,
-        sends: h.sends,
-        given: p,
-        left: h.left - 1,
-        due: Due::Nothing,
-    }
-}
-
-// One byte fewer is left; after the last one this is due.
-fn after_one(h: Heard, due: Due) -> Heard
-    ensures { result ≡ after_one h due }
-{
-    let mode = h.mode;
-    let command = h.command;
-    let p = h.given;
-    let left = h.left;
-    if left <= 1 {
-        return Heard {
-            mode: Mode::Code,
-            command,
-            parameters: h.parameters,
-            sends: h.sends,
-            given: p,
-            left: 0,
-            due,
-        };
-    }
-    Heard {
-        mode,
-        command,
-        parameters: h.parameters,
-        sends: h.sends,
-        given: p,
-        left: left - 1,
-        due: Due::Nothing,
-    }
-}
-
-fn in_mode(mode: Mode, h: Heard, b: u8) -> Heard
-    ensures { result ≡ in_mode mode h b }
-{
-    match mode {
-        Mode::Code => after_code(b),
-        Mode::Parameters => after_parameter(h, b),
-        Mode::Sent => after_one(h, Due::Operation),
-        Mode::Skipped => after_one(h, Due::Answer),
-    }
+    heard.awaiting(Mode::Parameters, shape.parameters)
 }
 
 // A byte more.
 pub fn heard_with(h: Heard, b: u8) -> Heard
     ensures { result ≡ heard_with h b }
 {
-    let mode = h.mode;
-    in_mode(mode, h, b)
-}
-
-fn put_sent(sent: &mut [u8; 65536], at: usize, b: u8)
-    ensures { sent.new ≡ put 65536 sent.old at b }
-{
-    if at < 65536 {
-        sent[at] = b;
-    }
-}
-
-fn keep_in(mode: Mode, h: Heard, b: u8, sent: &mut [u8; 65536])
-    ensures { sent.new ≡ kept_in mode h b sent.old }
-{
-    let p = h.given;
-    let at = minus(serprog::length_of(p[0], p[1], p[2]), h.left);
-    match mode {
-        Mode::Code => {}
-        Mode::Parameters => {}
-        Mode::Sent => put_sent(sent, at, b),
-        Mode::Skipped => {}
+    match h.mode {
+        Mode::Code => after_code(b),
+        Mode::Parameters => h.after_parameter(b),
+        Mode::Sent => h.after_one(Due::Operation),
+        Mode::Skipped => h.after_one(Due::Answer),
     }
 }
 
@@ -247,6 +167,11 @@ fn keep_in(mode: Mode, h: Heard, b: u8, sent: &mut [u8; 65536])
 pub fn keep(h: Heard, b: u8, sent: &mut [u8; 65536])
     ensures { sent.new ≡ kept_with h b sent.old }
 {
-    let mode = h.mode;
-    keep_in(mode, h, b, sent);
+    if let Mode::Sent = h.mode {
+        let p = h.given;
+        let at = serprog::length_of(p[0], p[1], p[2]).saturating_sub(h.left);
+        if at < 65536 {
+            sent[at] = b;
+        }
+    }
 }

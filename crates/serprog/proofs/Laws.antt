@@ -7,8 +7,8 @@ use native.Mathlib.Omega.{arith}
 use native.Mathlib.Decide.{ℕ_discrete}
 use lib.Dec.{eqb, leb}
 use borrow.Author.Tests.{leb-true}
-use lib.ListN.{length, get_or, set, length-set}
-use lib.Seq.{get_or-set_same, get_or-set_other}
+use Rattle.std.specs.Prelude.{◌++◌}
+use lib.ListN.{length, get_or, drop, replicate}
 use Rattle.rules.specs.Words.{bit, pick, every, lent, written}
 use Rattle.rules.proofs.Bools.{and_split}
 use Rattle.rules.proofs.Promises.{lent_written}
@@ -16,30 +16,14 @@ use Rattle.serprog.specs.declared.Command.{Command}
 use Rattle.serprog.specs.Commands.{Row, rows, find, shape_of, map_bytes, map_from, name_bytes, ack, nak, fits, send_length, receive_length, answer_bytes, padded, answer_of}
 use Rattle.serprog.specs.Showing.{disguised, sibling, shown_byte}
 
--- ---- a loop that stores one byte after the other
+-- ---- an answer's bytes
 
-pub record Upto (l l₀ : List ℕ) (n : ℕ) (f : ℕ → ℕ) : Type 0 where
-  pub size : length l ≡ length l₀
-  pub below : (i : ℕ) → i < n → get_or l i 0 ≡ f i
-  pub above : (i : ℕ) → n ≤ i → get_or l i 0 ≡ get_or l₀ i 0
-
-pub upto_none : (l : List ℕ) (f : ℕ → ℕ) → Upto l l 0 f
-upto_none l f = record { size = refl; below = λ i h. absurd (omega arith); above = λ i h. refl }
-
-pub upto_more : (l l₀ : List ℕ) (n v : ℕ) (f : ℕ → ℕ) → Upto l l₀ n f → n < length l₀ → v ≡ f n → Upto (set l n v) l₀ (n + 1) f
-upto_more l l₀ n v f h fits e =
-    record {
-      size = length-set l n v ∙ h.size;
-      below = λ i small. go i small (ℕ_discrete i n);
-      above = λ i large. get_or-set_other l n i v 0 (λ q. omega arith) ∙ h.above i (omega arith);
-    }
-  where
-    go : (i : ℕ) → i < n + 1 → Dec (i ≡ n) → get_or (set l n v) i 0 ≡ f i
-    go i small (yes q) = rw q (get_or-set_same l n v 0 (let s = h.size in omega arith) ∙ e)
-    go i small (no q) = get_or-set_other l n i v 0 (λ p. q (omega arith)) ∙ h.below i (omega arith)
-
-pub upto_all : (l l₀ : List ℕ) (n : ℕ) (f : ℕ → ℕ) → Upto l l₀ n f → n ≡ length l₀ → lent l ≡ written (length l₀) f
-upto_all l l₀ n f h e = lent_written l (length l₀) f h.size (λ i small. h.below i (omega arith))
+pub padded_is : (n : ℕ) (l : List ℕ) → length l ≤ n → padded n l ≡ l ++ drop (length l) (replicate n 0)
+unfolding padded
+padded_is zero [] h = refl
+padded_is zero (x ∷ xs) h = absurd (omega arith)
+padded_is (suc n) [] h = ap (λ (t : List ℕ). 0 ∷ t) (padded_is n [] (omega arith))
+padded_is (suc n) (x ∷ xs) h = ap (λ (t : List ℕ). x ∷ t) (padded_is n xs (omega arith))
 
 -- ---- what is shown
 

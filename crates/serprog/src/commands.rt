@@ -1,46 +1,37 @@
 // The commands that the programmer knows, and the answer to each.
-ghost use Rattle.std.specs.Prelude.{◌≡◌, true, false, [], ◌∷◌};
-ghost use Rattle.serprog.specs.Commands.{ack, shape_of, answer_of, length24, fits, right_or_not, frequency_bytes, operation_bytes, map_bytes, name_bytes, answer_bytes};
+ghost use Rattle.std.specs.Prelude.{◌≡◌, ◌≤◌, true, false, [], ◌∷◌, length};
+ghost use Rattle.serprog.specs.Commands.{ack, shape_of, answer_of, length24, fits, right_or_not, frequency_bytes, operation_bytes, map_bytes, answer_bytes};
 
 use crate::{Answer, Command, Shape};
 
-fn plain(command: Command, parameters: usize) -> Shape
-    ensures { result ≡ record { command = command; parameters = parameters; sends = false } }
+fn shape(command: Command, parameters: usize, sends: bool) -> Shape
+    ensures { result ≡ record { command = command; parameters = parameters; sends = sends } }
 {
     Shape {
         command,
         parameters,
-        sends: false,
-    }
-}
-
-fn and_more(command: Command, parameters: usize) -> Shape
-    ensures { result ≡ record { command = command; parameters = parameters; sends = true } }
-{
-    Shape {
-        command,
-        parameters,
-        sends: true,
+        sends,
     }
 }
 
 // The table of commands, by the code.
+#[tactic(auto, unfolding(crate::specs::Commands::shape_of, crate::specs::Commands::find, crate::specs::Commands::rows))]
 pub fn shape_of(code: u8) -> Shape
     ensures { result ≡ shape_of code }
 {
     match code {
-        0x00 => plain(Command::Nothing, 0),
-        0x01 => plain(Command::Version, 0),
-        0x02 => plain(Command::Map, 0),
-        0x03 => plain(Command::Name, 0),
-        0x04 => plain(Command::BufferSize, 0),
-        0x05 => plain(Command::Buses, 0),
-        0x10 => plain(Command::Sync, 0),
-        0x12 => plain(Command::SetBus, 1),
-        0x13 => and_more(Command::Operation, 6),
-        0x14 => plain(Command::SetFrequency, 4),
-        0x15 => plain(Command::SetPins, 1),
-        _ => plain(Command::Unlisted, 0),
+        0x00 => shape(Command::Nothing, 0, false),
+        0x01 => shape(Command::Version, 0, false),
+        0x02 => shape(Command::Map, 0, false),
+        0x03 => shape(Command::Name, 0, false),
+        0x04 => shape(Command::BufferSize, 0, false),
+        0x05 => shape(Command::Buses, 0, false),
+        0x10 => shape(Command::Sync, 0, false),
+        0x12 => shape(Command::SetBus, 1, false),
+        0x13 => shape(Command::Operation, 6, true),
+        0x14 => shape(Command::SetFrequency, 4, false),
+        0x15 => shape(Command::SetPins, 1, false),
+        _ => shape(Command::Unlisted, 0, false),
     }
 }
 
@@ -58,31 +49,17 @@ pub fn lengths_fit(send: usize, receive: usize) -> bool
     (send <= 65536) & (receive <= 65536)
 }
 
-fn one(first: u8) -> Answer
-    ensures { result ≡ answer_of (first ∷ []) }
+// An answer of these bytes; the others are 0.
+fn answer_of(first: &[u8]) -> Answer
+    requires { length first.now ≤ 33 }
+    ensures { result ≡ answer_of first.now }
 {
     let mut bytes = [0u8; 33];
-    bytes[0] = first;
-    Answer { bytes, count: 1 }
-}
-
-fn two(first: u8, second: u8) -> Answer
-    ensures { result ≡ answer_of (first ∷ second ∷ []) }
-{
-    let mut bytes = [0u8; 33];
-    bytes[0] = first;
-    bytes[1] = second;
-    Answer { bytes, count: 2 }
-}
-
-fn three(first: u8, second: u8, third: u8) -> Answer
-    ensures { result ≡ answer_of (first ∷ second ∷ third ∷ []) }
-{
-    let mut bytes = [0u8; 33];
-    bytes[0] = first;
-    bytes[1] = second;
-    bytes[2] = third;
-    Answer { bytes, count: 3 }
+    bytes[..first.len()].copy_from_slice(first);
+    Answer {
+        bytes,
+        count: first.len(),
+    }
 }
 
 // The map's bytes with a listed command; the others are 0.
@@ -93,51 +70,22 @@ fn map() -> Answer
     bytes[0] = 0x06;
     bytes[1] = 0b00111111;
     bytes[3] = 0b00111101;
-    Answer { bytes, count: 33 }
-}
-
-fn name() -> Answer
-    ensures { result ≡ answer_of (ack ∷ name_bytes) }
-{
-    let mut bytes = [0u8; 33];
-    bytes[0] = 0x06;
-    bytes[1] = b'F';
-    bytes[2] = b'u';
-    bytes[3] = b'l';
-    bytes[4] = b'k';
-    bytes[5] = b'i';
-    bytes[6] = b'b';
-    bytes[7] = b'o';
-    bytes[8] = b'n';
-    bytes[9] = b'o';
-    Answer { bytes, count: 17 }
+    answer_of(&bytes)
 }
 
 fn right_or_not(right: bool) -> Answer
     ensures { result ≡ answer_of (right_or_not right) }
 {
-    if right { one(0x06) } else { one(0x15) }
-}
-
-fn frequency_set(a: u8, b: u8, c: u8, d: u8) -> Answer
-    ensures { result ≡ answer_of (ack ∷ a ∷ b ∷ c ∷ d ∷ []) }
-{
-    let mut bytes = [0u8; 33];
-    bytes[0] = 0x06;
-    bytes[1] = a;
-    bytes[2] = b;
-    bytes[3] = c;
-    bytes[4] = d;
-    Answer { bytes, count: 5 }
+    if right { answer_of(&[0x06]) } else { answer_of(&[0x15]) }
 }
 
 fn frequency(a: u8, b: u8, c: u8, d: u8) -> Answer
     ensures { result ≡ answer_of (frequency_bytes a b c d) }
 {
     if (a == 0) & (b == 0) & (c == 0) & (d == 0) {
-        one(0x15)
+        answer_of(&[0x15])
     } else {
-        frequency_set(a, b, c, d)
+        answer_of(&[0x06, a, b, c, d])
     }
 }
 
@@ -150,21 +98,22 @@ fn operation(p: &[u8; 6]) -> Answer
 }
 
 // The answer to a command with these parameter bytes; of an operation its first byte.
+#[tactic(auto, unfolding(crate::specs::Commands::name_bytes, rules::specs::Words::bit))]
 pub fn answer_to(c: Command, p: &[u8; 6]) -> Answer
     ensures { result ≡ answer_of (answer_bytes c p.now) }
 {
     match c {
-        Command::Nothing => one(0x06),
-        Command::Version => three(0x06, 0x01, 0x00),
+        Command::Nothing => answer_of(&[0x06]),
+        Command::Version => answer_of(&[0x06, 0x01, 0x00]),
         Command::Map => map(),
-        Command::Name => name(),
-        Command::BufferSize => three(0x06, 0xff, 0xff),
-        Command::Buses => two(0x06, 0x08),
-        Command::Sync => two(0x15, 0x06),
+        Command::Name => answer_of(b"\x06Fulkibono\0\0\0\0\0\0\0"),
+        Command::BufferSize => answer_of(&[0x06, 0xff, 0xff]),
+        Command::Buses => answer_of(&[0x06, 0x08]),
+        Command::Sync => answer_of(&[0x15, 0x06]),
         Command::SetBus => right_or_not(p[0] / 8 % 2 == 1),
         Command::Operation => operation(p),
         Command::SetFrequency => frequency(p[0], p[1], p[2], p[3]),
-        Command::SetPins => one(0x06),
-        Command::Unlisted => one(0x15),
+        Command::SetPins => answer_of(&[0x06]),
+        Command::Unlisted => answer_of(&[0x15]),
     }
 }

@@ -19,10 +19,8 @@ fn sibling_byte(place: usize, byte: u8) -> u8
 fn to_sibling(reply: &mut [u8])
     ensures { lent reply.new ≡ written (length reply.old) (λ i. sibling i (get_or reply.old i 0)) }
 {
-    let mut i: usize = 0;
-    while i < reply.len() {
-        reply[i] = sibling_byte(i, reply[i]);
-        i += 1;
+    for (i, b) in reply.iter_mut().enumerate() {
+        *b = sibling_byte(i, *b);
     }
 }
 

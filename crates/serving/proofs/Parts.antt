@@ -37,8 +37,3 @@ module _ (e n : ℕ) (w : List ℕ) (is : n ≡ min e (length w)) where
         go (yes h) =
             drop_of_length-le (p ++ drop n w) {i = e} (omega (arith, length-append p (drop n w), length-drop n w, long)) ∙ sym (drop_of_length-le w {i = e} (omega arith))
         go (no h) = drop_at p (drop n w) e (omega (arith, long)) ∙ (let same : n ≡ e = omega arith in ap (λ (k : ℕ). drop k w) same)
-
--- a copy from the start
-pub from_start : (l l₀ x : List ℕ) (n : ℕ) → Patched l l₀ 0 n (λ i. get_or x (0 + i) 0) → Patched l l₀ 0 n (λ i. get_or x i 0)
-from_start l l₀ x n p =
-    record { size = p.size; inside = λ i h. p.inside i h ∙ (let same : 0 + i ≡ i = omega arith in ap (λ (k : ℕ). get_or x k 0) same); before = p.before; after = p.after }

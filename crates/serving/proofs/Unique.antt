@@ -1,6 +1,7 @@
 -- No second outcome: whatever meets the guarantee of a public function of this crate at the same input is the same result and the same lent memory.
 -- By what is due: equations, a patch, or an operation on a part beside what is left of it. Assumes nothing.
 use Prim.Native.Nat.{ℕ, ◌+◌}
+use Rattle.std.specs.Prelude.{Option, None, Some}
 use mathlib.Core.Path.{◌≡◌, sym, ap, ◌∙◌}
 use mathlib.Core.List.{List, ◌++◌}
 use lib.ListN.{take, drop, take-append-drop}
@@ -34,13 +35,13 @@ pub record Same (r r' : Serving) (A A' S S' W W' M M' : List ℕ) : Type 0 where
 in_two : (n : ℕ) (l k : List ℕ) → take n l ≡ take n k → drop n l ≡ drop n k → l ≡ k
 in_two n l k p q = sym (take-append-drop n l) ∙ (λ i. p i ++ q i) ∙ take-append-drop n k
 
-done_one : (d : Due) (h : Heard) (b : Bench) (A S T W M : List ℕ) (r r' : Serving) (A₁ A₂ S₁ S₂ W₁ W₂ M₁ M₂ : List ℕ)
+done_one : (d : Option Due) (h : Heard) (b : Bench) (A S T W M : List ℕ) (r r' : Serving) (A₁ A₂ S₁ S₂ W₁ W₂ M₁ M₂ : List ℕ)
     → Done d h b A S T W M r A₁ S₁ W₁ M₁ → Done d h b A S T W M r' A₂ S₂ W₂ M₂ → Same r r' A₁ A₂ S₁ S₂ W₁ W₂ M₁ M₂
-done_one Due.Nothing h b A S T W M r r' A₁ A₂ S₁ S₂ W₁ W₂ M₁ M₂ p q =
+done_one None h b A S T W M r r' A₁ A₂ S₁ S₂ W₁ W₂ M₁ M₂ p q =
     record { result = one p.serving_is q.serving_is; array_same = one p.array_is q.array_is; security_same = one p.security_is q.security_is; answer_same = one p.answer_is q.answer_is; marks_same = one p.marks_are q.marks_are }
-done_one Due.Answer h b A S T W M r r' A₁ A₂ S₁ S₂ W₁ W₂ M₁ M₂ p q =
+done_one (Some Due.Answer) h b A S T W M r r' A₁ A₂ S₁ S₂ W₁ W₂ M₁ M₂ p q =
     record { result = one p.serving_is q.serving_is; array_same = one p.array_is q.array_is; security_same = one p.security_is q.security_is; answer_same = patched_one p.answer_is q.answer_is; marks_same = one p.marks_are q.marks_are }
-done_one Due.Operation h b A S T W M r r' A₁ A₂ S₁ S₂ W₁ W₂ M₁ M₂ p q =
+done_one (Some Due.Operation) h b A S T W M r r' A₁ A₂ S₁ S₂ W₁ W₂ M₁ M₂ p q =
     record {
       result = p.serving_is ∙ ap (λ (x : Bench). serving x h (receives h + 1)) (ap (λ (o : operations.Operated). o.bench) e) ∙ sym q.serving_is;
       array_same = lent_one _ _ (ap (λ (o : operations.Operated). o.array) e);

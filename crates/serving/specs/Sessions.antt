@@ -1,5 +1,5 @@
 -- A session: each byte that comes, and what is written then.
-use Rattle.std.specs.Prelude.{ℕ, ◌+◌, min, ◌≡◌, Bool, List, length, get_or, take, drop}
+use Rattle.std.specs.Prelude.{ℕ, ◌+◌, min, ◌≡◌, Bool, List, Option, None, Some, length, get_or, take, drop}
 use Rattle.rules.specs.declared.Chip.{Chip}
 use Rattle.memory.specs.Patched.{Patched}
 use Rattle.serprog.specs.declared.Answer.{Answer}
@@ -49,12 +49,12 @@ pub record Operated (h : Heard) (b : Bench) (array security sent answer marks : 
   pub answer_rest : drop (receives h + 1) answer' ≡ drop (receives h + 1) answer
   pub marks_rest : drop (receives h) marks' ≡ drop (receives h) marks
 
-abbrev pub Done : Due → Heard → Bench → List ℕ → List ℕ → List ℕ → List ℕ → List ℕ → Serving → List ℕ → List ℕ → List ℕ → List ℕ → Type 0
-Done Due.Nothing h b array security sent answer marks s array' security' answer' marks' =
+abbrev pub Done : Option Due → Heard → Bench → List ℕ → List ℕ → List ℕ → List ℕ → List ℕ → Serving → List ℕ → List ℕ → List ℕ → List ℕ → Type 0
+Done None h b array security sent answer marks s array' security' answer' marks' =
     Kept h b array security answer marks s array' security' answer' marks'
-Done Due.Answer h b array security sent answer marks s array' security' answer' marks' =
+Done (Some Due.Answer) h b array security sent answer marks s array' security' answer' marks' =
     Answered h b array security answer marks s array' security' answer' marks'
-Done Due.Operation h b array security sent answer marks s array' security' answer' marks' =
+Done (Some Due.Operation) h b array security sent answer marks s array' security' answer' marks' =
     Operated h b array security sent answer marks s array' security' answer' marks'
 
 pub record Taken (s : Serving) (b : ℕ) (array security sent answer marks : List ℕ) (s' : Serving) (array' security' sent' answer' marks' : List ℕ) : Type 0 where

@@ -8,7 +8,6 @@ ghost use Rattle.serving.specs.Sessions.{begun, answer_to, Operated, Done, Taken
 use hearing::{Due, Heard};
 use operating::Bench;
 use rules::Chip;
-use rules::plain::smaller;
 
 // The bench, the command half heard, and how many bytes of the answer are to be written now.
 #[derive(Clone, Copy)]
@@ -22,11 +21,9 @@ pub struct Serving {
 pub fn start(c: Chip, disguise: bool) -> Serving
     ensures { result ≡ begun c disguise }
 {
-    let bench = operating::bench_of(c, disguise);
-    let heard = hearing::listening();
     Serving {
-        bench,
-        heard,
+        bench: operating::bench_of(c, disguise),
+        heard: hearing::listening(),
         written: 0,
     }
 }
@@ -35,12 +32,9 @@ pub fn start(c: Chip, disguise: bool) -> Serving
 fn answered(h: Heard, answer: &mut [u8]) -> usize
     ensures { (result ≡ (answer_to h).count) × Patched answer.new answer.old 0 (min (answer_to h).count (length answer.old)) (λ i. get_or (answer_to h).bytes i 0) }
 {
-    let given = h.given;
-    let command = h.command;
-    let a = serprog::answer_to(command, &given);
-    let bytes = a.bytes;
-    let n = smaller(a.count, answer.len());
-    memory::copy(answer, 0, n, &bytes, 0);
+    let a = serprog::answer_to(h.command, &h.given);
+    let n = a.count.min(answer.len());
+    answer[..n].copy_from_slice(&a.bytes[..n]);
     a.count
 }
 
@@ -57,10 +51,10 @@ fn operated(
     ensures { Operated h b array.old security.old sent.now answer.old marks.old result array.new security.new answer.new marks.new }
 {
     let p = h.given;
-    let send = smaller(serprog::length_of(p[0], p[1], p[2]), sent.len());
-    let receive = smaller(serprog::length_of(p[3], p[4], p[5]), 65536);
-    let n = smaller(receive + 1, answer.len());
-    let m = smaller(receive, marks.len());
+    let send = serprog::length_of(p[0], p[1], p[2]).min(sent.len());
+    let receive = serprog::length_of(p[3], p[4], p[5]).min(65536);
+    let n = (receive + 1).min(answer.len());
+    let m = receive.min(marks.len());
     let bench = operating::answer_operation(
         b,
         array,
@@ -78,32 +72,29 @@ fn operated(
 
 // What is due.
 fn done(
-    due: Due,
+    due: Option<Due>,
     h: Heard,
-    b: Bench,
+    bench: Bench,
     array: &mut [u8; 2097152],
     security: &mut [u8; 2048],
     sent: &[u8; 65536],
     answer: &mut [u8; 65537],
     marks: &mut [u8; 65536],
 ) -> Serving
-    ensures { Done due h b array.old security.old sent.now answer.old marks.old result array.new security.new answer.new marks.new }
+    ensures { Done due h bench array.old security.old sent.now answer.old marks.old result array.new security.new answer.new marks.new }
 {
     match due {
-        Due::Nothing => Serving {
-            bench: b,
+        None => Serving {
+            bench,
             heard: h,
             written: 0,
         },
-        Due::Answer => {
-            let n = answered(h, answer);
-            Serving {
-                bench: b,
-                heard: h,
-                written: n,
-            }
-        }
-        Due::Operation => operated(h, b, array, security, sent, answer, marks),
+        Some(Due::Answer) => Serving {
+            bench,
+            heard: h,
+            written: answered(h, answer),
+        },
+        Some(Due::Operation) => operated(h, bench, array, security, sent, answer, marks),
     }
 }
 
@@ -119,10 +110,9 @@ pub fn take(
 ) -> Serving
     ensures { Taken s b array.old security.old sent.old answer.old marks.old result array.new security.new sent.new answer.new marks.new }
 {
-    let h = s.heard;
-    let bench = s.bench;
-    hearing::keep(h, b, sent);
-    let next = hearing::heard_with(h, b);
-    let due = next.due;
-    done(due, next, bench, array, security, sent, answer, marks)
+    hearing::keep(s.heard, b, sent);
+    let next = hearing::heard_with(s.heard, b);
+    done(
+        next.due, next, s.bench, array, security, sent, answer, marks,
+    )
 }

@@ -2,25 +2,17 @@
 // ending.
 #![tactic(auto)]
 
-use operating::Bench;
+ghost use Rattle.std.specs.Prelude.{◌≤◌, length};
+
 use rules::Chip;
 use serving::Serving;
 use std::io::{Read, Write};
 
-// The session, how much of the input is taken, and whether it is over: no byte comes any more, or nobody takes an answer.
+// The session, and whether it is over: no byte comes any more, or nobody takes an answer.
 #[derive(Clone, Copy)]
 struct Desk {
     now: Serving,
-    taken: usize,
-    came: usize,
     over: bool,
-}
-
-fn byte_at(input: &[u8; 65536], i: usize) -> u8 {
-    if i < 65536 {
-        return input[i];
-    }
-    0
 }
 
 // In one write, since a socket may hold a second one back.
@@ -32,47 +24,35 @@ fn written<W: Write>(to: &mut W, answer: &[u8; 65537], n: usize) -> bool {
 }
 
 // How many bytes come; none where they end, or cannot be read.
-fn came<R: Read>(from: &mut R, input: &mut [u8]) -> usize {
+fn came<R: Read>(from: &mut R, input: &mut [u8]) -> usize
+    ensures { result ≤ length input.new }
+{
     from.read(input).unwrap_or(0)
 }
 
-// A byte is taken, or more come.
-fn turn<R: Read, W: Write>(
-    from: &mut R,
+// Each byte that came, up to an answer that nobody takes; with none the session is over.
+fn taken<W: Write>(
     to: &mut W,
-    d: Desk,
-    input: &mut [u8; 65536],
+    start: Desk,
+    came: &[u8],
     array: &mut [u8; 2097152],
     security: &mut [u8; 2048],
     sent: &mut [u8; 65536],
     answer: &mut [u8; 65537],
     marks: &mut [u8; 65536],
 ) -> Desk {
-    let mut next = d;
-    let now = d.now;
-    if d.taken < d.came {
-        let b = byte_at(input, d.taken);
-        let now = serving::take(now, b, array, security, sent, answer, marks);
-        next.taken = std::num::wrapping_add_usize(d.taken, 1);
-        next.over = !written(to, answer, now.written);
-        next.now = now;
-        return next;
+    let mut d = Desk {
+        over: came.is_empty(),
+        ..start
+    };
+    for b in came {
+        d.now = serving::take(d.now, *b, array, security, sent, answer, marks);
+        d.over = !written(to, answer, d.now.written);
+        if d.over {
+            break;
+        }
     }
-    let n = came(from, input);
-    next.taken = 0;
-    next.came = n;
-    next.over = n == 0;
-    next
-}
-
-fn begun(c: Chip, disguise: bool) -> Desk {
-    let now = serving::start(c, disguise);
-    Desk {
-        now,
-        taken: 0,
-        came: 0,
-        over: false,
-    }
+    d
 }
 
 // A proved loop has to end, and nothing says that an input does: so it counts its turns, up to a number that no session reaches.
@@ -92,14 +72,10 @@ fn turned<R: Read, W: Write>(
         if d.over {
             break;
         }
-        d = turn(from, to, d, input, array, security, sent, answer, marks);
+        let n = came(from, input);
+        d = taken(to, d, &input[..n], array, security, sent, answer, marks);
     }
     d
-}
-
-fn bench_left(d: Desk) -> Bench {
-    let now = d.now;
-    now.bench
 }
 
 // A session on a chip; the chip that it leaves, with what ran at its end done.
@@ -115,7 +91,10 @@ pub fn serve<R: Read, W: Write>(
     let mut sent = [0u8; 65536];
     let mut answer = [0u8; 65537];
     let mut marks = [0u8; 65536];
-    let start = begun(c, disguise);
+    let start = Desk {
+        now: serving::start(c, disguise),
+        over: false,
+    };
     let d = turned(
         from,
         to,
@@ -127,6 +106,5 @@ pub fn serve<R: Read, W: Write>(
         &mut answer,
         &mut marks,
     );
-    let bench = bench_left(d);
-    operating::at_end(bench, array, security)
+    operating::at_end(d.now.bench, array, security)
 }

@@ -5,4 +5,4 @@ use Rattle.serprog.proofs.commands.map.Goals as goal
 
 pub returns : goal.returns
 unfolding answer_of padded map_bytes map_from map_byte has_row rows
-returns c = refl
+returns c = c.answer_of.ensures

@@ -1,8 +1,0 @@
--- The bytes are stored over 33 zeros. Assumes nothing.
-use mathlib.Core.Path.{refl}
-use Rattle.serprog.specs.Commands.{answer_of, padded}
-use Rattle.serprog.proofs.commands.one.Goals as goal
-
-pub returns : goal.returns
-unfolding answer_of padded
-returns c = refl
