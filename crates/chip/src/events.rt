@@ -12,7 +12,7 @@ ghost use Rattle.chip.specs.Turns.{cutting, resetting, stop_call, Stoppable, Tur
 use rules::{Circumstances, Refusal, Rest, Turn};
 
 // A frame, a completion, or a power cut.
-#[derive(Clone, Copy)]
+#[derive(Clone, Copy, PartialEq, Eq)]
 pub enum Event {
     Frame,
     Completion,
@@ -33,11 +33,7 @@ pub fn state_right(r: Rest, page: &[u8], array_len: usize, security_len: usize) 
 pub fn cuts(e: Event, known: bool) -> bool
     ensures { result ≡ cutting e known }
 {
-    match e {
-        Event::Frame => false,
-        Event::Completion => false,
-        Event::Cut => known,
-    }
+    matches!(e, Event::Cut) & known
 }
 
 // An accepted 99.
@@ -51,11 +47,7 @@ pub fn resets(
 ) -> bool
     ensures { result ≡ resetting e known r sent.now reply_len marks_len }
 {
-    match e {
-        Event::Frame => framing::resets(known, r, sent, reply_len, marks_len),
-        Event::Completion => false,
-        Event::Cut => false,
-    }
+    matches!(e, Event::Frame) && framing::resets(known, r, sent, reply_len, marks_len)
 }
 
 // Either of them: with power-up, or without. Nothing runs or is suspended after it.

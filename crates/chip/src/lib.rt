@@ -6,7 +6,7 @@ mod numbers;
 
 ghost use Rattle.std.specs.Prelude.{◌≡◌, []};
 ghost use Rattle.rules.specs.Commands.{new_of, new_chip, new_old_chip};
-ghost use Rattle.rules.specs.Promises.{bench_of, carried_of, returned_of, FramePromise, CompletionPromise, CutPromise};
+ghost use Rattle.rules.specs.Promises.{bench_of, carried_of, returned_of, after_of, FramePromise, CompletionPromise, CutPromise};
 
 pub use events::{Event, cuts, resets, state_right, stop_turn, take_turn};
 pub use numbers::answer_number;
@@ -14,13 +14,13 @@ use rules::{After, Chip};
 pub use rules::{Circumstances, Tear, Turn};
 
 // A new chip of a part: BA, or the old one.
+#[tactic(auto, unfolding(rules::specs::Programs::blank))]
 pub fn new_of(ba: bool) -> Chip
     ensures { result ≡ new_of ba }
 {
-    let rest = power::new_rest(ba);
     Chip {
         buffer: [255; 256],
-        rest,
+        rest: power::new_rest(ba),
     }
 }
 
@@ -38,6 +38,19 @@ pub fn new_old() -> Chip
     new_of(false)
 }
 
+// What an event by value gives back: the turn, with the page buffer in its record.
+fn after(t: Turn, page: [u8; 256]) -> After
+    ensures { result ≡ after_of t page }
+{
+    After {
+        answer: t.answer,
+        chip: Chip {
+            buffer: page,
+            rest: t.rest,
+        },
+    }
+}
+
 // A frame: the bytes sent while CE# is low, the two reply buffers, and where a reset tears what runs.
 pub fn frame(
     c: Chip,
@@ -51,11 +64,10 @@ pub fn frame(
     ensures { FramePromise (bench_of c array.old security.old) (carried_of sent.now reply.old marks.old circumstances) (returned_of result array.new security.new reply.new marks.new) }
 {
     let mut page = c.buffer;
-    let before = c.rest;
-    let known = events::state_right(before, &page, array.len(), security.len());
+    let known = events::state_right(c.rest, &page, array.len(), security.len());
     let t = framing::frame_turn(
         known,
-        before,
+        c.rest,
         &mut page,
         array,
         security,
@@ -64,10 +76,7 @@ pub fn frame(
         marks,
         circumstances,
     );
-    let answer = t.answer;
-    let rest = t.rest;
-    let chip = Chip { buffer: page, rest };
-    After { answer, chip }
+    after(t, page)
 }
 
 // The running operation ends.
@@ -75,13 +84,9 @@ pub fn completion(c: Chip, array: &mut [u8], security: &mut [u8]) -> After
     ensures { CompletionPromise (bench_of c array.old security.old) (returned_of result array.new security.new [] []) }
 {
     let mut page = c.buffer;
-    let before = c.rest;
-    let known = events::state_right(before, &page, array.len(), security.len());
-    let t = ending::completion_turn(known, before, &mut page, array, security);
-    let answer = t.answer;
-    let rest = t.rest;
-    let chip = Chip { buffer: page, rest };
-    After { answer, chip }
+    let known = events::state_right(c.rest, &page, array.len(), security.len());
+    let t = ending::completion_turn(known, c.rest, &mut page, array, security);
+    after(t, page)
 }
 
 // A power cut in the middle of the running operation.
@@ -89,11 +94,7 @@ pub fn power_cut(c: Chip, array: &mut [u8], security: &mut [u8], tear: Tear) -> 
     ensures { CutPromise (bench_of c array.old security.old) tear (returned_of result array.new security.new [] []) }
 {
     let mut page = c.buffer;
-    let before = c.rest;
-    let known = events::state_right(before, &page, array.len(), security.len());
-    let t = ending::cut_turn(known, before, &mut page, array, security, tear);
-    let answer = t.answer;
-    let rest = t.rest;
-    let chip = Chip { buffer: page, rest };
-    After { answer, chip }
+    let known = events::state_right(c.rest, &page, array.len(), security.len());
+    let t = ending::cut_turn(known, c.rest, &mut page, array, security, tear);
+    after(t, page)
 }

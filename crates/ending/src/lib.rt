@@ -23,15 +23,13 @@ pub fn completion_turn(
     if !known {
         return refused(Refusal::Malformed, r);
     }
-    let works = r.works;
-    let run = works.running;
-    let aside = works.suspended;
+    let run = r.works.running;
     if blocks::is_nothing(run) {
         return refused(Refusal::NothingRuns, r);
     }
     memory::finish_array(run, page, 2097152, 0, array);
     memory::finish_security(run, page, 2097152, 0, security);
-    pages::page_rested(aside, page);
+    pages::page_rested(r.works.suspended, page);
     done(settling::completed(r))
 }
 
@@ -50,8 +48,7 @@ pub fn cut_turn(
     if !known {
         return refused(Refusal::Malformed, r);
     }
-    let works = r.works;
-    let run = works.running;
+    let run = r.works.running;
     memory::finish_array(run, page, tear.k, tear.m, array);
     memory::finish_security(run, page, tear.k, tear.m, security);
     memory::blank_page(page);

@@ -22,12 +22,7 @@ fn frame_right(sent_len: usize, reply_len: usize, marks_len: usize) -> bool
 pub fn resets(known: bool, r: Rest, sent: &[u8], reply_len: usize, marks_len: usize) -> bool
     ensures { result ≡ resets known r sent.now reply_len marks_len }
 {
-    if sent.len() == 1 {
-        if sent[0] == 0x99 {
-            return known & frame_right(1, reply_len, marks_len) & r.flags.enable;
-        }
-    }
-    false
+    matches!(sent, [0x99]) && known & frame_right(1, reply_len, marks_len) & r.flags.enable
 }
 
 pub fn reset_turn(
@@ -43,8 +38,7 @@ pub fn reset_turn(
     ensures { FramePromise (bench_of (chip_of page.old r) array.old security.old) (carried_of (0x99 ∷ []) reply.old marks.old circumstances) (returned_of (after_of result page.new) array.new security.new reply.new marks.new) }
 {
     let tear = circumstances.tear;
-    let works = r.works;
-    let run = works.running;
+    let run = r.works.running;
     memory::finish_array(run, page, tear.k, tear.m, array);
     memory::finish_security(run, page, tear.k, tear.m, security);
     memory::blank_page(page);
@@ -69,8 +63,7 @@ fn command(
 {
     let op = sent[0];
     let form = opcodes::form_of(op);
-    let answer = judging::judge(r, op, form, sent);
-    match answer {
+    match judging::judge(r, op, form, sent) {
         Ok(()) => {
             let kind = form.kind;
             replying::respond(kind, r, array, security, sent, reply, marks);

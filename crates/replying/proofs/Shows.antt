@@ -5,9 +5,10 @@ use mathlib.Core.Bool.{true}
 use mathlib.Core.List.{List, [], ◌∷◌}
 use native.Mathlib.Omega.{arith}
 use lib.Dec.{ltb}
-use lib.ListN.{length, get_or, set, length-set}
+use lib.ListN.{length, get_or, set, length-set, replicate}
 use lib.Seq.{get_or-set_same}
 use borrow.Author.Tests.{ltb-true}
+use Rattle.std.proofs.lemmas.List.{get_or-replicate, length-replicate}
 use Rattle.rules.specs.declared.Burst.{Burst}
 use Rattle.rules.specs.declared.Cell.{Cell}
 use Rattle.rules.specs.declared.Range.{Range}
@@ -26,7 +27,6 @@ use Rattle.rules.specs.WellFormed.{numbers_right}
 use Rattle.rules.proofs.Blocks.{block_placed}
 use Rattle.rules.proofs.Bursts.{lengths_divide}
 use Rattle.rules.proofs.Promises.{lent_written}
-use Rattle.memory.specs.Patched.{Patched}
 use Rattle.reading.specs.Upto.{Upto, Pages, cell_from, burst_cell}
 use Rattle.replying.specs.Replying.{Replied}
 
@@ -40,9 +40,9 @@ stored_written l x h =
     (λ i below. let z : i ≡ 0 = omega arith in rw z (get_or-set_same l 0 x 0 (omega arith)))
 
 -- one byte throughout
-pub patched_written : (l l₀ : List ℕ) (v : ℕ) → Patched l l₀ 0 (length l₀) (λ i. v) → lent l ≡ written (length l₀) (λ i. v)
-patched_written l l₀ v h =
-    lent_written l (length l₀) (λ i. v) h.size (λ i below. let e : 0 + i ≡ i = omega arith in ap (λ (k : ℕ). get_or l k 0) (sym e) ∙ h.inside i below)
+pub filled_written : (l : List ℕ) (n v : ℕ) → l ≡ replicate n v → lent l ≡ written n (λ i. v)
+filled_written l n v e =
+    lent_written l n (λ i. v) (ap length e ∙ length-replicate n v) (λ i below. ap (λ (k : List ℕ). get_or k i 0) e ∙ get_or-replicate n i v 0 below)
 
 -- ---- the suspended range of a well-formed record is one of whole pages
 

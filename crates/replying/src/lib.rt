@@ -12,22 +12,13 @@ use rules::{Kind, Rest, Source};
 pub fn fill_both(reply: &mut [u8], marks: &mut [u8], byte: u8, mark: u8)
     ensures { Replied reply.old marks.old reply.new marks.new (λ i. record { byte = byte; mark = mark }) }
 {
-    let n = reply.len();
-    let m = marks.len();
-    if (n == 1) & (m == 1) {
+    if (reply.len() == 1) & (marks.len() == 1) {
         reply[0] = byte;
         marks[0] = mark;
-        return;
+    } else {
+        reply.fill(byte);
+        marks.fill(mark);
     }
-    memory::set_all(reply, 0, n, byte);
-    memory::set_all(marks, 0, m, mark);
-}
-
-fn mark_all(marks: &mut [u8])
-    ensures { lent marks.new ≡ written (length marks.old) (λ i. 1) }
-{
-    let m = marks.len();
-    memory::set_all(marks, 0, m, 1);
 }
 
 // The bytes of a source.
@@ -48,32 +39,27 @@ fn show(
         Source::Configuration => fill_both(reply, marks, registers::configuration_of(r), 1),
         Source::Protection => {
             reading::read_protection(r.locks.protection, reply);
-            mark_all(marks);
+            marks.fill(1);
         }
         Source::Identity => {
             reading::read_identity(reply);
-            mark_all(marks);
+            marks.fill(1);
         }
         Source::Array => {
-            let works = r.works;
-            let aside = works.suspended;
-            let range = blocks::array_range(aside);
+            let range = blocks::array_range(r.works.suspended);
             let at = opcodes::address_of(sent);
             reading::read_array(r.locks.protection, range, array, at, reply, marks);
         }
         Source::ArrayBurst => {
-            let works = r.works;
-            let aside = works.suspended;
-            let range = blocks::array_range(aside);
+            let range = blocks::array_range(r.works.suspended);
             let at = opcodes::address_of(sent);
-            let set = r.burst;
-            let n = numbering::burst_length(set);
+            let n = numbering::burst_length(r.burst);
             reading::read_burst(r.locks.protection, range, array, at, n, reply, marks);
         }
         Source::Security => {
             let at = opcodes::security_address_of(sent);
             reading::read_security(security, at, reply);
-            mark_all(marks);
+            marks.fill(1);
         }
     }
 }
@@ -93,7 +79,6 @@ pub fn respond(
 {
     match k {
         Kind::Show(s) => show(s, r, array, security, sent, reply, marks),
-        Kind::Begin(_) => fill_both(reply, marks, 255, 0),
-        Kind::Do(_) => fill_both(reply, marks, 255, 0),
+        Kind::Begin(_) | Kind::Do(_) => fill_both(reply, marks, 255, 0),
     }
 }
