@@ -8,29 +8,41 @@ mod texts;
 use std::fs;
 use writing::Row;
 
+// The language of a file.
+#[derive(Clone, Copy)]
+enum Language {
+    C,
+    Rust,
+}
+
 // How often the row stands in the text.
 fn times(text: &[u8], r: Row) -> usize {
     let t = r.text;
-    texts::times(text, &t, r.length)
+    let n = texts::within(r.length, &t);
+    texts::times(text, &t[..n])
 }
 
-fn begun(rust: bool) -> Row {
+fn begun(language: Language) -> Row {
     let r = writing::empty();
-    if rust {
-        return writing::text(r, b"pub const ");
+    match language {
+        Language::C => writing::text(r, b"#define FULKIBONO_"),
+        Language::Rust => writing::text(r, b"pub const "),
     }
-    writing::text(r, b"#define FULKIBONO_")
 }
 
 // The line that gives number i its name.
-fn line(i: usize, rust: bool) -> Row {
-    let r = numbers::named(begun(rust), i);
-    if rust {
-        let r = numbers::typed(r, i);
-        return writing::text(writing::size(r, numbers::number(i)), b";");
+fn line(i: usize, language: Language) -> Row {
+    let r = numbers::named(begun(language), i);
+    match language {
+        Language::C => {
+            let r = writing::size(writing::pad(r, 1), numbers::number(i));
+            writing::pad(r, 1)
+        }
+        Language::Rust => {
+            let r = numbers::typed(r, i);
+            writing::text(writing::size(r, numbers::number(i)), b";")
+        }
     }
-    let r = writing::size(writing::pad(r, 1), numbers::number(i));
-    writing::pad(r, 1)
 }
 
 fn say<P: Print>(to: &P, text: &[u8]) {
@@ -45,8 +57,8 @@ fn told<P: Print>(to: &P, r: Row) {
 }
 
 // A line that does not stand there once is told.
-fn line_wrong<P: Print>(to: &P, text: &[u8], i: usize, rust: bool) -> bool {
-    let r = line(i, rust);
+fn line_wrong<P: Print>(to: &P, text: &[u8], i: usize, language: Language) -> bool {
+    let r = line(i, language);
     if times(text, r) == 1 {
         return false;
     }
@@ -54,35 +66,27 @@ fn line_wrong<P: Print>(to: &P, text: &[u8], i: usize, rust: bool) -> bool {
     true
 }
 
-fn lines_wrong<P: Print>(to: &P, text: &[u8], rust: bool) -> bool {
+fn lines_wrong<P: Print>(to: &P, text: &[u8], language: Language) -> bool {
     let mut wrong = false;
-    let mut i: usize = 0;
-    while i < numbers::COUNT {
-        wrong = line_wrong(to, text, i, rust) | wrong;
-        i += 1;
+    for i in 0..numbers::COUNT {
+        wrong |= line_wrong(to, text, i, language);
     }
     wrong
 }
 
-// How many names of a sort there are.
-fn names(text: &[u8], rust: bool, sort: &[u8]) -> usize {
-    times(text, writing::text(begun(rust), sort))
+// There is a name of the sort that is none of the layout's.
+fn names_wrong(text: &[u8], language: Language, sort: &str) -> bool {
+    let found = times(text, writing::text(begun(language), sort.as_bytes()));
+    found != numbers::names(sort)
 }
 
-// A name that is none of the layout's.
-fn names_wrong(text: &[u8], rust: bool) -> bool {
-    let places = names(text, rust, b"PLACE_");
-    let kinds = names(text, rust, b"KIND_");
-    let flags = names(text, rust, b"FLAG_");
-    let stations = names(text, rust, b"STATION_");
-    !numbers::all(places, kinds, flags, stations)
-}
-
-fn compared(rt: &HostRuntime, name: &str, rust: bool) {
+fn compared(rt: &HostRuntime, name: &str, language: Language) {
     // A file that cannot be read has no line.
     let text = fs::read(rt, name).unwrap_or(Vec::new(rt.alloc()));
-    let lines = lines_wrong(rt, text.as_slice(), rust);
-    let others = names_wrong(text.as_slice(), rust);
+    let lines = lines_wrong(rt, text.as_slice(), language);
+    let others = ["PLACE_", "KIND_", "FLAG_", "STATION_"]
+        .iter()
+        .any(|sort| names_wrong(text.as_slice(), language, *sort));
     say(rt, name.as_bytes());
     if lines {
         say(rt, b" lacks the lines above, which the definitions have\n");
@@ -99,6 +103,6 @@ fn compared(rt: &HostRuntime, name: &str, rust: bool) {
 }
 
 fn main(rt: HostRuntime) {
-    compared(&rt, "fulkibono.h", false);
-    compared(&rt, "record.rs", true);
+    compared(&rt, "fulkibono.h", Language::C);
+    compared(&rt, "record.rs", Language::Rust);
 }

@@ -12,15 +12,15 @@ pub fn numbers_right(w: Work) -> bool
     ensures { result ≡ numbers_right w }
 {
     match w {
-        Work::Nothing => true,
         Work::EraseSector(n) => n < 512,
         Work::EraseBlock(n) => n < 40,
-        Work::EraseArray => true,
         Work::ProgramPage(n) => n < 8192,
         Work::ProgramSecurity(n) => n < 8,
-        Work::LockSecurity => true,
-        Work::WriteConfiguration(_, _) => true,
-        Work::AddPermanent(_) => true,
+        Work::Nothing
+        | Work::EraseArray
+        | Work::LockSecurity
+        | Work::WriteConfiguration(_, _)
+        | Work::AddPermanent(_) => true,
     }
 }
 
@@ -66,15 +66,15 @@ pub fn security_right(r: Work, sec: bool, page: &[u8]) -> bool
     ensures { result ≡ security_right r sec page.now }
 {
     match r {
-        Work::Nothing => true,
-        Work::EraseSector(_) => true,
-        Work::EraseBlock(_) => true,
-        Work::EraseArray => true,
-        Work::ProgramPage(_) => true,
         Work::ProgramSecurity(n) => !sec & ((n != 0) | memory::first_ff(page, 8)),
         Work::LockSecurity => !sec,
-        Work::WriteConfiguration(_, _) => true,
-        Work::AddPermanent(_) => true,
+        Work::Nothing
+        | Work::EraseSector(_)
+        | Work::EraseBlock(_)
+        | Work::EraseArray
+        | Work::ProgramPage(_)
+        | Work::WriteConfiguration(_, _)
+        | Work::AddPermanent(_) => true,
     }
 }
 
