@@ -10,13 +10,11 @@ ghost use Rattle.rules.specs.Demands.{frame_call, completion_call, cut_call};
 ghost use Rattle.chip.specs.Turns.{call_of, LentFor, stop_call};
 ghost use Rattle.meanings.specs.Meanings.{MeaningBytes};
 ghost use Rattle.image.specs.Form.{file_size_lem};
-ghost use Rattle.image.specs.Promises.{posted_number};
 ghost use Rattle.record_code.specs.Layout.{record_size, code, decode};
 ghost use Rattle.bench.specs.Boundary.{lent_bench_of, came_of, circumstances_of, circumstances_in, StopAsked, CallPromise, NewPromise};
 ghost use Rattle.bench.specs.Images.{idle_of, image_read_of, WriteImagePromise, ReadImagePromise};
 
 use chip::{Circumstances, Event, Tear};
-use image::Posted;
 use rules::Rest;
 use rules::plain::smaller;
 
@@ -193,17 +191,6 @@ pub fn fulkibono_power_cut(
 
 // ---- a chip as a file
 
-fn image_number(p: Posted) -> u8
-    ensures { result ≡ posted_number p }
-{
-    match p {
-        Posted::Done => 0,
-        Posted::Malformed => 1,
-        Posted::AtWork => 14,
-        Posted::WrongFile => 15,
-    }
-}
-
 // An empty frame, with the buffer in the array's place: 1 or 2, and nothing changes but what is lent for it.
 fn empty_frame(coded: &mut [u8], file: &mut [u8], id: &mut [u8]) -> u8
     requires { 2097152 ≤ length file.old }
@@ -287,8 +274,7 @@ pub fn fulkibono_image_read(
         return 1;
     }
     let came = image_reading::read(chip::new(), file, array, security);
-    let answer = came.answer;
-    let n = image_number(answer);
+    let n = image::number(came.answer);
     if n != 0 {
         return n;
     }

@@ -1,5 +1,5 @@
 -- What is told of a file that is refused, below the line that says so.
-use Rattle.std.specs.Prelude.{ℕ, ◌-◌, ◌/◌, ◌%◌, Bool, eqb, ltb}
+use Rattle.std.specs.Prelude.{ℕ, ◌-◌, ◌/◌, ◌%◌, Bool, eqb, ltb, Option, None, Some}
 use Rattle.rules.specs.Words.{pick}
 use Rattle.writing.specs.declared.Row.{Row}
 use Rattle.writing.specs.Rows.{blank}
@@ -28,7 +28,6 @@ abbrev pub pairs_on : ℕ → ℕ → ℕ → ℕ → Row → Row
 pairs_on n found m due r = pair_on m due (pair_on n found r)
 
 abbrev pub fault_on : What → ℕ → ℕ → Row → Row
-fault_on What.Nothing found due r = blank
 fault_on What.Length found due r = blank
 fault_on What.Mark found due r = pairs_on 302 found 305 due r
 fault_on What.Sum found due r = pairs_on 303 found 306 due r
@@ -37,5 +36,6 @@ fault_on What.BurstCode found due r = form 307 found 0 0 r
 fault_on What.ReadLock found due r = form 308 found 0 0 r
 fault_on What.Unprotected found due r = form 309 found due 0 r
 
-abbrev pub fault_row : Fault → Row
-fault_row f = fault_on f.what f.found f.due (record_row f.at)
+abbrev pub fault_row : Option Fault → Row
+fault_row None = blank
+fault_row (Some f) = fault_on f.what f.found f.due (record_row f.at)

@@ -9,6 +9,7 @@ use image::{Fault, What};
 use rows::Row;
 
 // A file of so many bytes.
+#[tactic(auto, unfolding(crate::specs::Faults::length_row))]
 pub fn length(raw: bool, n: usize) -> Row
     ensures { result ≡ length_row raw n }
 {
@@ -24,6 +25,7 @@ pub fn length(raw: bool, n: usize) -> Row
     rows::below(294, n as u64, 0, 0)
 }
 
+#[tactic(auto, unfolding(crate::specs::Faults::record_row))]
 fn record_row(at: usize) -> Row
     ensures { result ≡ record_row at }
 {
@@ -51,13 +53,14 @@ fn pairs_on(r: Row, n: usize, found: u64, m: usize, due: u64) -> Row
 }
 
 // The record, and what in it.
-pub fn fault(f: Fault) -> Row
+pub fn fault(f: Option<Fault>) -> Row
     ensures { result ≡ fault_row f }
 {
-    let what = f.what;
+    let Some(f) = f else {
+        return rows::empty();
+    };
     let r = record_row(f.at);
-    match what {
-        What::Nothing => rows::empty(),
+    match f.what {
         What::Length => rows::empty(),
         What::Mark => pairs_on(r, 302, f.found, 305, f.due),
         What::Sum => pairs_on(r, 303, f.found, 306, f.due),

@@ -12,7 +12,7 @@ use Rattle.rules.proofs.Bools.{and_split}
 use Rattle.rules.proofs.Cases.{none_in_front}
 use Rattle.image.specs.Form.{high_first, number_from, total, record_of, registers}
 use Rattle.image.specs.Files.{record_right, page_right_lem, registers_right, rest_in}
-use Rattle.image.specs.Faults.{record_fault, registers_fault, page_fault, first_fault, or_else, unless, sound}
+use Rattle.image.specs.Faults.{record_fault, registers_fault, page_fault, first_fault}
 use Rattle.image.specs.Cases.{Case, cases, CasesHold}
 
 same : List ℕ → List ℕ → Bool
@@ -38,7 +38,7 @@ failing c = pick (same c.gives c.must) [] (c.sentence ∷ [])
 
 -- case by case, so that an error shows which one fails
 none_fails : Each (λ c. failing c ≡ []) cases
-unfolding failing same cases high_first number_from total record_of registers record_right page_right_lem registers_right rest_in locks_right bit record_fault registers_fault page_fault first_fault or_else unless sound
+unfolding failing same cases high_first number_from total record_of registers record_right page_right_lem registers_right rest_in locks_right bit record_fault registers_fault page_fault first_fault
 none_fails =
     refl next refl next refl next refl next refl next refl next refl next refl next
     refl next refl next refl next refl next refl next refl next refl next refl next

@@ -5,56 +5,53 @@ use mathlib.Core.Path.{◌≡◌, refl, sym, ap, ◌∙◌}
 use mathlib.Core.Bool.{Bool, true, false, ◌&&◌, and-true, and_assoc, true≢false}
 use mathlib.Core.List.{List, [], ◌∷◌}
 use native.Mathlib.Omega.{arith}
+use native.Mathlib.Decide.{ℕ_discrete}
 use native.Mathlib.Nat.{pow-suc, pow-le-pow_right}
 use lib.Dec.{eqb, ltb}
 use lib.ListN.{length, length-take}
 use borrow.Author.Tests.{lt-ltb, eq-eqb}
-use Rattle.rules.specs.Words.{pick}
 use Rattle.rules.specs.Texts.{ascii}
 use Rattle.rules.specs.WellFormed.{locks_right}
 use Rattle.image.specs.declared.Fault.{Fault}
 use Rattle.image.specs.declared.What.{What}
-use Rattle.image.specs.Form.{number, number_from, sum, file_size_lem}
+use Rattle.image.specs.Form.{number, number_from, sum}
 use Rattle.image.specs.Files.{part, mark_in, sum_in, body_in, locks_in, burst_byte_in, record_right, page_right_lem, first_hold, registers_right, right}
 use Rattle.image.specs.Laws.{OfBytes}
-use Rattle.image.specs.Faults.{fault_of, no_fault, is_none, sound, or_else, unless, record_fault, registers_fault, page_fault, first_from, first_fault, FaultsTell, RecordsTold}
+use Rattle.image.specs.Faults.{fault_of, unless, record_fault, registers_fault, page_fault, first_from, first_fault, FaultsTell, RecordsTold}
+use Rattle.std.specs.Option.{option_or}
+use Rattle.std.specs.Prelude.{Option, None, Some, is_none, IsSomeAnd, MatchOption}
 use Rattle.image.proofs.Records.{part_bytes}
 
 -- nothing is wrong where nothing is wrong in either part
-sound_both : (f g : Fault) → sound (or_else f g) ≡ (sound f && sound g)
-unfolding sound or_else
-sound_both f g = go (is_none f.what) refl
-  where
-    go : (x : Bool) → is_none f.what ≡ x → is_none (pick (is_none f.what) g f).what ≡ (is_none f.what && is_none g.what)
-    go true q = rw q
-    go false q = rw q q
+sound_both : (f g : Option Fault) → is_none (option_or f g) ≡ (is_none f && is_none g)
+sound_both None g = refl
+sound_both (Some f) g = refl
 
 -- and a test is what it tests
-sound_test : (w : What) → is_none w ≡ false → (t : Bool) (k found due : ℕ) → sound (unless t (fault_of w k found due)) ≡ t
-unfolding sound unless
-sound_test w e true k found due = refl
-sound_test w e false k found due = e
+sound_test : (t : Bool) (f : Fault) → is_none (unless t f) ≡ t
+sound_test true f = refl
+sound_test false f = refl
 
-record_sound : (mark : String) (l : List ℕ) (k at n : ℕ) → sound (record_fault (number (ascii mark)) l k at n) ≡ record_right mark l at n
+record_sound : (mark : String) (l : List ℕ) (k at n : ℕ) → is_none (record_fault (number (ascii mark)) l k at n) ≡ record_right mark l at n
 unfolding record_fault record_right
-record_sound mark l k at n = rw (sound_both, sound_test What.Mark refl, sound_test What.Sum refl)
+record_sound mark l k at n = rw (sound_both, sound_test, sound_test)
 
-page_sound : (l : List ℕ) (n : ℕ) → sound (page_fault l n) ≡ page_right_lem l n
+page_sound : (l : List ℕ) (n : ℕ) → is_none (page_fault l n) ≡ page_right_lem l n
 unfolding page_fault page_right_lem
-page_sound l n = rw (sound_both, record_sound "PG", sound_test What.PageNumber refl)
+page_sound l n = rw (sound_both, record_sound "PG", sound_test)
 
 -- the first of k in a row, from n on: where none is wrong up to n
-pages_sound : (f : ℕ → Fault) (t : ℕ → Bool) (n k : ℕ) → ((i : ℕ) → sound (f i) ≡ t i) → (first_hold t n && sound (first_from f n k)) ≡ first_hold t (n + k)
-unfolding first_from first_hold sound
+pages_sound : (f : ℕ → Option Fault) (t : ℕ → Bool) (n k : ℕ) → ((i : ℕ) → is_none (f i) ≡ t i) → (first_hold t n && is_none (first_from f n k)) ≡ first_hold t (n + k)
+unfolding first_from first_hold
 pages_sound f t n zero h = let e : n + 0 ≡ n = omega arith in rw e (and-true (first_hold t n))
 pages_sound f t n (suc k) h =
     let e : n + suc k ≡ n + 1 + k = omega arith in
-    let s : sound (or_else (f n) (first_from f (n + 1) k)) ≡ (t n && sound (first_from f (n + 1) k)) =
-    sound_both (f n) (first_from f (n + 1) k) ∙ (λ i. h n i && sound (first_from f (n + 1) k)) in
+    let s : is_none (option_or (f n) (first_from f (n + 1) k)) ≡ (t n && is_none (first_from f (n + 1) k)) =
+    sound_both (f n) (first_from f (n + 1) k) ∙ (λ i. h n i && is_none (first_from f (n + 1) k)) in
     let one : first_hold t (n + 1) ≡ (first_hold t n && t n) = (let z : n + 1 ≡ suc n = omega arith in rw z) in
-    rw (e, s) (sym (and_assoc (first_hold t n) (t n) (sound (first_from f (n + 1) k))) ∙ (rw one at (pages_sound f t (n + 1) k h)))
+    rw (e, s) (sym (and_assoc (first_hold t n) (t n) (is_none (first_from f (n + 1) k))) ∙ (rw one at (pages_sound f t (n + 1) k h)))
 
-all_sound : (f : ℕ → Fault) (t : ℕ → Bool) (k : ℕ) → ((i : ℕ) → sound (f i) ≡ t i) → sound (first_from f 0 k) ≡ first_hold t k
+all_sound : (f : ℕ → Option Fault) (t : ℕ → Bool) (k : ℕ) → ((i : ℕ) → is_none (f i) ≡ t i) → is_none (first_from f 0 k) ≡ first_hold t k
 unfolding first_hold
 all_sound f t k h = let e : 0 + k ≡ k = omega arith in rw e at (pages_sound f t 0 k h)
 
@@ -77,75 +74,79 @@ six_below l at h = less_pow (length (part l at 6)) (number (part l at 6)) (numbe
     less_pow : (n x : ℕ) → x < 256 ^ (0 + n) → n ≤ 6 → x < 2 ^ 48
     less_pow n x h s = let z : 0 + n ≡ n = omega arith in let p : 256 ^ n ≤ 256 ^ 6 = pow-le-pow_right {n = 256} (omega arith) s in let k : x < 256 ^ n = (rw z at h) in omega arith
 
--- what six bytes each can hold
-pub record Low (l : List ℕ) : Type 0 where
-  pub protection : (locks_in l).protection < 2 ^ 48
-  pub permanent : (locks_in l).permanent < 2 ^ 48
-
-registers_sound : (l : List ℕ) → Low l → sound (registers_fault (burst_byte_in l) (locks_in l)) ≡ registers_right l
+registers_sound : (l : List ℕ) → OfBytes l → is_none (registers_fault (burst_byte_in l) (locks_in l)) ≡ registers_right l
 unfolding registers_fault registers_right locks_right
 registers_sound l h =
-    let p : ltb (locks_in l).protection (2 ^ 48) ≡ true = lt-ltb _ _ h.protection in
-    let q : ltb (locks_in l).permanent (2 ^ 48) ≡ true = lt-ltb _ _ h.permanent in
-    rw (p, q, sound_both, sound_both, sound_test What.BurstCode refl, sound_test What.ReadLock refl, sound_test What.Unprotected refl)
-
-pub faults_tell_low : (l : List ℕ) → Low l → sound (first_fault l) ≡ right l
-unfolding first_fault right
-faults_tell_low l h =
-    let pages : sound (first_from (page_fault l) 0 8192) ≡ first_hold (page_right_lem l) 8192 = all_sound (page_fault l) (page_right_lem l) 8192 (page_sound l) in
-    rw (sound_both, sound_both, sound_both, sound_both, sound_test What.Length refl, record_sound "RG", record_sound "SI", registers_sound l h, pages, and_assoc, and_assoc, and_assoc)
+    let p : ltb (locks_in l).protection (2 ^ 48) ≡ true = lt-ltb _ _ (six_below l 2 h) in
+    let q : ltb (locks_in l).permanent (2 ^ 48) ≡ true = lt-ltb _ _ (six_below l 8 h) in
+    rw (p, q, sound_both, sound_both, sound_test, sound_test, sound_test)
 
 pub faults_tell : FaultsTell
-faults_tell l h = faults_tell_low l (record { protection = six_below l 2 h; permanent = six_below l 8 h })
+unfolding first_fault right
+faults_tell l h =
+    let pages : is_none (first_from (page_fault l) 0 8192) ≡ first_hold (page_right_lem l) 8192 = all_sound (page_fault l) (page_right_lem l) 8192 (page_sound l) in
+    rw (sound_both, sound_both, sound_both, sound_both, sound_test, record_sound "RG", record_sound "SI", registers_sound l h, pages, and_assoc, and_assoc, and_assoc)
 
 -- ---- where the search for the first fault ends
 
--- at what is found first
-pub found_first : (f g : Fault) → sound f ≡ false → or_else f g ≡ f
-unfolding or_else
-found_first f g e = rw e
+-- in f, or else in g
+pub found : (f g r : Option Fault) → MatchOption f (r ≡ g) (λ x. r ≡ Some x) → r ≡ option_or f g
+found None g r h = h
+found (Some f) g r h = h
 
--- or behind it
-pub found_behind : (f g : Fault) → sound f ≡ true → or_else f g ≡ g
-unfolding or_else
-found_behind f g e = rw e
+-- in the first of k in a row that has one
+pub found_in_row : (f : ℕ → Option Fault) (n k : ℕ) (r : Option Fault)
+    → MatchOption r ((i : ℕ) → n ≤ i → i < n + k → f i ≡ None) (λ x. (i : ℕ) × (n ≤ i) × (i < n + k) × (f i ≡ Some x) × ((j : ℕ) → n ≤ j → j < i → f j ≡ None))
+    → r ≡ first_from f n k
+unfolding first_from
+found_in_row f n zero None h = refl
+found_in_row f n zero (Some x) h = absurd (let a = h.1 in let b = h.2 in omega arith)
+found_in_row f n (suc k) None h =
+    found (f n) (first_from f (n + 1) k) None
+    (rw (h n (omega arith) (omega arith)) (found_in_row f (n + 1) k None (λ i a b. h i (omega arith) (omega arith))))
+found_in_row f n (suc k) (Some x) h = found (f n) (first_from f (n + 1) k) (Some x) (go (ℕ_discrete h.0 n) (found_in_row f (n + 1) k (Some x)))
+  where
+    Behind : Option Fault → Type 0
+    Behind r = MatchOption r ((i : ℕ) → n + 1 ≤ i → i < n + 1 + k → f i ≡ None) (λ y. (i : ℕ) × (n + 1 ≤ i) × (i < n + 1 + k) × (f i ≡ Some y) × ((j : ℕ) → n + 1 ≤ j → j < i → f j ≡ None))
 
-pub test_passed : (t : Bool) (f : Fault) → t ≡ true → unless t f ≡ no_fault
-unfolding unless
-test_passed t f e = rw e
-
-pub test_failed : (t : Bool) (f : Fault) → t ≡ false → unless t f ≡ f
-unfolding unless
-test_failed t f e = rw e
-
--- a test in front of the rest
-pub tested : (t : Bool) (f g : Fault) → t ≡ true → or_else (unless t f) g ≡ g
-unfolding or_else unless sound
-tested t f g e = rw e
-
-pub untested : (t : Bool) (f g : Fault) → t ≡ false → is_none f.what ≡ false → or_else (unless t f) g ≡ f
-unfolding or_else unless sound
-untested t f g e h = rw (e, h)
-
--- a file of another length
-pub other_length : (l : List ℕ) → eqb (length l) file_size_lem ≡ false → right l ≡ false
-unfolding right
-other_length l e = rw e
+    go : Dec (h.0 ≡ n) → (Behind (Some x) → Some x ≡ first_from f (n + 1) k) → MatchOption (f n) (Some x ≡ first_from f (n + 1) k) (λ y. Some x ≡ Some y)
+    go (yes e) rest = let is : f n ≡ Some x = ap f (sym e) ∙ h.3 in rw is refl
+    go (no q) rest =
+        let low = h.1 in
+        let high = h.2 in
+        rw (h.4 n (omega arith) (omega arith)) (rest (h.0, omega arith, omega arith, h.3, λ j a b. h.4 j (omega arith) b))
 
 -- ---- which record is told
 
 -- of a record that is not right its own number
-record_at : (m : ℕ) (l : List ℕ) (k at n : ℕ) → sound (record_fault m l k at n) ≡ false → (record_fault m l k at n).at ≡ k
-unfolding record_fault or_else unless sound
+record_at : (m : ℕ) (l : List ℕ) (k at n : ℕ) → is_none (record_fault m l k at n) ≡ false → IsSomeAnd (record_fault m l k at n) (λ f. f.at ≡ k)
+unfolding record_fault
 record_at m l k at n e = go (eqb (mark_in l at) m) (eqb (sum_in l at n) (sum (body_in l at n))) e
   where
-    found : Bool → Bool → Fault
-    found x y = or_else (unless x (fault_of What.Mark k (mark_in l at) m)) (unless y (fault_of What.Sum k (sum_in l at n) (sum (body_in l at n))))
+    faults : Bool → Bool → Option Fault
+    faults x y = option_or (unless x (fault_of What.Mark k (mark_in l at) m)) (unless y (fault_of What.Sum k (sum_in l at n) (sum (body_in l at n))))
 
-    go : (x y : Bool) → sound (found x y) ≡ false → (found x y).at ≡ k
+    go : (x y : Bool) → is_none (faults x y) ≡ false → IsSomeAnd (faults x y) (λ f. f.at ≡ k)
     go true true e = absurd (true≢false e)
     go true false e = refl
     go false y e = refl
+
+-- the search ends at what is found first
+found_first : (f g : Option Fault) → is_none f ≡ false → option_or f g ≡ f
+found_first None g e = absurd (true≢false e)
+found_first (Some f) g e = refl
+
+-- or goes on behind it
+found_behind : (f g : Option Fault) → is_none f ≡ true → option_or f g ≡ g
+found_behind None g e = refl
+found_behind (Some f) g e = absurd (true≢false (sym e))
+
+-- a test that holds finds nothing
+tested : (t : Bool) (f : Fault) (g : Option Fault) → t ≡ true → option_or (unless t f) g ≡ g
+tested t f g e = rw e
+
+told_at : (k : ℕ) (f g : Option Fault) → f ≡ g → IsSomeAnd g (λ x. x.at ≡ k) → IsSomeAnd f (λ x. x.at ≡ k)
+told_at k f g e h = rw e h
 
 pub records_told : (l : List ℕ) → RecordsTold l
 unfolding first_fault
@@ -153,9 +154,9 @@ records_told l =
     record {
       rg = λ size e.
           let wrong = record_sound "RG" l 0 0 14 ∙ e in
-          ap (λ f. f.at) (tested _ _ _ (eq-eqb _ _ size) ∙ found_first _ _ wrong) ∙ record_at (number (ascii "RG")) l 0 0 14 wrong;
+          told_at 0 _ _ (tested _ _ _ (eq-eqb _ _ size) ∙ found_first _ _ wrong) (record_at (number (ascii "RG")) l 0 0 14 wrong);
       si = λ size e r d.
           let wrong = record_sound "SI" l 1 18 2048 ∙ d in
-          ap (λ f. f.at) (tested _ _ _ (eq-eqb _ _ size) ∙ found_behind _ _ (record_sound "RG" l 0 0 14 ∙ e) ∙ found_behind _ _ r ∙ found_first _ _ wrong)
-          ∙ record_at (number (ascii "SI")) l 1 18 2048 wrong;
+          told_at 1 _ _ (tested _ _ _ (eq-eqb _ _ size) ∙ found_behind _ _ (record_sound "RG" l 0 0 14 ∙ e) ∙ found_behind _ _ r ∙ found_first _ _ wrong)
+          (record_at (number (ascii "SI")) l 1 18 2048 wrong);
     }

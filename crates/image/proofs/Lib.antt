@@ -8,3 +8,4 @@ pub mod Faults
 pub mod Given
 pub mod Trips
 pub mod Cases
+pub mod Unique

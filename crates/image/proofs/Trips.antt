@@ -2,15 +2,16 @@
 use Prim.Native.Nat.{ℕ}
 use mathlib.Core.Path.{◌≡◌, refl, sym, ap, ◌∙◌}
 use mathlib.Core.List.{List}
+use Rattle.std.specs.Prelude.{Ok, Err}
 use lib.Dec.{eqb}
 use lib.ListN.{length}
 use Rattle.rules.specs.declared.Chip.{Chip}
 use Rattle.rules.specs.Words.{pick}
-use Rattle.image.specs.declared.Posted.{Posted}
+use Rattle.image.specs.declared.FileRefusal.{FileRefusal}
 use Rattle.image.specs.declared.Received.{Received}
 use Rattle.image.specs.Form.{file_of}
 use Rattle.image.specs.Files.{right, chip_in, array_in, security_in}
-use Rattle.image.specs.Promises.{Written, written, WritePromise, Read, ReadPromise, posted_number}
+use Rattle.image.specs.Promises.{Written, written, WritePromise, Read, ReadPromise, Posted, posted_number}
 use Rattle.image.specs.Laws.{Whole, WrittenThenRead, ReadThenWritten}
 use Rattle.image.proofs.Outcomes.{sizes_of, write_done, read_done}
 use Rattle.image.proofs.Laws.{reading_gives_back, writing_gives_the_same}
@@ -49,13 +50,13 @@ read_then_written c file array security array' security' r buffer buffer' s smal
 -- ---- no second outcome
 
 abbrev posted_of : ℕ → Posted
-posted_of n = pick (eqb n 0) Posted.Done (pick (eqb n 1) Posted.Malformed (pick (eqb n 14) Posted.AtWork Posted.WrongFile))
+posted_of n = pick (eqb n 0) (Ok tt) (Err (pick (eqb n 1) FileRefusal.Malformed (pick (eqb n 14) FileRefusal.AtWork FileRefusal.WrongFile)))
 
 posted_back : (p : Posted) → posted_of (posted_number p) ≡ p
-posted_back Posted.Done = refl
-posted_back Posted.Malformed = refl
-posted_back Posted.AtWork = refl
-posted_back Posted.WrongFile = refl
+posted_back (Ok done) = refl
+posted_back (Err FileRefusal.Malformed) = refl
+posted_back (Err FileRefusal.AtWork) = refl
+posted_back (Err FileRefusal.WrongFile) = refl
 
 pub posted_one : (p q : Posted) → posted_number p ≡ posted_number q → p ≡ q
 posted_one p q e = sym (posted_back p) ∙ ap posted_of e ∙ posted_back q

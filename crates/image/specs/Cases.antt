@@ -1,6 +1,6 @@
 -- Worked cases of W-203, each an equation between what the definitions give and what the paper's words give, under one statement. Proved in proofs/Cases.
 -- The arrays here hold as many pages as a case needs: a record looks at no other.
-use Rattle.std.specs.Prelude.{ℕ, ◌≡◌, Bool, true, false, List, [], ◌∷◌, ◌++◌, take, drop, replicate}
+use Rattle.std.specs.Prelude.{ℕ, ◌≡◌, Bool, true, false, List, [], ◌∷◌, ◌++◌, take, drop, replicate, Option, None, Some, Ok, Err}
 use Prim.Native.String.{String}
 use Rattle.rules.specs.declared.Burst.{Burst}
 use Rattle.rules.specs.declared.Work.TheVariants.{Nothing}
@@ -9,7 +9,7 @@ use Rattle.rules.specs.Texts.{ascii}
 use Rattle.rules.specs.Fields.{locks_of, works_of, flags_of, rest_of}
 use Rattle.rules.specs.Commands.{new_chip, new_old_chip}
 use Rattle.image.specs.declared.Fault.{Fault}
-use Rattle.image.specs.declared.Posted.{Posted}
+use Rattle.image.specs.declared.FileRefusal.{FileRefusal}
 use Rattle.image.specs.Form.{high_first, number, sum, record_of, registers}
 use Rattle.image.specs.Files.{page_place, record_right, registers_right, rest_in, page_right_lem}
 use Rattle.image.specs.Promises.{posted_number}
@@ -56,8 +56,9 @@ abbrev pub first_page : List ℕ → List ℕ
 first_page body = held (page_right_lem (replicate (page_place 0) 0 ++ record_of "PG" body) 0)
 
 -- the record, what stands there and what belongs there, of a fault
-abbrev pub told : Fault → List ℕ
-told f = f.at ∷ f.found ∷ f.due ∷ []
+abbrev pub told : Option Fault → List ℕ
+told None = []
+told (Some f) = f.at ∷ f.found ∷ f.due ∷ []
 
 -- of a file's second page record, with these bytes for it
 abbrev pub second_page : List ℕ → List ℕ
@@ -104,11 +105,11 @@ cases =
     ∷ case "a permanent bit set in the protection register" (right_with 0x5555_FFFF_FFFF 1 0 0) (1 ∷ [])
     ∷ case "a permanent bit that is not" (right_with 0x5555_FFFF_FFFE 1 0 0) (0 ∷ [])
     ∷ case "a permanent read lock" (right_with 0xFFFF_FFFF_FFFF 0x0002_0000_0000 0 0) (0 ∷ [])
-    ∷ case "done, and the refusals: 1, 14, 15" (posted_number Posted.Done ∷ posted_number Posted.Malformed ∷ posted_number Posted.AtWork ∷ posted_number Posted.WrongFile ∷ []) (0 ∷ 1 ∷ 14 ∷ 15 ∷ [])
+    ∷ case "done, and the refusals: 1, 14, 15" (posted_number (Ok tt) ∷ posted_number (Err FileRefusal.Malformed) ∷ posted_number (Err FileRefusal.AtWork) ∷ posted_number (Err FileRefusal.WrongFile) ∷ []) (0 ∷ 1 ∷ 14 ∷ 15 ∷ [])
     ∷ case "what is wrong first: another length" (told (first_fault [])) (0 ∷ 0 ∷ 2_148_374 ∷ [])
     ∷ case "in which record, and what the mark is" (told (record_fault (number (ascii "RG")) (0x52 ∷ 0x48 ∷ 0x01 ∷ 0x02 ∷ 0x00 ∷ 0x04 ∷ []) 5 0 2)) (5 ∷ 0x5248 ∷ 0x5247 ∷ [])
     ∷ case "the sum, and the body's" (told (record_fault (number (ascii "RG")) (0x52 ∷ 0x47 ∷ 0x01 ∷ 0x02 ∷ 0x00 ∷ 0x04 ∷ []) 5 0 2)) (5 ∷ 0x0004 ∷ 0x0003 ∷ [])
-    ∷ case "nothing" (told (record_fault (number (ascii "RG")) (0x52 ∷ 0x47 ∷ 0x01 ∷ 0x02 ∷ 0x00 ∷ 0x03 ∷ []) 5 0 2)) (0 ∷ 0 ∷ 0 ∷ [])
+    ∷ case "nothing" (told (record_fault (number (ascii "RG")) (0x52 ∷ 0x47 ∷ 0x01 ∷ 0x02 ∷ 0x00 ∷ 0x03 ∷ []) 5 0 2)) []
     ∷ case "record PG 1: the page number" (second_page (record_of "PG" (blank_body 7))) (3 ∷ 7 ∷ 1 ∷ [])
     ∷ case "record PG 1: the mark" (second_page (record_of "PQ" (blank_body 1))) (3 ∷ 0x5051 ∷ 0x5047 ∷ [])
     ∷ case "the burst code, and the last one" (told (registers_fault 0x09 (locks_of 0 0))) (0 ∷ 0x09 ∷ 0x03 ∷ [])

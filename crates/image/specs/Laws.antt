@@ -3,11 +3,10 @@ use Rattle.std.specs.Prelude.{ℕ, ◌<◌, ◌≡◌, true, List, length, get_o
 use Rattle.rules.specs.declared.Chip.{Chip}
 use Rattle.rules.specs.Blocks.{array_size_lem, security_size_lem}
 use Rattle.rules.specs.WellFormed.{well_formed}
-use Rattle.image.specs.declared.Posted.{Posted}
 use Rattle.image.specs.declared.Received.{Received}
 use Rattle.image.specs.Form.{file_of, file_size_lem}
 use Rattle.image.specs.Files.{right, chip_in, array_in, security_in}
-use Rattle.image.specs.Promises.{idle, posted_number, WritePromise, ReadPromise}
+use Rattle.image.specs.Promises.{idle, Posted, posted_number, WritePromise, ReadPromise}
 
 -- what the type of a lent byte says
 abbrev pub OfBytes : List ℕ → Type 0

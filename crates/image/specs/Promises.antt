@@ -1,24 +1,28 @@
 -- 02, W-203: what the two functions give back and leave. "Refusals: 1 for wrong lengths or, writing, a broken record; 14 for a busy or suspended chip; 15 for a
 -- wrong" file. "A refusal leaves chip and buffer unchanged."
-use Rattle.std.specs.Prelude.{ℕ, ◌≡◌, Bool, not, ◌&&◌, List, eqb, length}
+use Rattle.std.specs.Prelude.{ℕ, ◌≡◌, Bool, not, ◌&&◌, List, eqb, length, Result, Ok, Err}
 use Rattle.rules.specs.declared.Chip.{Chip}
 use Rattle.rules.specs.declared.Rest.{Rest}
 use Rattle.rules.specs.Words.{pick}
 use Rattle.rules.specs.Blocks.{array_size_lem, security_size_lem}
 use Rattle.rules.specs.Works.{is_nothing}
 use Rattle.rules.specs.WellFormed.{well_formed}
-use Rattle.image.specs.declared.Posted.{Posted}
+use Rattle.image.specs.declared.FileRefusal.{FileRefusal}
 use Rattle.image.specs.declared.Received.{Received}
 use Rattle.image.specs.Form.{file_of, file_size_lem}
 use Rattle.image.specs.Files.{right, chip_in, array_in, security_in}
 
 -- ---- the numbers
 
+-- what came of writing or reading a file
+abbrev pub Posted : Type 0
+Posted = Result (Unit {0}) FileRefusal
+
 abbrev pub posted_number : Posted → ℕ
-posted_number Posted.Done = 0
-posted_number Posted.Malformed = 1
-posted_number Posted.AtWork = 14
-posted_number Posted.WrongFile = 15
+posted_number (Ok done) = 0
+posted_number (Err FileRefusal.Malformed) = 1
+posted_number (Err FileRefusal.AtWork) = 14
+posted_number (Err FileRefusal.WrongFile) = 15
 
 -- ---- the conditions
 

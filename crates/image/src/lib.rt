@@ -1,28 +1,29 @@
-// Document 02, W-203: a whole idle chip as a file. The types; what they mean is in specs/.
+// Document 02, W-203: a whole idle chip as a file. The types, and an answer's number; what they mean is in specs/.
 #![tactic(auto)]
+
+ghost use Rattle.std.specs.Prelude.{◌≡◌};
+ghost use Rattle.image.specs.Promises.{posted_number};
 
 use rules::Chip;
 
-// What came of writing or reading a file.
+// Why a file is not written, or not read.
 #[derive(Clone, Copy)]
-pub enum Posted {
-    Done,
+pub enum FileRefusal {
     Malformed,
     AtWork,
     WrongFile,
 }
 
-// What reading a file gives back: the answer, and the record afterwards.
+// What reading a file gives back: the answer, and the record afterwards, which a refusal leaves as it was.
 #[derive(Clone, Copy)]
 pub struct Received {
-    pub answer: Posted,
+    pub answer: Result<(), FileRefusal>,
     pub chip: Chip,
 }
 
 // What of a file is not as it must be.
 #[derive(Clone, Copy)]
 pub enum What {
-    Nothing,
     Length,
     Mark,
     Sum,
@@ -39,4 +40,16 @@ pub struct Fault {
     pub at: usize,
     pub found: u64,
     pub due: u64,
+}
+
+// 0 for done, or the refusal's number.
+pub fn number(answer: Result<(), FileRefusal>) -> u8
+    ensures { result ≡ posted_number answer }
+{
+    match answer {
+        Ok(()) => 0,
+        Err(FileRefusal::Malformed) => 1,
+        Err(FileRefusal::AtWork) => 14,
+        Err(FileRefusal::WrongFile) => 15,
+    }
 }

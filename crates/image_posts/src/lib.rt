@@ -2,25 +2,11 @@
 #![tactic(auto)]
 
 ghost use Rattle.std.specs.Prelude.{◌≡◌};
-ghost use Rattle.image.specs.Promises.{posted_number};
 ghost use Rattle.image_posts.specs.Images.{Saved, with_chip, Loaded};
 
-use image::Posted;
-use posting::{Carried, Report, Trouble};
+use posting::{Carried, Report};
 use rules::Chip;
-use rules::plain::smaller;
 use standing::Playing;
-
-fn number_of(answer: Posted) -> u8
-    ensures { result ≡ posted_number answer }
-{
-    match answer {
-        Posted::Done => 0,
-        Posted::Malformed => 1,
-        Posted::AtWork => 14,
-        Posted::WrongFile => 15,
-    }
-}
 
 // The image of the chip, with as much of the memories as is lent.
 pub fn save(p: Playing, array: &[u8], security: &[u8], file: &mut [u8]) -> u8
@@ -28,10 +14,14 @@ pub fn save(p: Playing, array: &[u8], security: &[u8], file: &mut [u8]) -> u8
 {
     let bench = p.bench;
     let chip = bench.chip;
-    let a = smaller(bench.array, array.len());
-    let s = smaller(bench.security, security.len());
-    let answer = image_writing::write(chip, &array[..a], &security[..s], file);
-    number_of(answer)
+    let a = bench.array.min(array.len());
+    let s = bench.security.min(security.len());
+    image::number(image_writing::write(
+        chip,
+        &array[..a],
+        &security[..s],
+        file,
+    ))
 }
 
 fn with_chip(p: Playing, c: Chip) -> Playing
@@ -48,21 +38,18 @@ pub fn load(p: Playing, array: &mut [u8], security: &mut [u8], file: &[u8]) -> C
 {
     let bench = p.bench;
     let chip = bench.chip;
-    let a = smaller(bench.array, array.len());
-    let s = smaller(bench.security, security.len());
+    let a = bench.array.min(array.len());
+    let s = bench.security.min(security.len());
     let r = image_reading::read(chip, file, &mut array[..a], &mut security[..s]);
-    let answer = r.answer;
     let read = r.chip;
-    let number = number_of(answer);
+    let number = image::number(r.answer);
     let now = with_chip(p, read);
-    let playing = posting::judge(now, Trouble::Nothing, number, false);
-    let fault = image_reading::fault(file);
-    let difference = raw_image::same();
+    let playing = posting::judge(now, None, number, false);
     let report = Report {
-        trouble: Trouble::Nothing,
+        trouble: None,
         length: file.len(),
-        fault,
-        difference,
+        fault: image_reading::fault(file),
+        difference: None,
     };
     Carried { playing, report }
 }

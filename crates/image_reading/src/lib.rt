@@ -4,28 +4,24 @@
 mod faults;
 
 ghost use Rattle.std.specs.Prelude.{◌≡◌, length};
-ghost use Rattle.rules.specs.Words.{pick};
 ghost use Rattle.rules.specs.Blocks.{array_size_lem, security_size_lem};
-ghost use Rattle.rules.specs.Bursts.{burst_of};
 ghost use Rattle.image.specs.Form.{file_size_lem};
 ghost use Rattle.image.specs.Files.{rest_in, array_in, security_in};
 ghost use Rattle.image.specs.Promises.{ReadPromise};
 
 pub use faults::fault;
-use faults::{is_none, locks_in};
-use image::{Posted, Received};
+use faults::locks_in;
+use image::{FileRefusal, Received};
 use image_records::sizes_right;
-use rules::{Burst, Chip, Rest, Work, Works};
+use rules::{Chip, Rest, Work, Works};
 
 // The pages, one after the other.
 fn fill_array(file: &[u8], array: &mut [u8])
     requires { (length file.now ≡ file_size_lem) × (length array.old ≡ array_size_lem) }
     ensures { array.new ≡ array_in file.now }
 {
-    let mut n: usize = 0;
-    while n < 8192 {
+    for n in 0..8192 {
         memory::copy(array, n * 256, 256, file, 2070 + n * 262 + 4);
-        n += 1;
     }
 }
 
@@ -36,32 +32,15 @@ fn fill_security(file: &[u8], security: &mut [u8])
     memory::copy(security, 0, 2048, file, 20);
 }
 
-// Both memories, where the file is right.
-fn store(right: bool, file: &[u8], array: &mut [u8], security: &mut [u8])
-    requires { (length file.now ≡ file_size_lem) × ((length array.old ≡ array_size_lem) × (length security.old ≡ security_size_lem)) }
-    ensures array { array.new ≡ pick right (array_in file.now) array.old }
-    ensures security { security.new ≡ pick right (security_in file.now) security.old }
-{
-    if right {
-        fill_array(file, array);
-        fill_security(file, security);
-    }
-}
-
-fn burst_of(x: u8) -> Burst
-    ensures { result ≡ burst_of x }
-{
-    numbering::burst_of(x as u64)
-}
-
 // Idle, nothing suspended; the flags as in the file.
+#[tactic(auto, unfolding(image::specs::Files::rest_in))]
 fn rest_in(file: &[u8]) -> Rest
     requires { length file.now ≡ file_size_lem }
     ensures { result ≡ rest_in file.now }
 {
     let locks = locks_in(file);
     let flags = numbering::flags_of(file[14]);
-    let burst = burst_of(file[15]);
+    let burst = numbering::burst_of(u64::from(file[15]));
     Rest {
         locks,
         works: Works {
@@ -79,26 +58,25 @@ pub fn read(c: Chip, file: &[u8], array: &mut [u8], security: &mut [u8]) -> Rece
 {
     if !sizes_right(array.len(), security.len(), file.len()) {
         return Received {
-            answer: Posted::Malformed,
+            answer: Err(FileRefusal::Malformed),
             chip: c,
         };
     }
-    let f = fault(file);
-    let right = is_none(f);
-    store(right, file, array, security);
-    if !right {
+    if fault(file).is_some() {
         return Received {
-            answer: Posted::WrongFile,
+            answer: Err(FileRefusal::WrongFile),
             chip: c,
         };
     }
+    fill_array(file, array);
+    fill_security(file, security);
     let rest = rest_in(file);
     let chip = Chip {
         buffer: [255; 256],
         rest,
     };
     Received {
-        answer: Posted::Done,
+        answer: Ok(()),
         chip,
     }
 }

@@ -5,7 +5,6 @@ use comparing::bytes::{same, same_front, within};
 use comparing::mapping::{flat_of, same_records};
 use drawing::at;
 use drawing::dice::seed_of;
-use image::Posted;
 use image_drawing::places::{BEFORE, File, Identity, Memory, all_are, plus, set, turn};
 use image_drawing::{chips, spoiling};
 use rules::Chip;
@@ -76,21 +75,16 @@ struct Numbers {
     second: u8,
 }
 
-pub fn number_of(p: Posted) -> u8 {
-    match p {
-        Posted::Done => 0,
-        Posted::Malformed => 1,
-        Posted::AtWork => 14,
-        Posted::WrongFile => 15,
-    }
-}
-
 fn first_writes(c: Chip, l: Lengths, array: &[u8], security: &[u8], file: &mut [u8]) -> u8 {
     let a = within(l.array, array);
     let s = within(l.security, security);
     let n = within(l.file, file);
-    let p = image_writing::write(c, &array[..a], &security[..s], &mut file[..n]);
-    number_of(p)
+    image::number(image_writing::write(
+        c,
+        &array[..a],
+        &security[..s],
+        &mut file[..n],
+    ))
 }
 
 fn second_writes(f: Flat, l: Lengths, array: &[u8], security: &[u8], file: &mut [u8]) -> u8 {
@@ -209,10 +203,9 @@ pub fn read(
     set(security2, BEFORE);
     let r = first_reads(c, l, file, array, security);
     let s = second_reads(flat_of(c), l, file, other, security2);
-    let answer = r.answer;
     let chip = r.chip;
     let state = s.state;
-    let number = number_of(answer);
+    let number = image::number(r.answer);
     bump(counts, report::READS);
     bump(counts, plus(report::READ_NUMBERS, number as usize));
     Got {

@@ -9,7 +9,7 @@ ghost use Rattle.image.specs.Form.{high_first, record_of, registers, page_record
 ghost use Rattle.image.specs.Files.{security_place, page_place};
 ghost use Rattle.image.specs.Promises.{idle, WritePromise};
 
-use image::Posted;
+use image::FileRefusal;
 use image_records::{put_two, seal, sizes_right};
 use rules::{Chip, Rest};
 
@@ -54,21 +54,13 @@ fn put_security(file: &mut [u8], security: &[u8])
     seal(file, 18, 2048, 0x5349);
 }
 
-// The number that page n's record says: they count from 0.
-fn page_number(n: usize) -> u64
-    requires { n < 8192 }
-    ensures { result ≡ n }
-{
-    n as u64
-}
-
-// PG of page n.
+// PG of page n: they count from 0.
 fn put_page(file: &mut [u8], array: &[u8], n: usize)
     requires { (n < 8192) × ((length file.old ≡ file_size_lem) × (length array.now ≡ array_size_lem)) }
     ensures { file.new ≡ paste file.old (page_place n) (page_record array.now n) 262 }
 {
     let at = 2070 + n * 262;
-    put_two(file, at + 2, page_number(n));
+    put_two(file, at + 2, n as u64);
     memory::copy(file, at + 4, 256, array, n * 256);
     seal(file, at, 258, 0x5047);
 }
@@ -78,10 +70,8 @@ fn put_pages(file: &mut [u8], array: &[u8])
     requires { (length file.old ≡ file_size_lem) × (length array.now ≡ array_size_lem) }
     ensures { file.new ≡ take 2070 file.old ++ joined (page_record array.now) 8192 }
 {
-    let mut n: usize = 0;
-    while n < 8192 {
+    for n in 0..8192 {
         put_page(file, array, n);
-        n += 1;
     }
 }
 
@@ -105,29 +95,21 @@ fn is_idle(r: Rest) -> bool
     blocks::is_nothing(run) & blocks::is_nothing(aside)
 }
 
-// The record as a buffer and the rest.
-fn write_turn(r: Rest, page: &[u8], array: &[u8], security: &[u8], file: &mut [u8]) -> Posted
-    requires { length page.now ≡ 256 }
-    ensures { WritePromise (chip_of page.now r) array.now security.now file.old result file.new }
-{
-    if !sizes_right(array.len(), security.len(), file.len()) {
-        return Posted::Malformed;
-    }
-    if !records::well_formed(r, page) {
-        return Posted::Malformed;
-    }
-    if !is_idle(r) {
-        return Posted::AtWork;
-    }
-    put_file(file, r, array, security);
-    Posted::Done
-}
-
 // The file of a chip, into a lent buffer.
-pub fn write(c: Chip, array: &[u8], security: &[u8], file: &mut [u8]) -> Posted
+pub fn write(c: Chip, array: &[u8], security: &[u8], file: &mut [u8]) -> Result<(), FileRefusal>
     ensures { WritePromise c array.now security.now file.old result file.new }
 {
     let rest = c.rest;
     let page = c.buffer;
-    write_turn(rest, &page, array, security, file)
+    if !sizes_right(array.len(), security.len(), file.len()) {
+        return Err(FileRefusal::Malformed);
+    }
+    if !records::well_formed(rest, &page) {
+        return Err(FileRefusal::Malformed);
+    }
+    if !is_idle(rest) {
+        return Err(FileRefusal::AtWork);
+    }
+    put_file(file, rest, array, security);
+    Ok(())
 }

@@ -4,11 +4,10 @@
 
 mod telling;
 
-ghost use Rattle.std.specs.Prelude.{◌≡◌, false};
-ghost use Rattle.rules.specs.Words.{pick};
+ghost use Rattle.std.specs.Prelude.{◌≡◌, IfOk, unwrap_or};
 ghost use Rattle.rules.specs.Commands.{new_of};
 
-use image::Posted;
+use image::FileRefusal;
 use rules::Chip;
 use std::fs::File;
 use std::io;
@@ -16,51 +15,18 @@ use std::io::ErrorKind;
 use telling::{broken_told, refused_told};
 pub use telling::{part_told, told};
 
-// What came of reading a file: whether it is right, and whether a chip is kept in it.
+// A file that cannot be read, is refused or could not be saved. Why was told.
 #[derive(Clone, Copy)]
-pub struct Loaded {
-    pub chip: Chip,
-    pub right: bool,
-    pub kept: bool,
-}
+pub struct Unserved;
 
-fn came_in(chip: Chip) -> Loaded {
-    Loaded {
-        chip,
-        right: true,
-        kept: true,
-    }
-}
-
-// No chip is kept in it: a session has a new one.
-fn without_chip() -> Loaded
-    ensures { result.kept ≡ false }
-{
-    Loaded {
-        chip: chip::new(),
-        right: true,
-        kept: false,
-    }
-}
-
-fn refused() -> Loaded
-    ensures { result.kept ≡ false }
-{
-    Loaded {
-        chip: chip::new(),
-        right: false,
-        kept: false,
-    }
-}
+// What came of reading a file: the chip that is kept in it, or none.
+pub type Loaded = Result<Option<Chip>, Unserved>;
 
 // The chip of a session: the one in the file, or a new one of the part that is asked for.
-pub fn chip_of(came: Loaded, ba: bool) -> Chip
-    ensures { result ≡ pick came.kept came.chip (new_of ba) }
+pub fn chip_of(kept: Option<Chip>, ba: bool) -> Chip
+    ensures { result ≡ unwrap_or kept (new_of ba) }
 {
-    if came.kept {
-        return came.chip;
-    }
-    chip::new_of(ba)
+    kept.unwrap_or(chip::new_of(ba))
 }
 
 // ---- reading
@@ -73,32 +39,29 @@ fn image_taken(
     security: &mut [u8; 2048],
 ) -> Loaded {
     let r = image_reading::read(chip::new(), file, array, security);
-    let answer = r.answer;
-    let chip = r.chip;
-    match answer {
-        Posted::Done => came_in(chip),
-        Posted::AtWork => refused(),
-        Posted::Malformed => {
+    match r.answer {
+        Ok(()) => Ok(Some(r.chip)),
+        Err(FileRefusal::AtWork) => Err(Unserved),
+        Err(FileRefusal::Malformed) => {
             refused_told(rt, name, 1, fault_rows::length(false, file.len()));
-            refused()
+            Err(Unserved)
         }
-        Posted::WrongFile => {
-            let f = image_reading::fault(file);
-            refused_told(rt, name, 15, fault_rows::fault(f));
-            refused()
+        Err(FileRefusal::WrongFile) => {
+            refused_told(rt, name, 15, fault_rows::fault(image_reading::fault(file)));
+            Err(Unserved)
         }
     }
 }
 
 // A new chip with this array.
 fn raw_taken(rt: &HostRuntime, name: &[u8], file: &[u8], array: &mut [u8; 2097152]) -> Loaded
-    ensures { result.kept ≡ false }
+    ensures { IfOk result (λ kept. kept ≡ None) }
 {
-    if raw_image::load(array, file) == 0 {
-        return without_chip();
+    if raw_image::load(array, file).is_ok() {
+        return Ok(None);
     }
     refused_told(rt, name, 1, fault_rows::length(true, file.len()));
-    refused()
+    Err(Unserved)
 }
 
 // As many bytes as there is room for.
@@ -115,13 +78,13 @@ fn taken_from(
         Ok(n) => n,
         Err(e) => {
             broken_told(rt, name, e);
-            return refused();
+            return Err(Unserved);
         }
     };
     if n < file.len() {
         if !filing::has_ended(from) {
             broken_told(rt, name, io::Error::from(ErrorKind::UnexpectedEof));
-            return refused();
+            return Err(Unserved);
         }
     }
     if raw {
@@ -157,14 +120,14 @@ fn taken(
 
 // A file that is not there is a new chip.
 fn unopened(rt: &HostRuntime, name: &[u8], e: io::Error) -> Loaded
-    ensures { result.kept ≡ false }
+    ensures { IfOk result (λ kept. kept ≡ None) }
 {
     if e.kind() == ErrorKind::NotFound {
         told(rt, name, b" is not there: a new chip, which is saved to it");
-        return without_chip();
+        return Ok(None);
     }
     broken_told(rt, name, e);
-    refused()
+    Err(Unserved)
 }
 
 fn load_named(
@@ -175,15 +138,12 @@ fn load_named(
     security: &mut [u8; 2048],
 ) -> Loaded {
     match filing::opened(rt, name) {
-        Ok(file) => {
-            let mut from = file;
-            taken(rt, &mut from, raw, name, array, security)
-        }
+        Ok(mut from) => taken(rt, &mut from, raw, name, array, security),
         Err(e) => unopened(rt, name, e),
     }
 }
 
-// The chip of a file, where it has a name; nothing right where it cannot be read, is refused or could not be saved, which is told.
+// The chip of a file, where it has a name; where it cannot be read, is refused or could not be saved, that is told.
 pub fn load(
     rt: &HostRuntime,
     raw: bool,
@@ -191,8 +151,8 @@ pub fn load(
     array: &mut [u8; 2097152],
     security: &mut [u8; 2048],
 ) -> Loaded {
-    if name.len() == 0 {
-        return without_chip();
+    if name.is_empty() {
+        return Ok(None);
     }
     if filing::has_part(rt, name) {
         told(
@@ -200,7 +160,7 @@ pub fn load(
             name,
             b".part is there: another session saves, or one was killed while it saved; remove it. Nothing is served",
         );
-        return refused();
+        return Err(Unserved);
     }
     load_named(rt, raw, name, array, security)
 }
@@ -226,10 +186,9 @@ fn image_saved_by(
     security: &[u8; 2048],
     file: &mut [u8; 2148374],
 ) -> bool {
-    let answer = image_writing::write(c, array, security, file);
-    match answer {
-        Posted::Done => saved(rt, name, file),
-        Posted::AtWork => {
+    match image_writing::write(c, array, security, file) {
+        Ok(()) => saved(rt, name, file),
+        Err(FileRefusal::AtWork) => {
             told(
                 rt,
                 name,
@@ -237,7 +196,7 @@ fn image_saved_by(
             );
             false
         }
-        Posted::Malformed => {
+        Err(FileRefusal::Malformed) => {
             told(
                 rt,
                 name,
@@ -245,7 +204,7 @@ fn image_saved_by(
             );
             false
         }
-        Posted::WrongFile => false,
+        Err(FileRefusal::WrongFile) => false,
     }
 }
 
@@ -269,7 +228,7 @@ pub fn save(
     array: &[u8; 2097152],
     security: &[u8; 2048],
 ) -> bool {
-    if name.len() == 0 {
+    if name.is_empty() {
         return true;
     }
     if raw {

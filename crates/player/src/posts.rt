@@ -1,6 +1,6 @@
 // Files that a script saves, loads and compares: here they are read and written. What comes of them is said by crates posting and image_posts.
 use crate::parts::within;
-use posting::{Carried, Errand, Trouble};
+use posting::{Carried, Trouble};
 use standing::{Playing, Post};
 use std::io;
 use std::io::Read;
@@ -26,24 +26,11 @@ fn unmade(e: io::Error) -> Trouble {
 }
 
 // The name has the old file or the whole new one.
-fn written(rt: &impl Files, name: &[u8], bytes: &[u8]) -> Trouble {
-    match filing::replace(rt, name, bytes) {
-        Ok(()) => Trouble::Nothing,
-        Err(e) => unmade(e),
-    }
+fn written(rt: &impl Files, name: &[u8], bytes: &[u8]) -> Option<Trouble> {
+    filing::replace(rt, name, bytes).map_err(unmade).err()
 }
 
 // ---- reading
-
-#[derive(Clone, Copy)]
-struct Came {
-    trouble: Trouble,
-    length: usize,
-}
-
-fn came_to(trouble: Trouble, length: usize) -> Came {
-    Came { trouble, length }
-}
 
 // Why a file cannot be opened.
 fn unopened(e: io::Error) -> Trouble {
@@ -55,25 +42,22 @@ fn unopened(e: io::Error) -> Trouble {
 }
 
 // As many bytes as there is room for.
-fn read_from(from: &mut impl Read, file: &mut [u8]) -> Came {
-    let length = match filing::read_full(from, file) {
-        Ok(n) => n,
-        Err(_) => {
-            return came_to(Trouble::Unread, 0);
-        }
+fn read_from(from: &mut impl Read, file: &mut [u8]) -> Result<usize, Trouble> {
+    let Ok(length) = filing::read_full(from, file) else {
+        return Err(Trouble::Unread);
     };
     if length < file.len() {
         if !filing::has_ended(from) {
-            return came_to(Trouble::Unread, length);
+            return Err(Trouble::Unread);
         }
     }
-    came_to(Trouble::Nothing, length)
+    Ok(length)
 }
 
-fn read_into(rt: &impl Files, name: &[u8], file: &mut [u8; 2148375]) -> Came {
+fn read_into(rt: &impl Files, name: &[u8], file: &mut [u8; 2148375]) -> Result<usize, Trouble> {
     match filing::opened(rt, name) {
         Ok(mut from) => read_from(&mut from, file),
-        Err(e) => came_to(unopened(e), 0),
+        Err(e) => Err(unopened(e)),
     }
 }
 
@@ -83,7 +67,7 @@ fn image_of(p: Playing, array: &[u8], security: &[u8], file: &mut [u8; 2148374])
     image_posts::save(p, array, security, file)
 }
 
-fn image_written(rt: &impl Files, name: &[u8], file: &[u8; 2148374]) -> Trouble {
+fn image_written(rt: &impl Files, name: &[u8], file: &[u8; 2148374]) -> Option<Trouble> {
     written(rt, name, file)
 }
 
@@ -91,7 +75,7 @@ fn saved(rt: &impl Files, p: Playing, array: &[u8], security: &[u8], name: &[u8]
     let mut file = [0u8; 2148374];
     let number = image_of(p, array, security, &mut file);
     if number != 0 {
-        return posting::end(p, Trouble::Nothing, number, 0);
+        return posting::end(p, None, number, 0);
     }
     let t = image_written(rt, name, &file);
     posting::end(p, t, 0, 2148374)
@@ -100,7 +84,7 @@ fn saved(rt: &impl Files, p: Playing, array: &[u8], security: &[u8], name: &[u8]
 fn raw_saved(rt: &impl Files, p: Playing, array: &[u8], name: &[u8]) -> Carried {
     let number = posting::raw_number(p, array);
     if number != 0 {
-        return posting::end(p, Trouble::Nothing, number, 0);
+        return posting::end(p, None, number, 0);
     }
     let n = within(2097152, array);
     let t = written(rt, name, &array[..n]);
@@ -146,12 +130,10 @@ fn taken(
     name: &[u8],
 ) -> Carried {
     let mut file = [0u8; 2148375];
-    let came = read_into(rt, name, &mut file);
-    let t = came.trouble;
-    if posting::is_troubled(t) {
-        return posting::end(p, t, 0, 0);
+    match read_into(rt, name, &mut file) {
+        Ok(length) => came_used(p, f, array, security, &file, length),
+        Err(t) => posting::end(p, Some(t), 0, 0),
     }
-    came_used(p, f, array, security, &file, came.length)
 }
 
 fn posted(
@@ -181,9 +163,8 @@ pub fn carried(
 ) -> Carried {
     let reading = p.reading;
     let n = within(reading.sent, frame);
-    let errand = posting::asked(p);
-    match errand {
-        Errand::Nothing => posting::nothing(p),
-        Errand::Post(f) => posted(rt, p, f, array, security, &frame[..n]),
+    match posting::asked(p) {
+        None => posting::nothing(p),
+        Some(f) => posted(rt, p, f, array, security, &frame[..n]),
     }
 }

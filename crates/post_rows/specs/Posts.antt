@@ -1,6 +1,6 @@
 -- The rows of a line with a file, by the parts of what is told of any line: its first row, the one below it, the number's words, and why. A row that is not told
 -- is blank. That the number is not the expected one is told as for an event: crate reasons, `unmet_row`.
-use Rattle.std.specs.Prelude.{ℕ, ◌+◌, min, Bool, true, false, not, ◌&&◌, ◌||◌, List, eqb, leb, length}
+use Rattle.std.specs.Prelude.{ℕ, ◌+◌, min, Bool, true, false, not, ◌&&◌, ◌||◌, List, eqb, leb, length, Option, None, Some, is_some}
 use Rattle.rules.specs.declared.Chip.{Chip}
 use Rattle.rules.specs.declared.Works.{Works}
 use Rattle.rules.specs.Words.{pick}
@@ -20,10 +20,9 @@ use Rattle.raw_image.specs.declared.Difference.{Difference}
 use Rattle.standing.specs.declared.Playing.{Playing}
 use Rattle.standing.specs.declared.Post.{Post}
 use Rattle.standing.specs.Benches.{front}
-use Rattle.posting.specs.declared.Errand.{Errand}
 use Rattle.posting.specs.declared.Report.{Report}
 use Rattle.posting.specs.declared.Trouble.{Trouble}
-use Rattle.posting.specs.Posts.{errand_of, troubled}
+use Rattle.posting.specs.Posts.{post_of}
 
 -- ---- the first row
 
@@ -45,7 +44,6 @@ left_row line f name = name_on name (numbered line (words_form f) 0 0 0)
 
 -- "cannot be opened, there is no such file" and the like
 abbrev pub trouble_form : Trouble → ℕ
-trouble_form Trouble.Nothing = 99
 trouble_form Trouble.Missing = 286
 trouble_form Trouble.Denied = 287
 trouble_form Trouble.Unopened = 288
@@ -56,22 +54,26 @@ trouble_form Trouble.Unwritten = 292
 trouble_form Trouble.Taken = 293
 
 -- "same, so many bytes", or in how many it differs
-unfoldable pub compared_on : ℕ → ℕ → Row → Row
-compared_on n count r = pick (eqb count 0) (form 284 n 0 0 r) (form 285 count 0 0 r)
+abbrev pub compared_on : ℕ → Option Difference → Row → Row
+compared_on n None r = form 284 n 0 0 r
+compared_on n (Some d) r = form 285 d.count 0 0 r
 
 -- "saved" (282) or "loaded", so many bytes; of an image that is loaded, which part it has
-abbrev pub done_on : Post → Bool → ℕ → ℕ → Row → Row
-done_on Post.Save ba n count r = form 282 n 0 0 r
-done_on Post.Load ba n count r = part_on ba (form 283 n 0 0 r)
-done_on Post.SaveRaw ba n count r = form 282 n 0 0 r
-done_on Post.LoadRaw ba n count r = form 283 n 0 0 r
-done_on Post.CompareRaw ba n count r = compared_on n count r
+abbrev pub done_on : Post → Bool → ℕ → Option Difference → Row → Row
+done_on Post.Save ba n d r = form 282 n 0 0 r
+done_on Post.Load ba n d r = part_on ba (form 283 n 0 0 r)
+done_on Post.SaveRaw ba n d r = form 282 n 0 0 r
+done_on Post.LoadRaw ba n d r = form 283 n 0 0 r
+done_on Post.CompareRaw ba n d r = compared_on n d r
 
 -- what the system said; what was done; or `refused` and the number
+abbrev pub trouble_or : Option Trouble → Row → Row → Row
+trouble_or None r answer = answer
+trouble_or (Some t) r answer = form (trouble_form t) 0 0 0 r
+
 unfoldable pub answer_on : Post → Bool → ℕ → Report → Row → Row
 answer_on f ba number report r =
-    pick (troubled report.trouble) (form (trouble_form report.trouble) 0 0 0 r)
-    (pick (eqb number 0) (done_on f ba report.length report.difference.count r) (form 21 number 0 0 r))
+    trouble_or report.trouble r (pick (eqb number 0) (done_on f ba report.length report.difference r) (form 21 number 0 0 r))
 
 -- the answer stands beside the line where there is room, else below it
 unfoldable pub head_row : ℕ → Post → Bool → ℕ → Report → List ℕ → Row
@@ -87,8 +89,8 @@ second_row line f ba number report name = pick (fits (left_row line f name)) bla
 unfoldable pub number_form : ℕ → ℕ
 number_form n = pick (eqb n 15) 276 (24 + min n 14)
 
-unfoldable pub number_row : Trouble → ℕ → Row
-number_row t n = pick (troubled t || eqb n 0) blank (below (number_form n) 0 0 0)
+unfoldable pub number_row : Option Trouble → ℕ → Row
+number_row t n = pick (is_some t || eqb n 0) blank (below (number_form n) 0 0 0)
 
 -- ---- why: of 1, what has another length, or which sentence of a well-formed record does not hold
 
@@ -122,12 +124,13 @@ work_row w =
 
 -- ---- where it is done: the first byte that differs
 
-unfoldable pub difference_row : Difference → Row
-difference_row d = pick (eqb d.count 0) blank (below 298 d.place d.file d.array)
+abbrev pub difference_row : Option Difference → Row
+difference_row None = blank
+difference_row (Some d) = below 298 d.place d.file d.array
 
 unfoldable pub why_row : Post → ℕ → ℕ → Chip → ℕ → Report → Row
 why_row f array security before number report =
-    pick (troubled report.trouble) blank
+    pick (is_some report.trouble) blank
     (pick (eqb number 0) (difference_row report.difference)
     (pick (eqb number 1) (malformed_row f array security before report.length)
     (pick (eqb number 14) (work_row before.rest.works) (fault_row report.fault))))
@@ -135,27 +138,16 @@ why_row f array security before number report =
 -- ---- by the part
 
 abbrev pub part_row : Part → Playing → Post → Report → List ℕ → Row
-part_row Part.Remark p f r name = blank
 part_row Part.Head p f r name = head_row p.bench.line f p.bench.chip.rest.flags.ba p.number r name
 part_row Part.Second p f r name = second_row p.bench.line f p.bench.chip.rest.flags.ba p.number r name
-part_row Part.Bytes p f r name = blank
-part_row Part.More p f r name = blank
-part_row Part.Configuration p f r name = blank
-part_row Part.Bits p f r name = blank
-part_row Part.Protocol p f r name = blank
 part_row Part.Number p f r name = number_row r.trouble p.number
 part_row Part.Why p f r name = why_row f p.bench.array p.bench.security p.before p.number r
-part_row Part.Torn p f r name = blank
-part_row Part.Unmet p f r name = blank
-part_row Part.Expected p f r name = blank
-part_row Part.Came p f r name = blank
-part_row Part.Memory p f r name = blank
-part_row Part.Over p f r name = blank
+part_row other p f r name = blank
 
-abbrev pub row_if : Errand → Part → Playing → Report → List ℕ → Row
-row_if Errand.Nothing part p r name = blank
-row_if (Errand.Post f) part p r name = part_row part p f r name
+abbrev pub row_if : Option Post → Part → Playing → Report → List ℕ → Row
+row_if None part p r name = blank
+row_if (Some f) part p r name = part_row part p f r name
 
 -- the name is what the line stored
 abbrev pub row_of : Playing → Report → Place → List ℕ → Row
-row_of p r at frame = row_if (errand_of p) at.part p r (front (line_of p.reading).sent frame)
+row_of p r at frame = row_if (post_of p) at.part p r (front (line_of p.reading).sent frame)

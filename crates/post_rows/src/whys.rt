@@ -6,28 +6,28 @@ use fault_rows::{fault, length};
 use posting::{Report, Trouble};
 use raw_image::Difference;
 use rows::Row;
-use rules::plain::smaller;
 use rules::{Chip, Works};
 use standing::Post;
 
+#[tactic(auto, unfolding(crate::specs::Posts::number_form))]
 fn number_form(number: u8) -> usize
     ensures { result ≡ number_form number }
 {
     match number {
         15 => 276,
-        _ => 24 + smaller(number as usize, 14),
+        _ => 24 + usize::from(number).min(14),
     }
 }
 
 // The number's words.
-pub fn number(t: Trouble, number: u8) -> Row
+#[tactic(auto, unfolding(crate::specs::Posts::number_row))]
+pub fn number(t: Option<Trouble>, number: u8) -> Row
     ensures { result ≡ number_row t number }
 {
-    if posting::is_troubled(t) | (number == 0) {
+    if t.is_some() | (number == 0) {
         return rows::empty();
     }
-    let n = number_form(number);
-    rows::below(n, 0, 0, 0)
+    rows::below(number_form(number), 0, 0, 0)
 }
 
 // ---- 1
@@ -35,25 +35,13 @@ pub fn number(t: Trouble, number: u8) -> Row
 fn is_raw(f: Post) -> bool
     ensures { result ≡ is_raw f }
 {
-    match f {
-        Post::Save => false,
-        Post::Load => false,
-        Post::SaveRaw => true,
-        Post::LoadRaw => true,
-        Post::CompareRaw => true,
-    }
+    matches!(f, Post::SaveRaw | Post::LoadRaw | Post::CompareRaw)
 }
 
 fn saves(f: Post) -> bool
     ensures { result ≡ saves f }
 {
-    match f {
-        Post::Save => true,
-        Post::Load => false,
-        Post::SaveRaw => true,
-        Post::LoadRaw => false,
-        Post::CompareRaw => false,
-    }
+    matches!(f, Post::Save | Post::SaveRaw)
 }
 
 fn lent_short(raw: bool, array: usize, security: usize) -> bool
@@ -62,6 +50,7 @@ fn lent_short(raw: bool, array: usize, security: usize) -> bool
     (array != 2097152) | (!raw & (security != 2048))
 }
 
+#[tactic(auto, unfolding(crate::specs::Posts::malformed_row))]
 fn malformed(f: Post, array: usize, security: usize, before: Chip, n: usize) -> Row
     ensures { result ≡ malformed_row f array security before n }
 {
@@ -75,47 +64,40 @@ fn malformed(f: Post, array: usize, security: usize, before: Chip, n: usize) -> 
 
 // ---- 14
 
+#[tactic(auto, unfolding(crate::specs::Posts::work_row))]
 fn at_work(w: Works) -> Row
     ensures { result ≡ work_row w }
 {
-    let run = w.running;
-    let aside = w.suspended;
     let r = rows::plain(1, 0, 0, 0);
-    if blocks::is_nothing(run) {
-        let q = rows::work(r, aside);
-        return rows::form(q, 310, 0, 0, 0);
+    if blocks::is_nothing(w.running) {
+        return rows::form(rows::work(r, w.suspended), 310, 0, 0, 0);
     }
-    let q = rows::work(r, run);
-    rows::form(q, 60, 0, 0, 0)
+    rows::form(rows::work(r, w.running), 60, 0, 0, 0)
 }
 
 // ---- done
 
-fn difference(d: Difference) -> Row
+fn difference(d: Option<Difference>) -> Row
     ensures { result ≡ difference_row d }
 {
-    if d.count == 0 {
-        return rows::empty();
+    match d {
+        None => rows::empty(),
+        Some(d) => rows::below(298, d.place as u64, u64::from(d.file), u64::from(d.array)),
     }
-    rows::below(298, d.place as u64, d.file as u64, d.array as u64)
 }
 
 // By the number.
+#[tactic(auto, unfolding(crate::specs::Posts::why_row))]
 pub fn why(f: Post, array: usize, security: usize, before: Chip, number: u8, report: Report) -> Row
     ensures { result ≡ why_row f array security before number report }
 {
-    let t = report.trouble;
-    let d = report.difference;
-    let wrong = report.fault;
-    let rest = before.rest;
-    let works = rest.works;
-    if posting::is_troubled(t) {
+    if report.trouble.is_some() {
         return rows::empty();
     }
     match number {
-        0 => difference(d),
+        0 => difference(report.difference),
         1 => malformed(f, array, security, before, report.length),
-        14 => at_work(works),
-        _ => fault(wrong),
+        14 => at_work(before.rest.works),
+        _ => fault(report.fault),
     }
 }

@@ -6,8 +6,6 @@ use Rattle.rules.proofs.Promises.{one}
 use Rattle.rules.proofs.Outcomes.{OneOutcome, OneResult}
 use Rattle.posting.specs.declared.Carried.{Carried}
 use Rattle.posting.proofs.asked.Reads as asked
-use Rattle.posting.proofs.is_troubled.Reads as is-troubled
-use Rattle.posting.proofs.no_fault.Reads as no-fault
 use Rattle.posting.proofs.judge.Reads as judge
 use Rattle.posting.proofs.end.Reads as end
 use Rattle.posting.proofs.nothing.Reads as nothing
@@ -17,12 +15,6 @@ use Rattle.posting.proofs.compare_raw.Reads as compare-raw
 
 pub asked_one : OneResult asked.Post
 asked_one κ a x y r r' p q = one p q
-
-pub is_troubled_one : OneResult is-troubled.Post
-is_troubled_one κ a x y r r' p q = one p q
-
-pub no_fault_one : OneResult no-fault.Post
-no_fault_one κ a x y r r' p q = one p q
 
 pub judge_one : OneResult judge.Post
 judge_one κ a x y r r' p q = one p q

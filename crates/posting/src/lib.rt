@@ -3,30 +3,19 @@
 #![tactic(auto)]
 
 ghost use Rattle.std.specs.Prelude.{◌≡◌, length};
-ghost use Rattle.rules.specs.Words.{num};
 ghost use Rattle.rules.specs.Blocks.{array_size_lem};
-ghost use Rattle.image.specs.Faults.{no_fault};
 ghost use Rattle.standing.specs.Benches.{front};
 ghost use Rattle.raw_image.specs.Raw.{raw_number};
-ghost use Rattle.posting.specs.Posts.{errand_of, troubled, verdict_of, judged, ended, untouched, RawLoaded, raw_compared};
+ghost use Rattle.posting.specs.Posts.{post_of, verdict_of, judged, ended, untouched, RawLoaded, raw_compared};
 
 use expecting::Verdict;
-use image::{Fault, What};
+use image::Fault;
 use raw_image::Difference;
-use rules::plain::smaller;
 use standing::{Deed, Playing, Post};
 
-// What a line does with a file.
-#[derive(Clone, Copy)]
-pub enum Errand {
-    Nothing,
-    Post(Post),
-}
-
-// What the system said of it.
+// Why the system refused a file.
 #[derive(Clone, Copy)]
 pub enum Trouble {
-    Nothing,
     // there is no such file; that is not permitted; it cannot be opened
     Missing,
     Denied,
@@ -40,13 +29,13 @@ pub enum Trouble {
     Taken,
 }
 
-// What is told of it: what the system said, how many bytes it has, what is wrong with it first, and in what it differs.
+// What is told of it: why the system refused it, how many bytes it has, what is wrong with it first, and in what it differs.
 #[derive(Clone, Copy)]
 pub struct Report {
-    pub trouble: Trouble,
+    pub trouble: Option<Trouble>,
     pub length: usize,
-    pub fault: Fault,
-    pub difference: Difference,
+    pub fault: Option<Fault>,
+    pub difference: Option<Difference>,
 }
 
 #[derive(Clone, Copy)]
@@ -57,61 +46,21 @@ pub struct Carried {
 
 // ---- what a line asks for
 
-// The line that ended last.
-pub fn asked(p: Playing) -> Errand
-    ensures { result ≡ errand_of p }
+// What the line that ended last does with a file, if it names one.
+pub fn asked(p: Playing) -> Option<Post>
+    ensures { result ≡ post_of p }
 {
     let reading = p.reading;
     if !reading.ended {
-        return Errand::Nothing;
+        return None;
     }
-    let l = script::line_of(reading);
-    let deed = standing::deed_of(l.verb);
-    match deed {
-        Deed::Nothing => Errand::Nothing,
-        Deed::Event(_) => Errand::Nothing,
-        Deed::Setting(_) => Errand::Nothing,
-        Deed::Question(_) => Errand::Nothing,
-        Deed::Post(f) => Errand::Post(f),
-        Deed::Call(_) => Errand::Nothing,
-        Deed::Wrong => Errand::Nothing,
+    match standing::deed_of(script::line_of(reading).verb) {
+        Deed::Post(f) => Some(f),
+        _ => None,
     }
 }
 
 // ---- what it comes to
-
-pub fn is_troubled(t: Trouble) -> bool
-    ensures { result ≡ troubled t }
-{
-    match t {
-        Trouble::Nothing => false,
-        Trouble::Missing => true,
-        Trouble::Denied => true,
-        Trouble::Unopened => true,
-        Trouble::Unread => true,
-        Trouble::Folderless => true,
-        Trouble::Forbidden => true,
-        Trouble::Unwritten => true,
-        Trouble::Taken => true,
-    }
-}
-
-pub fn no_fault() -> Fault
-    ensures { result ≡ no_fault }
-{
-    Fault {
-        what: What::Nothing,
-        at: 0,
-        found: 0,
-        due: 0,
-    }
-}
-
-fn one(b: bool) -> u64
-    ensures { result ≡ num b }
-{
-    if b { 1 } else { 0 }
-}
 
 fn verdict_of(unmet: bool) -> Verdict
     ensures { result ≡ verdict_of unmet }
@@ -127,16 +76,17 @@ fn verdict_of(unmet: bool) -> Verdict
 }
 
 // A file line is no event. That another number came than the line expects (0 where it says none), that the system refused, or that bytes differ is a difference.
-pub fn judge(p: Playing, t: Trouble, number: u8, differs: bool) -> Playing
+#[tactic(auto, unfolding(crate::specs::Posts::judged))]
+pub fn judge(p: Playing, t: Option<Trouble>, number: u8, differs: bool) -> Playing
     ensures { result ≡ judged p t number differs }
 {
     let reading = p.reading;
     let before = p.before;
     let l = script::line_of(reading);
     let slots = l.slots;
-    let unmet = is_troubled(t) | (number as u64 != slots[6]);
+    let unmet = t.is_some() | (u64::from(number) != slots[6]);
     let mut bench = p.bench;
-    let tally = tallies::with_unmet(bench.tally, one(unmet | differs));
+    let tally = tallies::with_unmet(bench.tally, u64::from(unmet | differs));
     bench.tally = tally;
     let verdict = verdict_of(unmet);
     Playing {
@@ -150,17 +100,15 @@ pub fn judge(p: Playing, t: Trouble, number: u8, differs: bool) -> Playing
 }
 
 // A file of so many bytes was written, or none was.
-pub fn end(p: Playing, t: Trouble, number: u8, length: usize) -> Carried
+pub fn end(p: Playing, t: Option<Trouble>, number: u8, length: usize) -> Carried
     ensures { result ≡ ended p t number length }
 {
     let playing = judge(p, t, number, false);
-    let fault = no_fault();
-    let difference = raw_image::same();
     let report = Report {
         trouble: t,
         length,
-        fault,
-        difference,
+        fault: None,
+        difference: None,
     };
     Carried { playing, report }
 }
@@ -169,13 +117,11 @@ pub fn end(p: Playing, t: Trouble, number: u8, length: usize) -> Carried
 pub fn nothing(p: Playing) -> Carried
     ensures { result ≡ untouched p }
 {
-    let fault = no_fault();
-    let difference = raw_image::same();
     let report = Report {
-        trouble: Trouble::Nothing,
+        trouble: None,
         length: 0,
-        fault,
-        difference,
+        fault: None,
+        difference: None,
     };
     Carried { playing: p, report }
 }
@@ -187,9 +133,8 @@ pub fn raw_number(p: Playing, array: &[u8]) -> u8
     ensures { result ≡ raw_number (length (front p.bench.array array.now)) array_size_lem }
 {
     let bench = p.bench;
-    let a = smaller(bench.array, array.len());
-    let part = &array[..a];
-    raw_image::number(part.len(), 2097152)
+    let a = bench.array.min(array.len());
+    image::number(raw_image::sized(a, 2097152))
 }
 
 // The array that is lent becomes the file.
@@ -197,25 +142,24 @@ pub fn load_raw(p: Playing, array: &mut [u8], file: &[u8]) -> Carried
     ensures { RawLoaded p array.old file.now result array.new }
 {
     let bench = p.bench;
-    let a = smaller(bench.array, array.len());
-    let number = raw_image::load(&mut array[..a], file);
-    end(p, Trouble::Nothing, number, file.len())
+    let a = bench.array.min(array.len());
+    let number = image::number(raw_image::load(&mut array[..a], file));
+    end(p, None, number, file.len())
 }
 
 pub fn compare_raw(p: Playing, array: &[u8], file: &[u8]) -> Carried
     ensures { result ≡ raw_compared p array.now file.now }
 {
     let bench = p.bench;
-    let a = smaller(bench.array, array.len());
+    let a = bench.array.min(array.len());
     let part = &array[..a];
-    let number = raw_image::number(part.len(), file.len());
+    let number = image::number(raw_image::sized(part.len(), file.len()));
     let difference = raw_image::compare(part, file);
-    let playing = judge(p, Trouble::Nothing, number, difference.count != 0);
-    let fault = no_fault();
+    let playing = judge(p, None, number, difference.is_some());
     let report = Report {
-        trouble: Trouble::Nothing,
+        trouble: None,
         length: file.len(),
-        fault,
+        fault: None,
         difference,
     };
     Carried { playing, report }

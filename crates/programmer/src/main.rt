@@ -80,12 +80,11 @@ fn wrong_told(rt: &HostRuntime, s: Session, word: &[u8], text: &[u8]) -> Session
 fn served<R: Read>(rt: &HostRuntime, s: Session, from: &mut R, name: &[u8]) -> bool {
     let mut array = [255u8; 2097152];
     let mut security = [255u8; 2048];
-    let came = keeping::load(rt, s.raw, name, &mut array, &mut security);
-    if !came.right {
+    let Ok(kept) = keeping::load(rt, s.raw, name, &mut array, &mut security) else {
         return false;
-    }
-    let before = keeping::chip_of(came, s.ba);
-    keeping::part_told(rt, before, came.kept, name);
+    };
+    let before = keeping::chip_of(kept, s.ba);
+    keeping::part_told(rt, before, kept.is_some(), name);
     let mut to = rt.stdout();
     let c = sessions::serve(from, &mut to, before, s.disguise, &mut array, &mut security);
     keeping::save(rt, s.raw, name, c, &array, &security)

@@ -1,26 +1,40 @@
--- What is counted, and what is first, told of the bytes as a whole. Assumes nothing.
-use Prim.Native.Nat.{ℕ, ◌+◌, ◌≤◌}
-use mathlib.Core.Path.{◌≡◌, sym, ap, ◌∙◌}
-use mathlib.Core.Bool.{Bool, true, false, ◌&&◌}
-use mathlib.Core.List.{List}
-use native.Mathlib.Omega.{arith}
-use native.Mathlib.Numerals.{add-one}
-use lib.Dec.{eqb}
-use lib.ListN.{length, get_or}
-use lib.Seq.{ext_get_or}
+-- A comparison that goes on. Assumes nothing.
+use Rattle.std.proofs.Common.{◌≡◌, ℕ, ◌+◌, ◌≤◌, ◌<◌, Bool, true, false, List, get_or, refl, sym, ap, ◌∙◌, arith, add-one, Option, None, Some, IfSome, Ok, Err, is_ok}
+use mathlib.Core.Bool.{true≢false, false≢true}
 use borrow.Author.Tests.{eqb-true}
-use Rattle.rules.specs.Words.{pick}
+use Rattle.rules.specs.Blocks.{array_size_lem}
 use Rattle.rules.proofs.Bools.{and_split}
-use Rattle.memory.specs.Patched.{Patched}
+use Rattle.image.specs.declared.FileRefusal.{FileRefusal}
+use Rattle.image.specs.Promises.{Posted}
+use lib.Dec.{eqb}
+use Rattle.rules.specs.Words.{pick}
 use Rattle.raw_image.specs.declared.Difference.{Difference}
-use Rattle.raw_image.specs.Raw.{difference_of, differs_at, compared}
+use Rattle.raw_image.specs.Raw.{whole, raw_answer, one_more, differs_at, compared, count_in}
 
--- all bytes of a list are replaced
-pub replaced : (l l₀ s : List ℕ) (n : ℕ) → length l₀ ≡ n → length s ≡ n → Patched l l₀ 0 n (λ i. get_or s (0 + i) 0) → l ≡ s
-replaced l l₀ s n el es p =
-    ext_get_or 0 l s (p.size ∙ el ∙ sym es)
-    (λ i h. let z : 0 + i ≡ i = omega arith in
-    ap (λ (k : ℕ). get_or l k 0) (sym z) ∙ p.inside i (omega (arith, p.size)) ∙ ap (λ (k : ℕ). get_or s k 0) z)
+abbrev answer_of : Bool → Posted
+answer_of b = pick b (Ok tt) (Err FileRefusal.Malformed)
+
+-- what passes has both sizes
+pub passes : (array file : ℕ) (r : Posted) → r ≡ raw_answer array file → is_ok r ≡ true → whole array file ≡ true
+unfolding raw_answer
+passes array file r e h = go (whole array file) (ap is_ok (sym e) ∙ h)
+  where
+    go : (b : Bool) → is_ok (answer_of b) ≡ true → b ≡ true
+    go true k = refl
+    go false k = absurd (false≢true k)
+
+-- what is refused has not
+pub refuses : (array file : ℕ) (r : Posted) → r ≡ raw_answer array file → is_ok r ≡ false → whole array file ≡ false
+unfolding raw_answer
+refuses array file r e h = go (whole array file) (ap is_ok (sym e) ∙ h)
+  where
+    go : (b : Bool) → is_ok (answer_of b) ≡ false → b ≡ false
+    go true k = absurd (true≢false k)
+    go false k = refl
+
+pub sizes : (array file : ℕ) → whole array file ≡ true → (array ≡ array_size_lem) × (file ≡ array_size_lem)
+unfolding whole
+sizes array file e = let t = and_split _ _ e in (eqb-true _ _ t.0, eqb-true _ _ t.1)
 
 -- one place more
 pub compared_next : (i : ℕ) (f a : List ℕ) → compared (i + 1) f a ≡ differs_at i (get_or f i 0) (get_or a i 0) (compared i f a)
@@ -28,16 +42,15 @@ unfolding compared
 compared_next i f a = rw (add-one i)
 
 -- no more differ than there are
-differs_few : (t u : Bool) (i f a : ℕ) (d : Difference) → d.count ≤ i
-    → (pick t d (pick u (difference_of 1 i f a) (difference_of (d.count + 1) d.place d.file d.array))).count ≤ i + 1
-differs_few true u i f a d h = omega arith
-differs_few false true i f a d h = omega arith
-differs_few false false i f a d h = omega arith
+few_more : (t : Bool) (i f a : ℕ) (d : Option Difference) → count_in d ≤ i → count_in (pick t d (Some (one_more i f a d))) ≤ i + 1
+few_more true i f a d h = omega arith
+few_more false i f a None h = omega arith
+few_more false i f a (Some d) h = omega arith
 
-pub few : (i f a : ℕ) (d : Difference) → d.count ≤ i → (differs_at i f a d).count ≤ i + 1
+pub few : (i f a : ℕ) (d : Option Difference) → count_in d ≤ i → count_in (differs_at i f a d) ≤ i + 1
 unfolding differs_at
-few i f a d h = differs_few (eqb f a) (eqb d.count 0) i f a d h
+few i f a d h = few_more (eqb f a) i f a d h
 
--- both sizes, by the test
-pub sizes : (x y n : ℕ) → (eqb x n && eqb y n) ≡ true → (x ≡ n) × (y ≡ n)
-sizes x y n e = let t = and_split (eqb x n) (eqb y n) e in (eqb-true x n t.0, eqb-true y n t.1)
+pub few_in : (n i : ℕ) (d : Option Difference) → count_in d ≤ i → i < n → IfSome d (λ x. x.count < n)
+few_in n i None h k = tt
+few_in n i (Some d) h k = omega arith

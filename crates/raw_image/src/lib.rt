@@ -1,8 +1,10 @@
 // The array alone as a file, as flashrom and QEMU have it: 2,097,152 bytes. specs/Raw.antt.
 #![tactic(auto)]
 
-ghost use Rattle.std.specs.Prelude.{◌≡◌, ◌≤◌, ◌<◌, length};
-ghost use Rattle.raw_image.specs.Raw.{raw_number, no_difference, differs_at, compared, compare_raw, LoadPromise};
+ghost use Rattle.std.specs.Prelude.{◌≡◌, ◌<◌, IfSome};
+ghost use Rattle.raw_image.specs.Raw.{raw_answer, differs_at, compare_raw, LoadPromise};
+
+use image::FileRefusal;
 
 // How many bytes differ, and the first of them: its place, the file's byte and the array's.
 #[derive(Clone, Copy)]
@@ -13,83 +15,60 @@ pub struct Difference {
     pub array: u8,
 }
 
-// 1 where an array or a file is not of the array's size, else 0.
-pub fn number(array: usize, file: usize) -> u8
-    ensures { result ≡ raw_number array file }
+// An array or a file that is not of the array's size is refused.
+#[tactic(auto, unfolding(crate::specs::Raw::whole, crate::specs::Raw::raw_answer))]
+pub fn sized(array: usize, file: usize) -> Result<(), FileRefusal>
+    ensures { result ≡ raw_answer array file }
 {
     if (array == 2097152) & (file == 2097152) {
-        0
+        Ok(())
     } else {
-        1
+        Err(FileRefusal::Malformed)
     }
 }
 
 // The array becomes the file.
-pub fn load(array: &mut [u8], file: &[u8]) -> u8
+pub fn load(array: &mut [u8], file: &[u8]) -> Result<(), FileRefusal>
     ensures { LoadPromise array.old file.now result array.new }
 {
-    if (array.len() == 2097152) & (file.len() == 2097152) {
-        memory::copy(array, 0, 2097152, file, 0);
-        return 0;
-    }
-    1
-}
-
-pub fn same() -> Difference
-    ensures { result ≡ no_difference }
-{
-    Difference {
-        count: 0,
-        place: 0,
-        file: 0,
-        array: 0,
-    }
+    sized(array.len(), file.len())?;
+    array.copy_from_slice(file);
+    Ok(())
 }
 
 // With the bytes at one place more.
-fn with_place(d: Difference, i: usize, file: u8, array: u8) -> Difference
-    requires { (d.count ≤ i) × (i < 2097152) }
+#[tactic(auto, unfolding(crate::specs::Raw::differs_at))]
+fn with_place(d: Option<Difference>, i: usize, file: u8, array: u8) -> Option<Difference>
+    requires { IfSome d (λ x. x.count < 2097152) }
     ensures { result ≡ differs_at i file array d }
 {
     if file == array {
         return d;
     }
-    if d.count == 0 {
-        return Difference {
+    match d {
+        None => Some(Difference {
             count: 1,
             place: i,
             file,
             array,
-        };
-    }
-    Difference {
-        count: d.count + 1,
-        place: d.place,
-        file: d.file,
-        array: d.array,
+        }),
+        Some(d) => Some(Difference {
+            count: d.count + 1,
+            ..d
+        }),
     }
 }
 
-// Byte by byte, all of them.
-fn all(array: &[u8], file: &[u8]) -> Difference
-    requires { (length array.now ≡ 2097152) × (length file.now ≡ 2097152) }
-    ensures { result ≡ compared 2097152 file.now array.now }
-{
-    let mut d = same();
-    let mut i: usize = 0;
-    while i < 2097152 {
-        d = with_place(d, i, file[i], array[i]);
-        i += 1;
-    }
-    d
-}
-
-// In what a file and the array differ; of other sizes nothing is compared.
-pub fn compare(array: &[u8], file: &[u8]) -> Difference
+// In what a file and the array differ, byte by byte; of other sizes nothing is compared.
+pub fn compare(array: &[u8], file: &[u8]) -> Option<Difference>
     ensures { result ≡ compare_raw array.now file.now }
 {
-    if (array.len() == 2097152) & (file.len() == 2097152) {
-        return all(array, file);
+    if sized(array.len(), file.len()).is_err() {
+        return None;
     }
-    same()
+    let mut d = None;
+    for (i, f) in file.iter().enumerate() {
+        d = with_place(d, i, *f, array[i]);
+    }
+    d
 }

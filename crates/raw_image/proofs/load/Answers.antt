@@ -1,21 +1,20 @@
 -- All of the array is replaced, or nothing. Assumes nothing.
-use native.Mathlib.Omega.{arith}
-use lib.ListN.{length}
-use Rattle.raw_image.specs.Raw.{raw_number, whole}
-use Rattle.raw_image.proofs.Compared.{replaced, sizes}
+use Rattle.std.proofs.Common.{◌≡◌, sym, ◌∙◌, ap, is_ok, length}
+use Rattle.std.proofs.lemmas.Result.{err_from_is_err_and}
+use Rattle.raw_image.specs.Raw.{raw_answer, whole}
+use Rattle.raw_image.proofs.Compared.{passes, refuses, sizes}
 use Rattle.raw_image.proofs.load.Goals as goal
 
-pub copy-requires : goal.copy-requires
-copy-requires c = let s = c.args in
-    let t = sizes (length s.array.now) (length s.file.now) 2097152 c.if-array-file.true in
-    (omega (arith, t.0), omega (arith, t.1))
+pub returns-in_err-sized : goal.returns-in_err-sized
+returns-in_err-sized c =
+    let p = err_from_is_err_and c.from_residual.result c.from_residual.ensures.1 in
+    let short = refuses _ _ _ c.sized.ensures (ap is_ok c.in_err-sized.was) in
+    record { answer_is = rw (p.1, p.2) (sym c.in_err-sized.was ∙ c.sized.ensures); array_is = rw short }
 
-pub returns-then-array-file : goal.returns-then-array-file
-unfolding raw_number whole
-returns-then-array-file c = let s = c.args in
-    let t = sizes (length s.array.now) (length s.file.now) 2097152 c.if-array-file.true in
-    record { number_is = rw c.if-array-file.true; array_is = rw c.if-array-file.true (replaced _ s.array.now s.file.now 2097152 t.0 t.1 c.copy.ensures) }
+pub copy_from_slice-requires : goal.copy_from_slice-requires
+copy_from_slice-requires c = let s = sizes (length c.args.array.now) (length c.args.file.now) (passes _ _ _ c.sized.ensures (ap is_ok c.in_ok-sized.was)) in s.0 ∙ sym s.1
 
 pub returns : goal.returns
-unfolding raw_number whole
-returns c = record { number_is = rw c.if-array-file.false; array_is = rw c.if-array-file.false }
+returns c =
+    let fits = passes _ _ _ c.sized.ensures (ap is_ok c.in_ok-sized.was) in
+    record { answer_is = sym c.in_ok-sized.was ∙ c.sized.ensures; array_is = rw fits c.copy_from_slice.ensures.after }

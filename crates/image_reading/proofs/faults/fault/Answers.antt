@@ -1,37 +1,20 @@
-use mathlib.Core.Path.{sym, ◌∙◌}
-use Rattle.image_reading.proofs.Found.{low_of, told, length_found, in_rg, in_registers, in_si, in_pages}
+-- What is found is the first fault, and none is found exactly of a right file. Assumes nothing.
+use Rattle.std.proofs.Common.{◌≡◌, ap, ◌∙◌, arith, Some, is_none, length}
+use borrow.Author.Tests.{ne_eqb}
+use Rattle.image.specs.declared.What.{What}
+use Rattle.image.specs.Form.{number_from, file_size_lem}
+use Rattle.image.specs.Faults.{fault_of, first_fault}
+use Rattle.image.proofs.Faults.{found, faults_tell}
 use Rattle.image_reading.proofs.faults.fault.Goals as goal
 
-pub returns-then-l-ne2148374 : goal.returns-then-l-ne2148374
-returns-then-l-ne2148374 c = let t = length_found c.args.l.now c.if-l-ne2148374.true in record { value = t.0; tells = t.1 }
+pub returns-then-l-ne2148374-clause-tells : goal.returns-then-l-ne2148374-clause-tells
+unfolding first_fault
+returns-then-l-ne2148374-clause-tells c = let l = c.args.l.now in
+    let value : Some (fault_of What.Length 0 (length l) file_size_lem) ≡ first_fault l = rw (ne_eqb _ _ c.if-l-ne2148374.true) in
+    ap is_none value ∙ faults_tell l (λ i. omega (arith, c.type_inv.l i))
 
-pub returns-then-not-is_none : goal.returns-then-not-is_none
-returns-then-not-is_none c = let l = c.args.l.now in
-    let f = c.record_fault-f in
-    let t = told l _ (low_of l _ c.locks_in-locks.ensures.value c.locks_in-locks.ensures.small)
-    (in_rg l c.if-l-ne2148374.false _ f.ensures (sym c.is_none.ensures ∙ c.if-not-is_none.true)) in
-    record { value = t.0; tells = t.1 }
-
-pub returns-then-not-is_none-2 : goal.returns-then-not-is_none-2
-returns-then-not-is_none-2 c = let l = c.args.l.now in
-    let t = told l _ (low_of l _ c.locks_in-locks.ensures.value c.locks_in-locks.ensures.small)
-    (in_registers l c.if-l-ne2148374.false _ c.record_fault-f.ensures (sym c.is_none.ensures ∙ c.if-not-is_none.false)
-    _ _ c.locks_in-locks.ensures.value c.registers_fault-f.ensures (sym c.is_none-2.ensures ∙ c.if-not-is_none-2.true)) in
-    record { value = t.0; tells = t.1 }
-
-pub returns-then-not-is_none-3 : goal.returns-then-not-is_none-3
-returns-then-not-is_none-3 c = let l = c.args.l.now in
-    let t = told l _ (low_of l _ c.locks_in-locks.ensures.value c.locks_in-locks.ensures.small)
-    (in_si l c.if-l-ne2148374.false _ c.record_fault-f.ensures (sym c.is_none.ensures ∙ c.if-not-is_none.false)
-    _ _ c.locks_in-locks.ensures.value c.registers_fault-f.ensures (sym c.is_none-2.ensures ∙ c.if-not-is_none-2.false)
-    _ c.record_fault-f-2.ensures (sym c.is_none-3.ensures ∙ c.if-not-is_none-3.true)) in
-    record { value = t.0; tells = t.1 }
-
-pub returns : goal.returns
-returns c = let l = c.args.l.now in
-    let t = told l _ (low_of l _ c.locks_in-locks.ensures.value c.locks_in-locks.ensures.small)
-    (in_pages l c.if-l-ne2148374.false _ c.record_fault-f.ensures (sym c.is_none.ensures ∙ c.if-not-is_none.false)
-    _ _ c.locks_in-locks.ensures.value c.registers_fault-f.ensures (sym c.is_none-2.ensures ∙ c.if-not-is_none-2.false)
-    _ c.record_fault-f-2.ensures (sym c.is_none-3.ensures ∙ c.if-not-is_none-3.false)
-    _ c.pages_fault.ensures) in
-    record { value = t.0; tells = t.1 }
+pub returns-clause-tells : goal.returns-clause-tells
+unfolding first_fault number_from
+returns-clause-tells c = let l = c.args.l.now in
+    let value : c.or_else-3.result ≡ first_fault l = grind (arith, found) in
+    ap is_none value ∙ faults_tell l (λ i. omega (arith, c.type_inv.l i))
