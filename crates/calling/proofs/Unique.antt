@@ -5,6 +5,7 @@ use mathlib.Core.Path.{◌≡◌, sym, ap, subst, ◌∙◌}
 use mathlib.Core.Bool.{Bool}
 use mathlib.Core.List.{List}
 use lib.Dec.{eqb}
+use Rattle.std.specs.Prelude.{Option, Some, None}
 use Rattle.rules.specs.Words.{pick}
 use Rattle.rules.proofs.Promises.{one}
 use Rattle.rules.proofs.Outcomes.{OneOutcome, OneResult}
@@ -21,14 +22,17 @@ use Rattle.standing.specs.Benches.{front}
 use Rattle.calls.specs.Lists.{allowance_of, list_of, writes_ended}
 use Rattle.calls.proofs.Unique.{Same, stored_same, found_same, shown_same}
 use Rattle.calling.specs.declared.Called.{Called}
-use Rattle.calling.specs.declared.Errand.{Errand}
 use Rattle.calling.specs.Lines.{no_counts, no_bytes, no_account, account_of, called_of, came, ended, answered, account_shown, errand_of, StoreJudged, FindJudged, StorePlayed, FindPlayed, StationsPlayed, PlayedCall, Played}
 use Rattle.calling.proofs.asked.Reads as asked
+use Rattle.calling.proofs.found_count.Reads as found-count
 use Rattle.calling.proofs.nothing.Reads as nothing
 use Rattle.calling.proofs.carry.Reads as carry
 
 pub asked_one : OneResult asked.Post
 asked_one κ a x y r r' p q = one p q
+
+pub found_count_one : OneResult found-count.Post
+found_count_one κ a x y r r' p q = one p q
 
 pub nothing_one : OneResult nothing.Post
 nothing_one κ a x y r r' p q = one p q
@@ -90,10 +94,10 @@ module _ (p : Playing) (l : Line) (A S F E K R M A₁ A₂ S₁ S₂ R₁ R₂ M
   call_one Call.Find h k = find_one h k
   call_one Call.Stations h k = stations_one h k
 
-  line_one : (e : Errand) → Played e p l A S F E K R M r A₁ S₁ R₁ M₁ → Played e p l A S F E K R M r' A₂ S₂ R₂ M₂ → Same r r' A₁ A₂ S₁ S₂ R₁ R₂ M₁ M₂
-  line_one Errand.Nothing h k =
+  line_one : (e : Option Call) → Played e p l A S F E K R M r A₁ S₁ R₁ M₁ → Played e p l A S F E K R M r' A₂ S₂ R₂ M₂ → Same r r' A₁ A₂ S₁ S₂ R₁ R₂ M₁ M₂
+  line_one None h k =
       record { result = one h.0 k.0; array_same = one h.1.array_is k.1.array_is; security_same = one h.1.security_is k.1.security_is; reply_same = one h.1.reply_is k.1.reply_is; marks_same = one h.1.marks_are k.1.marks_are }
-  line_one (Errand.Call c) h k = call_one c h k
+  line_one (Some c) h k = call_one c h k
 
 -- the result, and the array, the Security ID, the reply and the marks at exit
 pub carry_one : OneOutcome {S = Called × List ℕ × List ℕ × List ℕ × List ℕ} carry.Post (λ r x. (r, x.1.0.now, x.1.1.0.now, x.1.1.1.1.1.1.0.now, x.1.1.1.1.1.1.1.0.now))

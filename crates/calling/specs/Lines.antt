@@ -1,5 +1,5 @@
 -- A line with a call: what it asks for, what becomes of the bench, and what is told of it.
-use Rattle.std.specs.Prelude.{ℕ, ◌≡◌, Bool, false, not, List, [], eqb, length, replicate}
+use Rattle.std.specs.Prelude.{ℕ, ◌≡◌, Bool, false, not, List, [], eqb, length, replicate, Option, Some, None}
 use Rattle.rules.specs.declared.Chip.{Chip}
 use Rattle.rules.specs.Words.{pick}
 use Rattle.stations.specs.declared.StoreRecord.{StoreRecord}
@@ -21,24 +21,23 @@ use Rattle.standing.specs.Deeds.{deed_of}
 use Rattle.standing.specs.Benches.{front, bench_of, unjudged}
 use Rattle.calling.specs.declared.Account.{Account}
 use Rattle.calling.specs.declared.Called.{Called}
-use Rattle.calling.specs.declared.Errand.{Errand}
 use Rattle.calls.specs.Lists.{station_of, data_of, allowance_of, list_of, writes_ended}
 use Rattle.calls.specs.Calls.{Stored, Found, Shown}
 
 -- ---- what a line asks for
 
-abbrev pub asks : Deed → Errand
-asks Deed.Nothing = Errand.Nothing
-asks (Deed.Event e) = Errand.Nothing
-asks (Deed.Setting s) = Errand.Nothing
-asks (Deed.Question q) = Errand.Nothing
-asks (Deed.Post f) = Errand.Nothing
-asks (Deed.Call k) = Errand.Call k
-asks Deed.Wrong = Errand.Nothing
+abbrev pub asks : Deed → Option Call
+asks Deed.Nothing = None
+asks (Deed.Event e) = None
+asks (Deed.Setting s) = None
+asks (Deed.Question q) = None
+asks (Deed.Post f) = None
+asks (Deed.Call k) = Some k
+asks Deed.Wrong = None
 
 -- the line that ended last
-abbrev pub errand_of : Playing → Errand
-errand_of p = pick (not p.reading.ended) Errand.Nothing (asks (deed_of (line_of p.reading).verb))
+abbrev pub errand_of : Playing → Option Call
+errand_of p = pick (not p.reading.ended) None (asks (deed_of (line_of p.reading).verb))
 
 -- ---- what it comes to
 
@@ -135,10 +134,10 @@ PlayedCall Call.Find p l array security sent expected known reply marks r array'
 PlayedCall Call.Stations p l array security sent expected known reply marks r array' security' reply' marks' =
     StationsPlayed p array security reply marks r array' security' reply' marks'
 
-abbrev pub Played : Errand → Playing → Line → List ℕ → List ℕ → List ℕ → List ℕ → List ℕ → List ℕ → List ℕ → Called → List ℕ → List ℕ → List ℕ → List ℕ → Type 0
-Played Errand.Nothing p l array security sent expected known reply marks r array' security' reply' marks' =
+abbrev pub Played : Option Call → Playing → Line → List ℕ → List ℕ → List ℕ → List ℕ → List ℕ → List ℕ → List ℕ → Called → List ℕ → List ℕ → List ℕ → List ℕ → Type 0
+Played None p l array security sent expected known reply marks r array' security' reply' marks' =
     (r ≡ called_of p no_account) × Untouched array security reply marks array' security' reply' marks'
-Played (Errand.Call k) p l array security sent expected known reply marks r array' security' reply' marks' =
+Played (Some k) p l array security sent expected known reply marks r array' security' reply' marks' =
     PlayedCall k p l array security sent expected known reply marks r array' security' reply' marks'
 
 -- the line's bytes, and what it expects

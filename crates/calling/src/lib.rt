@@ -3,25 +3,18 @@
 
 ghost use Rattle.std.specs.Prelude.{◌≡◌, eqb, length, replicate};
 ghost use Rattle.rules.specs.Words.{pick};
-ghost use Rattle.stations.specs.Slots.{shown_in};
 ghost use Rattle.stations.specs.Calls.{list_size};
+ghost use Rattle.slots.specs.Reads.{shown_of};
 ghost use Rattle.census.specs.Census.{cut_after};
-ghost use Rattle.calling.specs.Lines.{errand_of, no_counts, no_bytes, no_account, number_of, ended, answered, called_of, account_of, account_shown, StoreJudged, FindJudged, StorePlayed, FindPlayed, StationsPlayed, PlayedCall, CallPlayed};
+ghost use Rattle.calling.specs.Lines.{errand_of, no_counts, no_account, number_of, ended, answered, called_of, account_of, account_shown, StoreJudged, FindJudged, StorePlayed, FindPlayed, StationsPlayed, PlayedCall, CallPlayed};
 ghost use Rattle.standing.specs.Benches.{front, unjudged};
 
 use census::Counts;
 use expecting::Verdict;
 use rules::Chip;
-use rules::plain::smaller;
 use script::Line;
+use slots::ListRead;
 use standing::{Bench, Call, Deed, Playing};
-
-// What a line does with the station list.
-#[derive(Clone, Copy)]
-pub enum Errand {
-    Nothing,
-    Call(Call),
-}
 
 // What a call came to beside the bench.
 #[derive(Clone, Copy)]
@@ -47,23 +40,17 @@ pub struct Called {
 // ---- what a line asks for
 
 // The line that ended last.
-pub fn asked(p: Playing) -> Errand
+pub fn asked(p: Playing) -> Option<Call>
     ensures { result ≡ errand_of p }
 {
     let reading = p.reading;
     if !reading.ended {
-        return Errand::Nothing;
+        return None;
     }
     let l = script::line_of(reading);
-    let deed = standing::deed_of(l.verb);
-    match deed {
-        Deed::Nothing => Errand::Nothing,
-        Deed::Event(_) => Errand::Nothing,
-        Deed::Setting(_) => Errand::Nothing,
-        Deed::Question(_) => Errand::Nothing,
-        Deed::Post(_) => Errand::Nothing,
-        Deed::Call(k) => Errand::Call(k),
-        Deed::Wrong => Errand::Nothing,
+    match standing::deed_of(l.verb) {
+        Deed::Call(k) => Some(k),
+        _ => None,
     }
 }
 
@@ -82,21 +69,10 @@ fn no_verdict() -> Verdict
     }
 }
 
-fn no_counts() -> Counts
-    ensures { result ≡ no_counts }
-{
-    Counts {
-        empty: 0,
-        live: 0,
-        passed: 0,
-        dead: 0,
-    }
-}
-
 fn account_of(polls: u64, writes: usize, bytes: [u8; 28], v: Verdict) -> Account
     ensures { result ≡ account_of polls writes bytes v no_counts 0 }
 {
-    let counts = no_counts();
+    let counts = Counts::default();
     Account {
         polls,
         writes,
@@ -124,16 +100,18 @@ fn number_of(v: Verdict) -> Verdict
 fn ended(p: Playing, number: u8, chip: Chip, v: Verdict) -> Playing
     ensures { result ≡ ended p number chip v }
 {
-    let mut bench = p.bench;
-    let tally = tallies::with_event(bench.tally, number, expecting::unmet(v));
-    bench.chip = chip;
-    bench.tally = tally;
-    let told = number_of(v);
-    let mut next = p;
-    next.bench = bench;
-    next.number = number;
-    next.verdict = told;
-    next
+    let tally = tallies::with_event(p.bench.tally, number, expecting::unmet(v));
+    let bench = Bench {
+        chip,
+        tally,
+        ..p.bench
+    };
+    Playing {
+        bench,
+        number,
+        verdict: number_of(v),
+        ..p
+    }
 }
 
 // ---- store
@@ -189,7 +167,7 @@ fn store(
 // ---- find
 
 // A refused call has found nothing.
-fn found_count(number: u8) -> usize
+pub fn found_count(number: u8) -> usize
     ensures { result ≡ pick (eqb number 0) 28 0 }
 {
     if number == 0 { 28 } else { 0 }
@@ -209,8 +187,8 @@ fn compared(
 {
     let b = p.bench;
     let slots = l.slots;
-    let n = smaller(found_count(number), bytes.len());
-    let m = smaller(found_count(number), sure.len());
+    let n = found_count(number).min(bytes.len());
+    let m = found_count(number).min(sure.len());
     expecting::judge(
         slots[5] != 0,
         slots[6],
@@ -269,28 +247,24 @@ fn find(
 fn answered(p: Playing, number: u8) -> Playing
     ensures { result ≡ answered p number }
 {
-    let mut next = p;
-    next.number = number;
-    next
+    Playing { number, ..p }
 }
 
 // 32 stations are shown, or all.
-fn cut_of(full: bool, reply: &[u8], marks: &[u8]) -> usize
-    requires { length reply.now ≡ list_size }
-    ensures { result ≡ pick full 2048 (cut_after (shown_in reply.now marks.now) 32) }
+fn cut_of(full: bool, read: &ListRead) -> usize
+    ensures { result ≡ pick full 2048 (cut_after (shown_of read.now) 32) }
 {
     if full {
         return 2048;
     }
-    census::cut_after(reply, marks, 32)
+    census::cut_after(read, 32)
 }
 
-fn account_shown(full: bool, reply: &[u8], marks: &[u8]) -> Account
-    requires { length reply.now ≡ list_size }
-    ensures { result ≡ account_shown full reply.now marks.now }
+fn account_shown(full: bool, read: &ListRead) -> Account
+    ensures { result ≡ account_shown full read.now.reply.now read.now.marks.now }
 {
-    let counts = census::counted(reply, marks);
-    let cut = cut_of(full, reply, marks);
+    let counts = census::counted(read);
+    let cut = cut_of(full, read);
     let verdict = no_verdict();
     Account {
         polls: 0,
@@ -303,13 +277,14 @@ fn account_shown(full: bool, reply: &[u8], marks: &[u8]) -> Account
 }
 
 // Of what is lent, the list.
-fn list_shown(full: bool, reply: &[u8], marks: &[u8]) -> Account
-    requires { (length reply.now ≡ 65537) × (length marks.now ≡ 65537) }
+fn list_shown(full: bool, reply: &[u8; 65537], marks: &[u8; 65537]) -> Account
     ensures { result ≡ account_shown full (front list_size reply.now) (front list_size marks.now) }
 {
-    let n = smaller(65536, reply.len());
-    let m = smaller(65536, marks.len());
-    account_shown(full, &reply[..n], &marks[..m])
+    let read = ListRead {
+        reply: &reply[..65536],
+        marks: &marks[..65536],
+    };
+    account_shown(full, &read)
 }
 
 fn stations(
@@ -383,13 +358,12 @@ pub fn carry(
 {
     let reading = p.reading;
     let l = script::line_of(reading);
-    let n = smaller(l.sent, frame.len());
-    let x = smaller(l.expected, expected.len());
-    let k = smaller(l.expected, known.len());
-    let errand = asked(p);
-    match errand {
-        Errand::Nothing => nothing(p),
-        Errand::Call(c) => call_of(
+    let n = l.sent.min(frame.len());
+    let x = l.expected.min(expected.len());
+    let k = l.expected.min(known.len());
+    match asked(p) {
+        None => nothing(p),
+        Some(c) => call_of(
             c,
             p,
             l,

@@ -1,5 +1,5 @@
 -- Laws that the proofs cite, and no second outcome.
-pub mod Entries
 pub mod Desks
 pub mod Copies
+pub mod Entries
 pub mod Unique

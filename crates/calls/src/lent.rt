@@ -4,7 +4,6 @@ ghost use Rattle.calls.specs.Lists.{data_of};
 ghost use Rattle.calls.specs.Calls.{opened, read_line, Stored, Found, Shown};
 
 use meanings::put_text;
-use rules::plain::smaller;
 use script::Line;
 use standing::{Bench, Event};
 use stations::StoreRecord;
@@ -33,10 +32,10 @@ fn stored(
 ) -> StoreRecord
     ensures { Stored b station bytes.now allowance list.now array.old security.old reply.old marks.old result array.new security.new reply.new marks.new }
 {
-    let a = smaller(b.array, array.len());
-    let s = smaller(b.security, security.len());
-    let n = smaller(65536, reply.len());
-    let m = smaller(65536, marks.len());
+    let a = b.array.min(array.len());
+    let s = b.security.min(security.len());
+    let n = reply.len().min(65536);
+    let m = marks.len().min(65536);
     store::store(
         opened(b),
         &mut array[..a],
@@ -88,10 +87,10 @@ pub fn found(
 ) -> StoreRecord
     ensures { Found b station buffer.old array.old security.old reply.old marks.old result buffer.new array.new security.new reply.new marks.new }
 {
-    let a = smaller(b.array, array.len());
-    let s = smaller(b.security, security.len());
-    let n = smaller(65536, reply.len());
-    let m = smaller(65536, marks.len());
+    let a = b.array.min(array.len());
+    let s = b.security.min(security.len());
+    let n = reply.len().min(65536);
+    let m = marks.len().min(65536);
     store::lookup(
         opened(b),
         &mut array[..a],

@@ -1,20 +1,18 @@
-use mathlib.Core.Path.{◌≡◌, refl, sym, ◌∙◌}
-use lib.ListN.{get_or}
-use Rattle.stations.proofs.Next.{first_hit, first_miss, first_end}
-use Rattle.calls.specs.Lists.{writes_ended}
-use Rattle.calls.proofs.Entries.{late, timely}
+-- As many as the chain takes. Assumes nothing.
 use native.Mathlib.Omega.{arith}
+use borrow.Author.Rules.{rules}
+use borrow.Author.Tests.{tests}
+use Rattle.std.proofs.lemmas.Iterator.{YieldsList-from_slice}
+use Rattle.std.proofs.lemmas.Iterator.Search.{YieldsList-from_take_while}
+use Rattle.std.proofs.lemmas.Iterator.Consumers.{count_from_yields_List}
+use Rattle.stations.specs.Given.{in_time}
+use Rattle.calls.specs.Lists.{writes_ended}
+use Rattle.calls.proofs.Entries.{ended_in_time}
 use Rattle.calls.proofs.lists.writes_ended.Goals as goal
 
-pub loop-j-init : goal.loop-j-init
-unfolding writes_ended
-loop-j-init c = (omega arith, refl)
-
-pub returns-then-e-allowance : goal.returns-then-e-allowance
-returns-then-e-allowance c = let l = c.loop-j in sym (l.invariant.1 ∙ first_hit _ 2050 l.j (omega arith) (late c.args.allowance (get_or c.args.list.now l.j 0) c.if-e-allowance.true))
-
-pub loop-j-preserved : goal.loop-j-preserved
-loop-j-preserved c = let l = c.loop-j in (omega arith, l.invariant.1 ∙ first_miss _ 2050 l.j (omega arith) (timely c.args.allowance (get_or c.args.list.now l.j 0) c.if-e-allowance.false))
-
 pub returns : goal.returns
-returns c = let l = c.loop-j in let e : l.j ≡ 2050 = omega arith in e ∙ sym (l.invariant.1 ∙ first_end _ 2050 l.j e)
+unfolding writes_ended
+returns c =
+    ended_in_time c.args.allowance c.args.list.now 2050 (omega arith)
+    (count_from_yields_List c.take_while.result c.count.result c.count.ensures.ran
+    (YieldsList-from_take_while _ (in_time c.args.allowance) (YieldsList-from_slice c.args.list.now (cc)) c.take_while.ensures.closure c.take_while.ensures.done (λ x b q k. search (rules, tests))))
