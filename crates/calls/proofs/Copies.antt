@@ -18,7 +18,7 @@ use Rattle.grammar.specs.Slots as slots
 use Rattle.fields.specs.Records.{said}
 use Rattle.script.specs.declared.Line.{Line}
 use Rattle.standing.specs.declared.Bench.{Bench}
-use Rattle.standing.specs.declared.Event.{Event}
+use Rattle.chip.specs.declared.events.Event.{Event}
 use Rattle.standing.specs.Benches.{front}
 use Rattle.lending.specs.Lending.{state_lent_lem, outcome, Happened}
 use Rattle.lending.specs.Lending as lending

@@ -8,7 +8,7 @@ use Rattle.script.specs.declared.Line.{Line}
 use Rattle.grammar.specs.Slots as slots
 use Rattle.grammar.specs.Verbs as verbs
 use Rattle.standing.specs.declared.Bench.{Bench}
-use Rattle.standing.specs.declared.Event.{Event}
+use Rattle.chip.specs.declared.events.Event.{Event}
 use Rattle.standing.specs.Benches.{front}
 use Rattle.lending.specs.Lending.{over, outcome}
 

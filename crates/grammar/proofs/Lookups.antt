@@ -8,11 +8,12 @@ use lib.Dec.{lit<}
 use lib.ListN.{length, get_or, take, drop, drop_of_length-le}
 use lib.Seq.{drop-cons}
 use borrow.Author.Tests.{eq-eqb, ne_eqb}
+use Rattle.std.specs.Prelude.{Some, None}
 use Rattle.std.specs.Simd.{first_chunks}
 use Rattle.std.proofs.lemmas.List.{get_or-take}
 use Rattle.spelling.specs.declared.Word.{Word}
 use Rattle.spelling.specs.Words.{key_with}
-use Rattle.grammar.specs.Table.{row_in, rows_from, first_of, no_entry, has_class, position, keys_from}
+use Rattle.grammar.specs.Table.{row_in, rows_from, class_of, store_of, source_of, first_of, has_class, position, keys_from}
 
 dropped : (l : List ℕ) (i : ℕ) → i < length l → drop i l ≡ get_or l i 0 ∷ drop (i + 1) l
 dropped l i h = drop-cons l i 0 h ∙ ap (λ (n : ℕ). get_or l i 0 ∷ drop n l) (sym (add-one i))
@@ -24,7 +25,7 @@ row_of_six : (l : List ℕ) → row_in (take 6 l) ≡ row_in l
 row_of_six l =
     λ i. record {
       place = get_or-take 6 l 0 0 (lit< tt) i - 48;
-      entry = record { class = get_or-take 6 l 1 0 (lit< tt) i - 48; next = get_or-take 6 l 2 0 (lit< tt) i - 48; store = get_or-take 6 l 3 0 (lit< tt) i - 48; slot = get_or-take 6 l 4 0 (lit< tt) i - 48; source = get_or-take 6 l 5 0 (lit< tt) i - 48 };
+      entry = record { class = class_of (get_or-take 6 l 1 0 (lit< tt) i - 48); next = get_or-take 6 l 2 0 (lit< tt) i - 48; store = store_of (get_or-take 6 l 3 0 (lit< tt) i - 48); slot = get_or-take 6 l 4 0 (lit< tt) i - 48; source = source_of (get_or-take 6 l 5 0 (lit< tt) i - 48) };
     }
 
 pub rows_are : (n : ℕ) (l : List ℕ) → rows_from n l ≡ map row_in (first_chunks 6 n l)
@@ -38,7 +39,7 @@ module _ (rows : List (List ℕ)) (k p : ℕ) (w : Word) (m : ℕ) (below : k < 
   row_next = ap (map row_in) (drop-cons rows k [] below ∙ ap (λ (n : ℕ). get_or rows k [] ∷ drop n rows) (sym (add-one k)))
 
   pub row_met : (row_in (get_or rows k [])).place ≡ p → has_class (row_in (get_or rows k [])).entry.class w m ≡ true
-      → (row_in (get_or rows k [])).entry ≡ first_of (map row_in (drop k rows)) p w m
+      → Some (row_in (get_or rows k [])).entry ≡ first_of (map row_in (drop k rows)) p w m
   unfolding first_of
   row_met e t = rw (row_next, eq-eqb _ _ e, t)
 
@@ -51,7 +52,7 @@ module _ (rows : List (List ℕ)) (k p : ℕ) (w : Word) (m : ℕ) (below : k < 
   unfolding first_of
   other_class e t = rw (row_next, eq-eqb _ _ e, t)
 
-pub rows_end : (rows : List (List ℕ)) (k p : ℕ) (w : Word) (m : ℕ) → length rows ≤ k → no_entry ≡ first_of (map row_in (drop k rows)) p w m
+pub rows_end : (rows : List (List ℕ)) (k p : ℕ) (w : Word) (m : ℕ) → length rows ≤ k → None ≡ first_of (map row_in (drop k rows)) p w m
 unfolding first_of
 rows_end rows k p w m h = rw (drop_of_length-le rows {i = k} h)
 

@@ -5,6 +5,7 @@ use Rattle.grammar.proofs.table.follows.Reads as follows
 use Rattle.grammar.proofs.table.can_end.Reads as can-end
 use Rattle.grammar.proofs.table.heard.Reads as heard
 use Rattle.grammar.proofs.table.takes_name.Reads as takes-name
+use Rattle.grammar.proofs.table.verb_of.Reads as verb-of
 
 pub follows_one : OneResult follows.Post
 follows_one κ a x y r r' p q = one p q
@@ -17,3 +18,6 @@ heard_one κ a x y r r' p q = one p q
 
 pub takes_name_one : OneResult takes-name.Post
 takes_name_one κ a x y r r' p q = one p q
+
+pub verb_of_one : OneResult verb-of.Post
+verb_of_one κ a x y r r' p q = one p q

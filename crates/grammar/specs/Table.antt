@@ -1,11 +1,15 @@
 -- The grammar of a line as a table: what may follow what, and what each word says. A row is a place, the class of a word that may stand there, the place that
 -- comes next, what the word stores, and what it writes into the slots.
-use Rattle.std.specs.Prelude.{ℕ, ◌+◌, ◌-◌, ◌/◌, ◌%◌, min, zero, suc, Bool, true, not, ◌&&◌, List, [], ◌∷◌, map, eqb, ltb, leb, length, get_or, drop, set}
+use Rattle.std.specs.Prelude.{ℕ, ◌+◌, ◌-◌, ◌/◌, ◌%◌, min, zero, suc, Bool, true, false, ◌&&◌, List, [], ◌∷◌, map, eqb, ltb, leb, length, get_or, drop, set}
 use Prim.Native.String.{String}
 use Rattle.rules.specs.Words.{pick, one_of}
 use Rattle.rules.specs.Texts.{ascii}
 use Rattle.spelling.specs.declared.Word.{Word}
+use Rattle.std.specs.Prelude.{Option, Some, None}
+use Rattle.grammar.specs.declared.Class.{Class}
 use Rattle.grammar.specs.declared.Entry.{Entry}
+use Rattle.grammar.specs.declared.Source.{Source}
+use Rattle.grammar.specs.declared.Store.{Store}
 use Rattle.spelling.specs.Words.{key_from, key, key_with}
 use Rattle.grammar.specs.Places.{line_start, after_byte, after_byte_star, after_bytes, after_reply, after_reply_count, after_slash, after_mark_count, after_equal, after_expected, after_tilde, after_expected_star, after_expected_times, after_refuse, line_done, after_event, after_cut, after_question, after_asked, after_answer, after_answer_tilde, after_answer_star, after_answer_times, after_dump, after_dump_id, after_dump_place, after_fill, after_fill_id, after_fill_place, after_fill_count, after_lend, after_lend_array, in_fields, after_protect, after_perm, after_run, after_aside, after_run_kind, after_aside_kind, after_no_reply, after_no_reply_slash, after_any, after_any_star, after_any_times, after_answer_any, after_answer_any_star, after_answer_any_times, after_burst, after_save, after_load, after_raw, after_compare, after_compare_raw, after_new, after_torn, after_torn_count, after_torn_byte, after_cut_count, after_store, after_station, after_data, after_data_star, after_data_times, after_text, after_text_word, after_polls, after_allowance, after_list, after_entry, after_entry_star, after_entry_times, after_find, after_sought, after_sought_equal}
 use Rattle.grammar.specs.Slots.{verb, wanted, marks_given, polls_given, marks, expecting, judged, refused, from, size, polls, filling, burst, tearing, as_text, of_id, old, list_given, protection, permanent, run_kind_lem, run_number_lem, aside_kind, aside_number, sqi, wel, ioc, wpen, wpld, sec, enable, ba}
@@ -34,126 +38,128 @@ position k n (x ∷ xs) = pick (eqb x k) n (position k (min (n + 1) 255) xs)
 -- ---- the classes of words
 
 -- two hex digits
-abbrev pub byte : ℕ
-byte = 0
+abbrev pub byte : Class
+byte = Class.Byte
 
 -- a decimal number
-abbrev pub number : ℕ
-number = 1
+abbrev pub number : Class
+number = Class.Number
 
 -- a decimal number from 1
-abbrev pub times : ℕ
-times = 2
+abbrev pub times : Class
+times = Class.Times
 
 -- a decimal number at most 18
-abbrev pub refusal : ℕ
-refusal = 3
+abbrev pub refusal : Class
+refusal = Class.Refusal
 
 -- one to six hex digits
-abbrev pub address : ℕ
-address = 4
+abbrev pub address : Class
+address = Class.Address
 
 -- one to sixteen hex digits
-abbrev pub hex : ℕ
-hex = 5
+abbrev pub hex : Class
+hex = Class.Hex
 
 -- any word: a file's name
-abbrev pub name : ℕ
-name = 6
+abbrev pub name : Class
+name = Class.Name
 
 -- a decimal number at most 65,535
-abbrev pub station : ℕ
-station = 7
+abbrev pub station : Class
+station = Class.Station
 
 -- the one word of eight bytes, whose key has no room for a 1 in front of them
-abbrev pub stations_word : ℕ
-stations_word = 15
+abbrev pub stations_number : ℕ
+stations_number = 15
 
--- one of the other words: the first has class 16
-abbrev pub word : String → ℕ
-word s = position (key (ascii s)) 16 keys
+abbrev pub stations_word : Class
+stations_word = Class.Word stations_number
+
+-- one of the other words: the first has number 16
+abbrev pub word : String → Class
+word s = Class.Word (position (key (ascii s)) 16 keys)
 
 -- the class of a word by its length and its key; 255 of any other
 unfoldable pub called_long : ℕ → ℕ → ℕ
-called_long n k = pick (eqb n 8 && eqb k (key_from 0 (ascii "stations"))) stations_word 255
+called_long n k = pick (eqb n 8 && eqb k (key_from 0 (ascii "stations"))) stations_number 255
 
 unfoldable pub called : Word → ℕ
 called w = pick (leb w.length 7) (position w.key 16 keys) (called_long w.length w.key)
 
 -- the word w, which is called n, has the class c
-unfoldable pub has_class : ℕ → Word → ℕ → Bool
-has_class c w n =
-    pick (eqb c byte) (w.hexadecimal && eqb w.length 2)
-    (pick (eqb c number) w.decimal
-    (pick (eqb c times) (w.decimal && ltb 0 w.number)
-    (pick (eqb c refusal) (w.decimal && leb w.number 18)
-    (pick (eqb c address) (w.hexadecimal && leb w.length 6)
-    (pick (eqb c hex) (w.hexadecimal && leb w.length 16)
-    (pick (eqb c name) true
-    (pick (eqb c station) (w.decimal && leb w.number 65535)
-    (eqb c n))))))))
+unfoldable pub has_class : Class → Word → ℕ → Bool
+has_class Class.Byte w n = w.hexadecimal && eqb w.length 2
+has_class Class.Number w n = w.decimal
+has_class Class.Times w n = w.decimal && ltb 0 w.number
+has_class Class.Refusal w n = w.decimal && leb w.number 18
+has_class Class.Address w n = w.hexadecimal && leb w.length 6
+has_class Class.Hex w n = w.hexadecimal && leb w.length 16
+has_class Class.Name w n = true
+has_class Class.Station w n = w.decimal && leb w.number 65535
+has_class (Class.Word c) w n = eqb c n
 
 -- ---- what a word stores
 
-abbrev pub no : ℕ
-no = 0
+abbrev pub no : Store
+no = Store.Nothing
 
 -- its byte goes to the frame
-abbrev pub sends : ℕ
-sends = 1
+abbrev pub sends : Store
+sends = Store.Sends
 
 -- the frame's last byte, so many times in all
-abbrev pub sends_again : ℕ
-sends_again = 2
+abbrev pub sends_again : Store
+sends_again = Store.SendsAgain
 
 -- its byte is expected
-abbrev pub expects : ℕ
-expects = 3
+abbrev pub expects : Store
+expects = Store.Expects
 
 -- any byte is expected
-abbrev pub expects_any : ℕ
-expects_any = 4
+abbrev pub expects_any : Store
+expects_any = Store.ExpectsAny
 
 -- its byte is expected, and that it is unknown
-abbrev pub expects_unknown : ℕ
-expects_unknown = 5
+abbrev pub expects_unknown : Store
+expects_unknown = Store.ExpectsUnknown
 
 -- the last expected byte, so many times in all
-abbrev pub expects_again : ℕ
-expects_again = 6
+abbrev pub expects_again : Store
+expects_again = Store.ExpectsAgain
 
 -- what was stored of the frame is forgotten: the word was no name
-abbrev pub forgets : ℕ
-forgets = 7
+abbrev pub forgets : Store
+forgets = Store.Forgets
 
 -- its decimal number is an entry of the list
-abbrev pub enters : ℕ
-enters = 8
+abbrev pub enters : Store
+enters = Store.Enters
 
 -- ---- what a word writes
 
 pub record Writes : Type 0 where
   pub slot : ℕ
-  pub source : ℕ
+  pub source : Source
 
 abbrev pub nothing : Writes
-nothing = record { slot = 0; source = 0 }
+nothing = record { slot = 0; source = Source.Nothing }
 
 -- its decimal number
 abbrev pub keeps : ℕ → Writes
-keeps s = record { slot = s; source = 1 }
+keeps s = record { slot = s; source = Source.Number }
 
 -- its hex number
 abbrev pub keeps_hex : ℕ → Writes
-keeps_hex s = record { slot = s; source = 2 }
+keeps_hex s = record { slot = s; source = Source.Hex }
 
 -- its byte, and 256 besides: 0 stays where no such word stands
 abbrev pub keeps_byte : ℕ → Writes
-keeps_byte s = record { slot = s; source = 60 }
+keeps_byte s = record { slot = s; source = Source.Byte }
 
 -- a constant
 abbrev pub says : ℕ → ℕ → Writes
-says s c = record { slot = s; source = 3 + c }
+says s c = record { slot = s; source = Source.Says c }
 
 -- ---- the table
 
@@ -161,7 +167,7 @@ pub record Row : Type 0 where
   pub place : ℕ
   pub entry : Entry
 
-abbrev pub row : ℕ → ℕ → ℕ → ℕ → Writes → Row
+abbrev pub row : ℕ → Class → ℕ → Store → Writes → Row
 row p c n t w = record { place = p; entry = record { class = c; next = n; store = t; slot = w.slot; source = w.source } }
 
 unfoldable pub table : List Row
@@ -388,36 +394,69 @@ can_end p = one_of p ends
 
 -- ---- looking up
 
--- no row has the word at that place: a mistake
-abbrev pub no_entry : Entry
-no_entry = record { class = 255; next = 0; store = 0; slot = 0; source = 0 }
-
--- the first row of that place whose class the word has, which is called n
-unfoldable pub first_of : List Row → ℕ → Word → ℕ → Entry
-first_of [] p w n = no_entry
-first_of (r ∷ rs) p w n = pick (eqb r.place p && has_class r.entry.class w n) r.entry (first_of rs p w n)
+-- the first row of that place whose class the word has, which is called n; where there is none, the word is a mistake
+unfoldable pub first_of : List Row → ℕ → Word → ℕ → Option Entry
+first_of [] p w n = None
+first_of (r ∷ rs) p w n = pick (eqb r.place p && has_class r.entry.class w n) (Some r.entry) (first_of rs p w n)
 
 -- what follows that place and that word
-unfoldable pub next_of : ℕ → Word → Entry
+unfoldable pub next_of : ℕ → Word → Option Entry
 next_of p w = first_of table p w (called w)
 
 -- ---- what a word says
 
--- by the source of a row: the decimal number, the hex number, the byte and 256, or a constant
-unfoldable pub value_of : ℕ → Word → ℕ
-value_of s w = pick (eqb s 1) w.number (pick (eqb s 2) w.hex (pick (eqb s 60) (256 + w.hex % 256) (s - 3)))
+unfoldable pub value_of : Source → Word → ℕ
+value_of Source.Nothing w = 0
+value_of Source.Number w = w.number
+value_of Source.Hex w = w.hex
+value_of Source.Byte w = 256 + w.hex % 256
+value_of (Source.Says c) w = c
+
+abbrev pub writes : Source → Bool
+writes Source.Nothing = false
+writes Source.Number = true
+writes Source.Hex = true
+writes Source.Byte = true
+writes (Source.Says c) = true
 
 unfoldable pub slots_with : List ℕ → Entry → Word → List ℕ
-slots_with l e w = pick (not (eqb e.source 0) && ltb e.slot 24) (set l e.slot (value_of e.source w)) l
+slots_with l e w = pick (writes e.source && ltb e.slot 24) (set l e.slot (value_of e.source w)) l
 
 -- ---- how the table and the words are written in code
+
+-- a class, what is stored and a source, as numbers
+unfoldable pub class_of : ℕ → Class
+class_of c =
+    pick (eqb c 0) byte
+    (pick (eqb c 1) number
+    (pick (eqb c 2) times
+    (pick (eqb c 3) refusal
+    (pick (eqb c 4) address
+    (pick (eqb c 5) hex
+    (pick (eqb c 6) name
+    (pick (eqb c 7) station (Class.Word c))))))))
+
+unfoldable pub store_of : ℕ → Store
+store_of s =
+    pick (eqb s 1) sends
+    (pick (eqb s 2) sends_again
+    (pick (eqb s 3) expects
+    (pick (eqb s 4) expects_any
+    (pick (eqb s 5) expects_unknown
+    (pick (eqb s 6) expects_again
+    (pick (eqb s 7) forgets
+    (pick (eqb s 8) enters no)))))))
+
+-- a constant is written as a number 3 more
+unfoldable pub source_of : ℕ → Source
+source_of s = pick (eqb s 0) Source.Nothing (pick (eqb s 1) Source.Number (pick (eqb s 2) Source.Hex (pick (eqb s 60) Source.Byte (Source.Says (s - 3)))))
 
 -- a row is six bytes, each 48 more than its number
 abbrev pub row_in : List ℕ → Row
 row_in l =
     record {
       place = get_or l 0 0 - 48;
-      entry = record { class = get_or l 1 0 - 48; next = get_or l 2 0 - 48; store = get_or l 3 0 - 48; slot = get_or l 4 0 - 48; source = get_or l 5 0 - 48 };
+      entry = record { class = class_of (get_or l 1 0 - 48); next = get_or l 2 0 - 48; store = store_of (get_or l 3 0 - 48); slot = get_or l 4 0 - 48; source = source_of (get_or l 5 0 - 48) };
     }
 
 unfoldable pub rows_from : ℕ → List ℕ → List Row

@@ -1,9 +1,10 @@
 // The table: what may follow what, and what a word says where it stands. specs/Table.antt.
-ghost use Rattle.std.specs.Prelude.{◌≡◌, ◌-◌};
+ghost use Rattle.std.specs.Prelude.{◌≡◌, ◌-◌, ◌%◌};
+ghost use Rattle.grammar.specs.Verbs.{verb_of};
 ghost use Rattle.grammar.specs.Places.{takes_name};
-ghost use Rattle.grammar.specs.Table.{position, keys_from, called, called_long, has_class, first_of, row_in, rows_in, next_of, can_end, value_of, slots_with};
+ghost use Rattle.grammar.specs.Table.{position, keys_from, called, called_long, has_class, class_of, store_of, source_of, first_of, row_in, rows_in, next_of, can_end, value_of, slots_with};
 
-use crate::Entry;
+use crate::{Class, Entry, Source, Store, Verb};
 use spelling::{Word, key_after};
 
 // ---- the words
@@ -59,19 +60,67 @@ fn called(w: Word) -> u8
 // ---- the rows
 
 #[tactic(auto, unfolding(crate::specs::Table::has_class))]
-fn has_class(class: u8, w: Word, name: u8) -> bool
+fn has_class(class: Class, w: Word, name: u8) -> bool
     ensures { result ≡ has_class class w name }
 {
     match class {
-        0 => w.hexadecimal & (w.length == 2),
-        1 => w.decimal,
-        2 => w.decimal & (0 < w.number),
-        3 => w.decimal & (w.number <= 18),
-        4 => w.hexadecimal & (w.length <= 6),
-        5 => w.hexadecimal & (w.length <= 16),
-        6 => true,
-        7 => w.decimal & (w.number <= 65535),
-        _ => class == name,
+        Class::Byte => w.hexadecimal & (w.length == 2),
+        Class::Number => w.decimal,
+        Class::Times => w.decimal & (0 < w.number),
+        Class::Refusal => w.decimal & (w.number <= 18),
+        Class::Address => w.hexadecimal & (w.length <= 6),
+        Class::Hex => w.hexadecimal & (w.length <= 16),
+        Class::Name => true,
+        Class::Station => w.decimal & (w.number <= 65535),
+        Class::Word(n) => n == name,
+    }
+}
+
+// The table is a text, so that its rows are seen to be those of specs/Table by computing: of a row's numbers these are the kinds.
+#[tactic(auto, unfolding(crate::specs::Table::class_of))]
+fn class_of(n: u8) -> Class
+    ensures { result ≡ class_of n }
+{
+    match n {
+        0 => Class::Byte,
+        1 => Class::Number,
+        2 => Class::Times,
+        3 => Class::Refusal,
+        4 => Class::Address,
+        5 => Class::Hex,
+        6 => Class::Name,
+        7 => Class::Station,
+        _ => Class::Word(n),
+    }
+}
+
+#[tactic(auto, unfolding(crate::specs::Table::store_of))]
+fn store_of(n: u8) -> Store
+    ensures { result ≡ store_of n }
+{
+    match n {
+        1 => Store::Sends,
+        2 => Store::SendsAgain,
+        3 => Store::Expects,
+        4 => Store::ExpectsAny,
+        5 => Store::ExpectsUnknown,
+        6 => Store::ExpectsAgain,
+        7 => Store::Forgets,
+        8 => Store::Enters,
+        _ => Store::Nothing,
+    }
+}
+
+#[tactic(auto, unfolding(crate::specs::Table::source_of))]
+fn source_of(n: u8) -> Source
+    ensures { result ≡ source_of n }
+{
+    match n {
+        0 => Source::Nothing,
+        1 => Source::Number,
+        2 => Source::Hex,
+        60 => Source::Byte,
+        _ => Source::Says(n.saturating_sub(3)),
     }
 }
 
@@ -87,16 +136,16 @@ fn entry_of(row: &[u8; 6]) -> Entry
     ensures { result ≡ (row_in row.now).entry }
 {
     Entry {
-        class: less(row[1]),
+        class: class_of(less(row[1])),
         next: less(row[2]),
-        store: less(row[3]),
+        store: store_of(less(row[3])),
         slot: less(row[4]),
-        source: less(row[5]),
+        source: source_of(less(row[5])),
     }
 }
 
 // The first row of that place whose class the word has.
-fn first_of(text: &[u8], place: u8, w: Word, name: u8) -> Entry
+fn first_of(text: &[u8], place: u8, w: Word, name: u8) -> Option<Entry>
     ensures { result ≡ first_of (rows_in text.now) place w name }
 {
     let (rows, _) = text.as_chunks::<6>();
@@ -104,21 +153,15 @@ fn first_of(text: &[u8], place: u8, w: Word, name: u8) -> Entry
         if less(row[0]) == place {
             let entry = entry_of(row);
             if has_class(entry.class, w, name) {
-                return entry;
+                return Some(entry);
             }
         }
     }
-    Entry {
-        class: 255,
-        next: 0,
-        store: 0,
-        slot: 0,
-        source: 0,
-    }
+    None
 }
 
-// What follows that place and that word. Six bytes a row: place, class, next place, store, slot, source.
-pub fn follows(place: u8, w: Word) -> Entry
+// What follows that place and that word; none where the word is a mistake. Six bytes a row: place, class, next place, store, slot, source.
+pub fn follows(place: u8, w: Word) -> Option<Entry>
     ensures { result ≡ next_of place w }
 {
     let name = called(w);
@@ -195,14 +238,15 @@ pub fn can_end(place: u8) -> bool
 // ---- what a word says
 
 #[tactic(auto, unfolding(crate::specs::Table::value_of))]
-fn value(source: u8, w: Word) -> u64
+fn value(source: Source, w: Word) -> u64
     ensures { result ≡ value_of source w }
 {
     match source {
-        1 => w.number,
-        2 => w.hex,
-        60 => 256 + w.hex % 256,
-        _ => u64::from(source.saturating_sub(3)),
+        Source::Nothing => 0,
+        Source::Number => w.number,
+        Source::Hex => w.hex,
+        Source::Byte => 256 + w.hex % 256,
+        Source::Says(n) => u64::from(n),
     }
 }
 
@@ -212,8 +256,44 @@ pub fn heard(slots: [u64; 24], e: Entry, w: Word) -> [u64; 24]
 {
     let mut all = slots;
     let at = usize::from(e.slot);
-    if e.source != 0 && at < all.len() {
+    if !matches!(e.source, Source::Nothing) && at < all.len() {
         all[at] = value(e.source, w);
     }
     all
+}
+
+// The verb that a line's slot says, modulo 256; any other number is none.
+#[tactic(auto, unfolding(crate::specs::Verbs::verb_of))]
+pub fn verb_of(n: u64) -> Verb
+    ensures { result ≡ verb_of (n % 256) }
+{
+    match n % 256 {
+        0 => Verb::Blank,
+        1 => Verb::Frame,
+        2 => Verb::Done,
+        3 => Verb::Cut,
+        4 => Verb::New,
+        5 => Verb::Status,
+        6 => Verb::Work,
+        7 => Verb::Locks,
+        8 => Verb::Dump,
+        9 => Verb::Full,
+        10 => Verb::Short,
+        11 => Verb::Strict,
+        12 => Verb::Fill,
+        13 => Verb::Buffer,
+        14 => Verb::Lend,
+        15 => Verb::Record,
+        16 => Verb::Is,
+        17 => Verb::Pattern,
+        18 => Verb::Save,
+        19 => Verb::Load,
+        20 => Verb::SaveRaw,
+        21 => Verb::LoadRaw,
+        22 => Verb::CompareRaw,
+        23 => Verb::Store,
+        24 => Verb::Find,
+        25 => Verb::Stations,
+        _ => Verb::Wrong,
+    }
 }

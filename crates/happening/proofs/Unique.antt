@@ -8,7 +8,7 @@ use Rattle.rules.proofs.Outcomes.{OneOutcome}
 use Rattle.script.specs.declared.Line.{Line}
 use Rattle.expecting.specs.declared.Verdict.{Verdict}
 use Rattle.expecting.proofs.Firsts.{first_one}
-use Rattle.standing.specs.declared.Event.{Event}
+use Rattle.chip.specs.declared.events.Event.{Event}
 use Rattle.standing.specs.declared.Playing.{Playing}
 use Rattle.happening.specs.Events.{JudgedLine, counted, EventPlayed}
 use Rattle.happening.proofs.played.Reads as played

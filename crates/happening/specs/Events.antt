@@ -7,7 +7,7 @@ use Rattle.expecting.specs.declared.Verdict.{Verdict}
 use Rattle.expecting.specs.Expectations.{Judged, unmet}
 use Rattle.tallies.specs.Tallies.{after_event}
 use Rattle.fields.specs.Records.{slot, said}
-use Rattle.standing.specs.declared.Event.{Event}
+use Rattle.chip.specs.declared.events.Event.{Event}
 use Rattle.standing.specs.declared.Playing.{Playing}
 use Rattle.standing.specs.Benches.{front}
 use Rattle.lending.specs.Lending.{wanted, marks_wanted, outcome, Happened}

@@ -17,7 +17,7 @@ use Rattle.describing.specs.Works.{told, work, places}
 use Rattle.describing.specs.Commands.{answer_on}
 use Rattle.rows.specs.Events.{numbered, below, sent_row, fits, ended_on, cut_on, word_on}
 use Rattle.standing.specs.declared.Deed.{Deed}
-use Rattle.standing.specs.declared.Event.{Event}
+use Rattle.chip.specs.declared.events.Event.{Event}
 use Rattle.standing.specs.declared.Question.{Question}
 use Rattle.standing.specs.declared.Setting.{Setting}
 

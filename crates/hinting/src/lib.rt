@@ -5,8 +5,19 @@ ghost use Rattle.std.specs.Prelude.{◌≡◌};
 ghost use Rattle.hinting.specs.Hints.{stands, takes_byte, prefix, lowered, of_digits, hint_of};
 ghost use Rattle.spelling.specs.Words.{no_word};
 
-use grammar::table;
+use grammar::{Class, Entry, table};
 use spelling::Word;
+
+// What a wrong word may have been meant to be.
+#[derive(Clone, Copy, PartialEq, Eq)]
+pub enum Hint {
+    // a byte is two digits
+    TwoDigits,
+    // bytes stand apart
+    Apart,
+    // words are of lower case
+    LowerCase,
+}
 
 // The word of these bytes in lower case.
 fn in_lower(bytes: &[u8]) -> Word
@@ -24,7 +35,7 @@ fn in_lower(bytes: &[u8]) -> Word
 fn stands(place: u8, w: Word) -> bool
     ensures { result ≡ stands place w }
 {
-    table::follows(place, w).class != 255
+    table::follows(place, w).is_some()
 }
 
 // A byte may stand here: the word 00.
@@ -41,7 +52,13 @@ fn takes_byte(place: u8) -> bool
         hexadecimal: true,
         hex: 0,
     };
-    table::follows(place, byte).class == 0
+    matches!(
+        table::follows(place, byte),
+        Some(Entry {
+            class: Class::Byte,
+            ..
+        })
+    )
 }
 
 // The bytes of 0x.
@@ -56,27 +73,27 @@ fn prefix(a: u8, b: u8) -> usize
 }
 
 #[tactic(auto, unfolding(crate::specs::Hints::of_digits))]
-fn of_digits(takes: bool, n: usize) -> u8
+fn of_digits(takes: bool, n: usize) -> Option<Hint>
     ensures { result ≡ of_digits takes n }
 {
     if !takes {
-        0
+        None
     } else if 2 < n && n % 2 == 0 {
-        2
+        Some(Hint::Apart)
     } else {
-        1
+        Some(Hint::TwoDigits)
     }
 }
 
 // By the word's first bytes and its length, at that place.
-pub fn hint_of(place: u8, word: &[u8; 24], length: usize) -> u8
+pub fn hint_of(place: u8, word: &[u8; 24], length: usize) -> Option<Hint>
     ensures { result ≡ hint_of place word.now length }
 {
     if length == 0 || 24 < length {
-        return 0;
+        return None;
     }
     if stands(place, in_lower(&word[..length])) {
-        return 3;
+        return Some(Hint::LowerCase);
     }
     let skipped = prefix(word[0], word[1]).min(length);
     let digits = in_lower(&word[skipped..length]);

@@ -15,7 +15,7 @@ use Rattle.rules.specs.Promises.{bench_of, carried_of, returned_of, state_of, ou
 use Rattle.script.specs.declared.Line.{Line}
 use Rattle.memory.specs.Patched.{Patched}
 use Rattle.standing.specs.declared.Bench.{Bench}
-use Rattle.standing.specs.declared.Event.{Event}
+use Rattle.chip.specs.declared.events.Event.{Event}
 use Rattle.lending.specs.Lending.{over, state_lent_lem, wanted, marks_wanted, tear_said, outcome, Ended, Happened}
 use Rattle.lending.proofs.Parts.{part_over, none_over, part_written, over_patched}
 

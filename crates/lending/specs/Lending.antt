@@ -12,7 +12,7 @@ use Rattle.grammar.specs.Slots as slots
 use Rattle.script.specs.declared.Line.{Line}
 use Rattle.fields.specs.Records.{slot}
 use Rattle.standing.specs.declared.Bench.{Bench}
-use Rattle.standing.specs.declared.Event.{Event}
+use Rattle.chip.specs.declared.events.Event.{Event}
 use Rattle.standing.specs.Benches.{front}
 
 -- a memory whose first places became those of o

@@ -1,13 +1,17 @@
 -- The input as a fold over its bytes: what one byte does, what a word's end does, what is stored, and what a line says at its end.
 use Rattle.std.specs.Prelude.{ℕ, zero, suc, ◌+◌, ◌-◌, ◌/◌, ◌%◌, min, ◌≡◌, Bool, true, false, not, ◌&&◌, ◌||◌, List, [], ◌∷◌, eqb, ltb, get_or, set, replicate}
 use Rattle.rules.specs.Words.{pick}
+use Rattle.std.specs.Prelude.{Option, Some, None}
 use Rattle.grammar.specs.declared.Entry.{Entry}
+use Rattle.grammar.specs.declared.Store.{Store}
+use Rattle.grammar.specs.declared.Verb.{Verb}
+use Rattle.script.specs.declared.Mode.{Mode}
 use Rattle.spelling.specs.Words.{blank, line_end, ends_words, one_more_lem, no_word, word_with, is_sign, byte_of}
 use Rattle.spelling.specs.declared.Word.{Word}
 use Rattle.grammar.specs.Places.{line_start, takes_name}
 use Rattle.grammar.specs.Slots.{verb}
 use Rattle.grammar.specs.Verbs as verbs
-use Rattle.grammar.specs.Table.{sends, sends_again, expects, expects_any, expects_unknown, expects_again, forgets, enters, next_of, can_end, slots_with}
+use Rattle.grammar.specs.Table.{next_of, can_end, slots_with}
 use Rattle.script.specs.declared.Reading.{Reading}
 use Rattle.script.specs.declared.Line.{Line}
 
@@ -15,16 +19,26 @@ use Rattle.script.specs.declared.Line.{Line}
 
 -- words may come
 
-abbrev pub in_words : ℕ
-in_words = 0
+abbrev pub in_words : Mode
+in_words = Mode.Open
 
 -- the rest of the line is a remark
-abbrev pub in_remark : ℕ
-in_remark = 1
+abbrev pub in_remark : Mode
+in_remark = Mode.Remark
 
 -- a mistake was met
-abbrev pub wrong : ℕ
-wrong = 2
+abbrev pub wrong : Mode
+wrong = Mode.Wrong
+
+abbrev pub is_open : Mode → Bool
+is_open Mode.Open = true
+is_open Mode.Remark = false
+is_open Mode.Wrong = false
+
+abbrev pub is_wrong : Mode → Bool
+is_wrong Mode.Open = false
+is_wrong Mode.Remark = false
+is_wrong Mode.Wrong = true
 
 -- ---- counts, and the byte that is stored
 
@@ -33,21 +47,37 @@ unfoldable pub count_after : ℕ → Bool → Bool → ℕ → ℕ
 count_after at one again n = pick (not one && not again) at (pick one (min (at + 1) 65537) (min (at + (n - 1)) 65537))
 
 -- the frame's bytes after a word, by what its row stores and its number
-unfoldable pub sent_after : ℕ → ℕ → ℕ → ℕ
-sent_after at s n = pick (eqb s forgets) 0 (count_after at (eqb s sends) (eqb s sends_again) n)
+unfoldable pub sent_after : ℕ → Store → ℕ → ℕ
+sent_after at Store.Sends n = count_after at true false n
+sent_after at Store.SendsAgain n = count_after at false true n
+sent_after at Store.Forgets n = 0
+sent_after at s n = at
 
 -- the expected bytes after a word; the entries of a list stand in their place, since no line has both
-abbrev pub expected_after : ℕ → ℕ → ℕ → ℕ
-expected_after at s n = count_after at ((ltb sends_again s && ltb s expects_again) || eqb s enters) (eqb s expects_again) n
+abbrev pub expected_after : ℕ → Store → ℕ → ℕ
+expected_after at Store.Expects n = count_after at true false n
+expected_after at Store.ExpectsAny n = count_after at true false n
+expected_after at Store.ExpectsUnknown n = count_after at true false n
+expected_after at Store.Enters n = count_after at true false n
+expected_after at Store.ExpectsAgain n = count_after at false true n
+expected_after at s n = at
 
 -- the byte that is stored: the word's own, 0 for any, the high one of an entry n, or the last one again
-unfoldable pub byte_after : ℕ → ℕ → ℕ → ℕ → ℕ
-byte_after s own n last =
-    pick (eqb s sends || (eqb s expects || eqb s expects_unknown)) own (pick (eqb s expects_any) 0 (pick (eqb s enters) (n / 256 % 256) last))
+unfoldable pub byte_after : Store → ℕ → ℕ → ℕ → ℕ
+byte_after Store.Sends own n last = own
+byte_after Store.Expects own n last = own
+byte_after Store.ExpectsUnknown own n last = own
+byte_after Store.ExpectsAny own n last = 0
+byte_after Store.Enters own n last = n / 256 % 256
+byte_after s own n last = last
 
 -- an expected byte's kind: 1 where it is known, 2 where it is to be unknown, 0 where any byte will do; of an entry n its low byte
-unfoldable pub kind_after : ℕ → ℕ → ℕ → ℕ
-kind_after s n last = pick (eqb s expects) 1 (pick (eqb s expects_any) 0 (pick (eqb s expects_unknown) 2 (pick (eqb s enters) (n % 256) last)))
+unfoldable pub kind_after : Store → ℕ → ℕ → ℕ
+kind_after Store.Expects n last = 1
+kind_after Store.ExpectsAny n last = 0
+kind_after Store.ExpectsUnknown n last = 2
+kind_after Store.Enters n last = n % 256
+kind_after s n last = last
 
 -- ---- a byte of a line
 
@@ -96,7 +126,12 @@ unfoldable pub taken_open : Reading → ℕ → ℕ → Reading
 taken_open r b m = pick (begins_remark r b) (remark_from r m) (pick (blank b) (passed_by r m) (goes_on_lem r b m))
 
 unfoldable pub taken : Reading → ℕ → ℕ → Reading
-taken r b m = pick (eqb r.mode in_words) (taken_open r b m) (pick (eqb r.mode in_remark) (remarked r m) (passed_by r m))
+taken r b m = taken_in r.mode
+  where
+    taken_in : Mode → Reading
+    taken_in Mode.Open = taken_open r b m
+    taken_in Mode.Remark = remarked r m
+    taken_in Mode.Wrong = passed_by r m
 
 -- ---- a word's end
 
@@ -110,8 +145,9 @@ abbrev pub went_to : Reading → Entry → Reading
 went_to r e =
     record { mode = r.mode; place = e.next; read = r.read; shown = replicate 24 0; word = no_word 0; sent = sent_after r.sent e.store r.word.number; expected = expected_after r.expected e.store r.word.number; last = byte_after e.store (byte_of r.word) r.word.number r.last; kind = kind_after e.store r.word.number r.kind; remark = r.remark; slots = slots_with r.slots e r.word; ended = r.ended; cr = r.cr; mark = r.mark }
 
-unfoldable pub went : Reading → Entry → Reading
-went r e = pick (eqb e.class 255) (mistaken r) (went_to r e)
+unfoldable pub went : Reading → Option Entry → Reading
+went r None = mistaken r
+went r (Some e) = went_to r e
 
 -- the word w at the place p is over before the byte b: a name before a blank or the line's end; any other where b ends words, and a sign before any byte
 unfoldable pub word_ends : ℕ → Word → ℕ → Bool
@@ -119,7 +155,7 @@ word_ends p w b = pick (takes_name p) (blank b || line_end b) (ends_words b || i
 
 -- a word stands before the byte b, and is over
 abbrev pub over_at : Reading → ℕ → Bool
-over_at r b = (eqb r.mode in_words && not (eqb r.word.length 0)) && word_ends r.place r.word b
+over_at r b = (is_open r.mode && not (eqb r.word.length 0)) && word_ends r.place r.word b
 
 -- the line before the byte b: after a line's end a line begins
 unfoldable pub closed : Reading → ℕ → Reading
@@ -192,7 +228,7 @@ read_on h (b ∷ bs) = read_on (stepped h b) bs
 unfoldable pub line_of : Reading → Line
 line_of r =
     record {
-      verb = pick (eqb r.mode wrong) verbs.wrong (pick (can_end r.place) (get_or r.slots verb 0 % 256) verbs.wrong);
+      verb = pick (is_wrong r.mode) Verb.Wrong (pick (can_end r.place) (verbs.verb_of (get_or r.slots verb 0 % 256)) Verb.Wrong);
       slots = r.slots;
       sent = r.sent;
       expected = r.expected;
@@ -200,7 +236,7 @@ line_of r =
       place = r.place;
       word = r.shown;
       length = r.word.length;
-      column = pick (eqb r.mode in_words) (one_more_lem r.read) r.word.column;
+      column = pick (is_open r.mode) (one_more_lem r.read) r.word.column;
     }
 
 -- ---- the promises

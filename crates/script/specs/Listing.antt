@@ -1,6 +1,7 @@
 -- Lines of a script, each with what it says, wrong lines, each with its mistake, the hints of some, line ends and remarks: tables for a reader. That the
 -- definitions give each of them is proved in proofs/Listing.
-use Rattle.std.specs.Prelude.{ℕ, List, [], ◌∷◌, replicate, set, take}
+use Rattle.hinting.specs.declared.Hint.{Hint}
+use Rattle.std.specs.Prelude.{ℕ, Option, List, [], ◌∷◌, replicate, set, take}
 use Prim.Native.String.{String}
 use Rattle.rules.specs.Words.{pick}
 use Rattle.rules.specs.Texts.{ascii}
@@ -35,7 +36,7 @@ pub record Shown : Type 0 where
 
 abbrev pub show_line : List ℕ → Shown
 show_line text =
-    record { verbs = (line text).verb; slots = (line text).slots; frame = take (line text).sent (whole text).frame; expected = take (line text).expected (whole text).expected; known = take (line text).expected (whole text).known }
+    record { verbs = verbs.number (line text).verb; slots = (line text).slots; frame = take (line text).sent (whole text).frame; expected = take (line text).expected (whole text).expected; known = take (line text).expected (whole text).known }
 
 -- a wrong line: where in its grammar the mistake is, the wrong word's first bytes, its length and its column
 pub record Mistaken : Type 0 where
@@ -50,7 +51,7 @@ mistake p w n c = record { verb = verbs.wrong; place = p; first = w; length = n;
 
 abbrev pub show_mistake : List ℕ → Mistaken
 show_mistake text =
-    record { verb = (line text).verb; place = (line text).place; first = take (line text).length (line text).word; length = (line text).length; column = (line text).column }
+    record { verb = verbs.number (line text).verb; place = (line text).place; first = take (line text).length (line text).word; length = (line text).length; column = (line text).column }
 
 -- a row: a line's bytes, and what it is
 pub record Row : Type 0 where
@@ -87,18 +88,18 @@ wrong text p w n c = record { text = ascii text; is = mistake p (ascii w) n c }
 -- a wrong line's hint
 pub record HintRow : Type 0 where
   pub text : List ℕ
-  pub is : ℕ
+  pub is : Option Hint
 
-abbrev pub hinted : String → ℕ → HintRow
+abbrev pub hinted : String → Option Hint → HintRow
 hinted text h = record { text = ascii text; is = h }
 
-abbrev pub show_hint : List ℕ → ℕ
+abbrev pub show_hint : List ℕ → Option Hint
 show_hint text = hint_of (line text).place (line text).word (line text).length
 
 -- the verbs of a script's lines, the last one ended by the input's end
 unfoldable pub verbs_from : Reading → List ℕ → List ℕ
-verbs_from r [] = (line_of (advanced r 0x0A)).verb ∷ []
-verbs_from r (b ∷ bs) = pick (advanced r b).ended ((line_of (advanced r b)).verb ∷ verbs_from (advanced r b) bs) (verbs_from (advanced r b) bs)
+verbs_from r [] = verbs.number (line_of (advanced r 0x0A)).verb ∷ []
+verbs_from r (b ∷ bs) = pick (advanced r b).ended (verbs.number (line_of (advanced r b)).verb ∷ verbs_from (advanced r b) bs) (verbs_from (advanced r b) bs)
 
 pub record EndRow : Type 0 where
   pub text : List ℕ

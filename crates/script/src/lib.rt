@@ -7,14 +7,14 @@ ghost use Rattle.std.specs.Prelude.{◌≡◌};
 ghost use Rattle.script.specs.Lines.{fresh, stored, StepPromise, FinishPromise};
 
 pub use lines::line_of;
+use grammar::Verb;
 use spelling::Word;
 
 // ---- what a line says
 
 #[derive(Clone, Copy)]
 pub struct Line {
-    // 31: a mistake was met, or the line ended too early
-    pub verb: u8,
+    pub verb: Verb,
     pub slots: [u64; 24],
     // bytes of the frame, at most 65,537
     pub sent: usize,
@@ -34,10 +34,19 @@ pub struct Line {
 
 // ---- a line half read
 
+#[derive(Clone, Copy, PartialEq, Eq)]
+pub enum Mode {
+    // words may come
+    Open,
+    // the rest of the line is a remark
+    Remark,
+    // a mistake was met, the word is the wrong one
+    Wrong,
+}
+
 #[derive(Clone, Copy)]
 pub struct Reading {
-    // 0 open; 1 the rest is a remark; 2 a mistake was met, the word is the wrong one
-    pub mode: u8,
+    pub mode: Mode,
     pub place: u8,
     // bytes of the line so far
     pub read: usize,
@@ -47,7 +56,7 @@ pub struct Reading {
     // counts of stored bytes
     pub sent: usize,
     pub expected: usize,
-    // the last stored byte, and its kind where it is an expected one
+    // the last stored byte, and its kind where it is an expected one: a byte too, since of a list's entry it is the low one
     pub last: u8,
     pub kind: u8,
     // bytes of the remark so far

@@ -1,40 +1,37 @@
 -- What a line asks for, by its verb.
-use Rattle.std.specs.Prelude.{ℕ, ◌==◌}
-use Rattle.rules.specs.Words.{pick}
-use Rattle.grammar.specs.Verbs as verbs
+use Rattle.grammar.specs.declared.Verb.{Verb}
 use Rattle.standing.specs.declared.Call.{Call}
 use Rattle.standing.specs.declared.Deed.{Deed}
-use Rattle.standing.specs.declared.Event.{Event}
+use Rattle.chip.specs.declared.events.Event.{Event}
 use Rattle.standing.specs.declared.Post.{Post}
 use Rattle.standing.specs.declared.Question.{Question}
 use Rattle.standing.specs.declared.Setting.{Setting}
 
-unfoldable pub deed_of : ℕ → Deed
-deed_of v =
-    pick (v == verbs.blank) Deed.Nothing
-    (pick (v == verbs.frame) (Deed.Event Event.Frame)
-    (pick (v == verbs.done) (Deed.Event Event.Completion)
-    (pick (v == verbs.cut) (Deed.Event Event.Cut)
-    (pick (v == verbs.new) (Deed.Setting Setting.New)
-    (pick (v == verbs.status) (Deed.Question Question.Status)
-    (pick (v == verbs.work) (Deed.Question Question.Work)
-    (pick (v == verbs.locks) (Deed.Question Question.Locks)
-    (pick (v == verbs.dump) (Deed.Question Question.Dump)
-    (pick (v == verbs.full) (Deed.Setting Setting.Full)
-    (pick (v == verbs.short) (Deed.Setting Setting.Short)
-    (pick (v == verbs.strict) (Deed.Setting Setting.Strict)
-    (pick (v == verbs.fill) (Deed.Setting Setting.Fill)
-    (pick (v == verbs.buffer) (Deed.Setting Setting.Buffer)
-    (pick (v == verbs.lend) (Deed.Setting Setting.Lend)
-    (pick (v == verbs.records) (Deed.Setting Setting.Record)
-    (pick (v == verbs.is) (Deed.Question Question.Is)
-    (pick (v == verbs.pattern) (Deed.Setting Setting.Pattern)
-    (pick (v == verbs.save) (Deed.Post Post.Save)
-    (pick (v == verbs.load) (Deed.Post Post.Load)
-    (pick (v == verbs.save_raw) (Deed.Post Post.SaveRaw)
-    (pick (v == verbs.load_raw) (Deed.Post Post.LoadRaw)
-    (pick (v == verbs.compare_raw) (Deed.Post Post.CompareRaw)
-    (pick (v == verbs.store) (Deed.Call Call.Store)
-    (pick (v == verbs.find) (Deed.Call Call.Find)
-    (pick (v == verbs.stations) (Deed.Call Call.Stations)
-    Deed.Wrong)))))))))))))))))))))))))
+unfoldable pub deed_of : Verb → Deed
+deed_of Verb.Blank = Deed.Nothing
+deed_of Verb.Frame = Deed.Event Event.Frame
+deed_of Verb.Done = Deed.Event Event.Completion
+deed_of Verb.Cut = Deed.Event Event.Cut
+deed_of Verb.New = Deed.Setting Setting.New
+deed_of Verb.Status = Deed.Question Question.Status
+deed_of Verb.Work = Deed.Question Question.Work
+deed_of Verb.Locks = Deed.Question Question.Locks
+deed_of Verb.Dump = Deed.Question Question.Dump
+deed_of Verb.Full = Deed.Setting Setting.Full
+deed_of Verb.Short = Deed.Setting Setting.Short
+deed_of Verb.Strict = Deed.Setting Setting.Strict
+deed_of Verb.Fill = Deed.Setting Setting.Fill
+deed_of Verb.Buffer = Deed.Setting Setting.Buffer
+deed_of Verb.Lend = Deed.Setting Setting.Lend
+deed_of Verb.Record = Deed.Setting Setting.Record
+deed_of Verb.Is = Deed.Question Question.Is
+deed_of Verb.Pattern = Deed.Setting Setting.Pattern
+deed_of Verb.Save = Deed.Post Post.Save
+deed_of Verb.Load = Deed.Post Post.Load
+deed_of Verb.SaveRaw = Deed.Post Post.SaveRaw
+deed_of Verb.LoadRaw = Deed.Post Post.LoadRaw
+deed_of Verb.CompareRaw = Deed.Post Post.CompareRaw
+deed_of Verb.Store = Deed.Call Call.Store
+deed_of Verb.Find = Deed.Call Call.Find
+deed_of Verb.Stations = Deed.Call Call.Stations
+deed_of Verb.Wrong = Deed.Wrong

@@ -3,37 +3,39 @@ ghost use Rattle.std.specs.Prelude.{◌≡◌};
 ghost use Rattle.standing.specs.Deeds.{deed_of};
 
 use crate::{Call, Deed, Event, Post, Question, Setting};
+use grammar::Verb;
 
-pub fn deed_of(verb: u8) -> Deed
+#[tactic(auto, unfolding(crate::specs::Deeds::deed_of))]
+pub fn deed_of(verb: Verb) -> Deed
     ensures { result ≡ deed_of verb }
 {
     match verb {
-        0 => Deed::Nothing,
-        1 => Deed::Event(Event::Frame),
-        2 => Deed::Event(Event::Completion),
-        3 => Deed::Event(Event::Cut),
-        4 => Deed::Setting(Setting::New),
-        5 => Deed::Question(Question::Status),
-        6 => Deed::Question(Question::Work),
-        7 => Deed::Question(Question::Locks),
-        8 => Deed::Question(Question::Dump),
-        9 => Deed::Setting(Setting::Full),
-        10 => Deed::Setting(Setting::Short),
-        11 => Deed::Setting(Setting::Strict),
-        12 => Deed::Setting(Setting::Fill),
-        13 => Deed::Setting(Setting::Buffer),
-        14 => Deed::Setting(Setting::Lend),
-        15 => Deed::Setting(Setting::Record),
-        16 => Deed::Question(Question::Is),
-        17 => Deed::Setting(Setting::Pattern),
-        18 => Deed::Post(Post::Save),
-        19 => Deed::Post(Post::Load),
-        20 => Deed::Post(Post::SaveRaw),
-        21 => Deed::Post(Post::LoadRaw),
-        22 => Deed::Post(Post::CompareRaw),
-        23 => Deed::Call(Call::Store),
-        24 => Deed::Call(Call::Find),
-        25 => Deed::Call(Call::Stations),
-        _ => Deed::Wrong,
+        Verb::Blank => Deed::Nothing,
+        Verb::Frame => Deed::Event(Event::Frame),
+        Verb::Done => Deed::Event(Event::Completion),
+        Verb::Cut => Deed::Event(Event::Cut),
+        Verb::New => Deed::Setting(Setting::New),
+        Verb::Status => Deed::Question(Question::Status),
+        Verb::Work => Deed::Question(Question::Work),
+        Verb::Locks => Deed::Question(Question::Locks),
+        Verb::Dump => Deed::Question(Question::Dump),
+        Verb::Full => Deed::Setting(Setting::Full),
+        Verb::Short => Deed::Setting(Setting::Short),
+        Verb::Strict => Deed::Setting(Setting::Strict),
+        Verb::Fill => Deed::Setting(Setting::Fill),
+        Verb::Buffer => Deed::Setting(Setting::Buffer),
+        Verb::Lend => Deed::Setting(Setting::Lend),
+        Verb::Record => Deed::Setting(Setting::Record),
+        Verb::Is => Deed::Question(Question::Is),
+        Verb::Pattern => Deed::Setting(Setting::Pattern),
+        Verb::Save => Deed::Post(Post::Save),
+        Verb::Load => Deed::Post(Post::Load),
+        Verb::SaveRaw => Deed::Post(Post::SaveRaw),
+        Verb::LoadRaw => Deed::Post(Post::LoadRaw),
+        Verb::CompareRaw => Deed::Post(Post::CompareRaw),
+        Verb::Store => Deed::Call(Call::Store),
+        Verb::Find => Deed::Call(Call::Find),
+        Verb::Stations => Deed::Call(Call::Stations),
+        Verb::Wrong => Deed::Wrong,
     }
 }

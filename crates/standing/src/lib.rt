@@ -6,6 +6,7 @@ mod deeds;
 ghost use Rattle.std.specs.Prelude.{◌≡◌};
 ghost use Rattle.standing.specs.Benches.{unjudged, begun, with_reading, with_bench, next_line, wrong_counted};
 
+pub use chip::Event;
 pub use deeds::deed_of;
 use expecting::Verdict;
 use rules::Chip;
@@ -22,13 +23,6 @@ pub enum Deed {
     Post(Post),
     Call(Call),
     Wrong,
-}
-
-#[derive(Clone, Copy)]
-pub enum Event {
-    Frame,
-    Completion,
-    Cut,
 }
 
 #[derive(Clone, Copy)]
@@ -103,14 +97,7 @@ pub struct Playing {
 fn unjudged() -> Verdict
     ensures { result ≡ unjudged }
 {
-    Verdict {
-        number: false,
-        strict: false,
-        length: false,
-        kept: false,
-        place: 0,
-        compared: 0,
-    }
+    Verdict::default()
 }
 
 // Nothing of a script is read.
@@ -118,24 +105,20 @@ pub fn start(strict: bool) -> Playing
     ensures { result ≡ begun strict }
 {
     let chip = chip::new();
-    let tally = tallies::no_events();
-    let bench = Bench {
-        chip,
-        tally,
-        line: 0,
-        array: 2097152,
-        security: 2048,
-        full: false,
-        strict,
-    };
-    let reading = script::start();
-    let verdict = unjudged();
     Playing {
-        bench,
-        reading,
+        bench: Bench {
+            chip,
+            tally: tallies::no_events(),
+            line: 0,
+            array: 2097152,
+            security: 2048,
+            full: false,
+            strict,
+        },
+        reading: script::start(),
         before: chip,
         number: 0,
-        verdict,
+        verdict: unjudged(),
         held: 0,
     }
 }
@@ -143,34 +126,28 @@ pub fn start(strict: bool) -> Playing
 pub fn with_reading(p: Playing, reading: Reading) -> Playing
     ensures { result ≡ with_reading p reading }
 {
-    let mut next = p;
-    next.reading = reading;
-    next
+    Playing { reading, ..p }
 }
 
 pub fn with_bench(p: Playing, bench: Bench) -> Playing
     ensures { result ≡ with_bench p bench }
 {
-    let mut next = p;
-    next.bench = bench;
-    next
+    Playing { bench, ..p }
 }
 
 // The next line of the script begins: nothing came of it yet.
 pub fn next_line(p: Playing) -> Playing
     ensures { result ≡ next_line p }
 {
-    let mut bench = p.bench;
-    bench.line = std::num::wrapping_add_u64(bench.line, 1);
-    let before = bench.chip;
-    let reading = p.reading;
-    let none = unjudged();
     Playing {
-        bench,
-        reading,
-        before,
+        bench: Bench {
+            line: p.bench.line.wrapping_add(1),
+            ..p.bench
+        },
+        reading: p.reading,
+        before: p.bench.chip,
         number: 0,
-        verdict: none,
+        verdict: unjudged(),
         held: 0,
     }
 }
@@ -178,8 +155,6 @@ pub fn next_line(p: Playing) -> Playing
 pub fn wrong(p: Playing) -> Playing
     ensures { result ≡ wrong_counted p }
 {
-    let mut bench = p.bench;
-    let tally = tallies::with_wrong_line(bench.tally);
-    bench.tally = tally;
-    with_bench(p, bench)
+    let tally = tallies::with_wrong_line(p.bench.tally);
+    with_bench(p, Bench { tally, ..p.bench })
 }

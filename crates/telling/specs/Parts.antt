@@ -10,7 +10,7 @@ use Rattle.fields.specs.Records.{slot}
 use Rattle.writing.specs.declared.Row.{Row}
 use Rattle.writing.specs.Rows.{blank}
 use Rattle.rows.specs.Events.{remark_row}
-use Rattle.standing.specs.declared.Event.{Event}
+use Rattle.chip.specs.declared.events.Event.{Event}
 use Rattle.standing.specs.declared.Playing.{Playing}
 use Rattle.standing.specs.Deeds.{deed_of}
 use Rattle.standing.specs.Benches.{front}

@@ -1,6 +1,8 @@
 use Rattle.grammar.specs.Table.{rows_in}
 use Rattle.grammar.proofs.Lookups.{rows_are, row_met, other_place, other_class, rows_end}
-use mathlib.Core.Path.{sym, ◌∙◌}
+use mathlib.Core.Path.{sym, ap, ◌∙◌}
+use Rattle.std.specs.Prelude.{Some}
+use Rattle.grammar.specs.declared.Entry.{Entry}
 use Rattle.grammar.proofs.table.first_of.Goals as goal
 use Rattle.grammar.proofs.table.first_of.Goals.{then-less-place+else-has_class, else-less-place}
 
@@ -10,7 +12,7 @@ loop-row-init c = rw (c.as_chunks.ensures.front, rows_are)
 
 pub returns-then-has_class : goal.returns-then-has_class
 returns-then-has_class c =
-    c.entry_of-entry.ensures
+    ap (λ (e : Entry). Some e) c.entry_of-entry.ensures
     ∙ row_met _ _ _ _ _ c.loop-row-test.true (sym c.less.ensures ∙ c.if-less-place.true) (rw c.entry_of-entry.ensures at (sym c.has_class.ensures ∙ c.if-has_class.true))
     ∙ c.loop-row.invariant
 
