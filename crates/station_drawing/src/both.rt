@@ -1,9 +1,9 @@
-// Both models' calls and events side by side, and in what the two differ: a bit for each comparison, of the same number as the difference that is planted for it.
+// Both models' calls and events side by side, and in what the two differ.
+use crate::comparisons::{Comparison, bit};
 use crate::lists::data_of;
 use crate::showing;
-use comparing::bytes::{same, same_front, within};
 use comparing::mapping::{flat_of, same_records};
-use image_drawing::places::{BEFORE, Identity, Memory, all_are, set, turn};
+use image_drawing::places::{BEFORE, Identity, Memory, all_are, turn};
 use rules::{Chip, Circumstances, Tear};
 use second::{Extra, Flat};
 use second_stations::Store;
@@ -11,6 +11,24 @@ use stations::StoreRecord;
 
 // Reply or marks, with a byte more than the list has.
 pub type Reply = [u8; 65537];
+
+// A lookup's buffer, with a byte more than the data have.
+type Buffer = [u8; 29];
+
+// The memories and buffers of a model.
+#[derive(Drop)]
+pub struct Side<'a> {
+    pub array: &'a mut Memory,
+    pub security: &'a mut Identity,
+    pub reply: &'a mut Reply,
+    pub marks: &'a mut Reply,
+}
+
+#[derive(Drop)]
+pub struct Sides<'a> {
+    pub first: Side<'a>,
+    pub second: Side<'a>,
+}
 
 // The two models' records.
 #[derive(Clone, Copy)]
@@ -29,21 +47,19 @@ pub struct Lengths {
     pub bytes: usize,
 }
 
+pub const RIGHT: Lengths = Lengths {
+    array: 2097152,
+    security: 2048,
+    reply: 65536,
+    marks: 65536,
+    bytes: 28,
+};
+
 // What a call or an event came to: the records, and in what they differ.
 #[derive(Clone, Copy)]
 pub struct Went {
     pub pair: Pair,
     pub odd: u64,
-}
-
-pub fn right_lengths() -> Lengths {
-    Lengths {
-        array: 2097152,
-        security: 2048,
-        reply: 65536,
-        marks: 65536,
-        bytes: 28,
-    }
 }
 
 fn paired(c: Chip, f: Flat) -> Pair {
@@ -70,273 +86,239 @@ pub fn new_pair() -> Pair {
     paired(chip::new(), second::fresh())
 }
 
-pub fn chip_of(p: Pair) -> Chip {
-    let r = p.first;
-    r.chip
+// ---- what is lent
+
+fn on_parts<R, F: FnOnce(&mut [u8], &mut [u8], &mut [u8], &mut [u8]) -> R>(
+    l: Lengths,
+    array: &mut [u8],
+    security: &mut [u8],
+    reply: &mut [u8],
+    marks: &mut [u8],
+    f: F,
+) -> R
+    requires { F.IsAlwaysCallable f }
+{
+    let a = l.array.min(array.len());
+    let i = l.security.min(security.len());
+    let r = l.reply.min(reply.len());
+    let m = l.marks.min(marks.len());
+    f(
+        &mut array[..a],
+        &mut security[..i],
+        &mut reply[..r],
+        &mut marks[..m],
+    )
 }
 
-fn flat_in(p: Pair) -> Flat {
-    let r = p.second;
-    r.chip
-}
-
-pub fn number_of(p: Pair) -> u8 {
-    let r = p.first;
-    r.number
-}
-
-pub fn polls_of(p: Pair) -> u64 {
-    let r = p.first;
-    r.polls
-}
-
-// ---- comparisons
-
-// The bit of a comparison that does not hold.
-pub fn bit(holds: bool, n: u64) -> u64 {
-    if holds {
-        return 0;
+impl Side<'_> {
+    // What a model does on as much of each memory and buffer as is lent.
+    fn lent<R, F: FnOnce(&mut [u8], &mut [u8], &mut [u8], &mut [u8]) -> R>(
+        &mut self,
+        l: Lengths,
+        f: F,
+    ) -> R
+        requires { F.IsAlwaysCallable f }
+    {
+        let array = &mut *self.array;
+        let security = &mut *self.security;
+        let reply = &mut *self.reply;
+        let marks = &mut *self.marks;
+        on_parts(l, array, security, reply, marks, f)
     }
-    1 << (n % 64)
+
+    // Before a call.
+    fn cleared(&mut self) {
+        self.reply.fill(BEFORE);
+        self.marks.fill(BEFORE);
+    }
 }
+
+// ---- comparisons: each has a difference that is planted for it
 
 // Another WEL, where the planted difference is this one.
-fn planted_record(f: Flat, plant: u64, n: u64) -> Flat {
-    let mut next = f;
-    if plant == n {
-        next.wel = !f.wel;
+fn planted_record(f: Flat, plant: Option<Comparison>, c: Comparison) -> Flat {
+    if plant == Some(c) {
+        Flat { wel: !f.wel, ..f }
+    } else {
+        f
     }
-    next
 }
 
 // The last bit is another one, where the planted difference is this one.
-fn planted_number(x: u64, plant: u64, n: u64) -> u64 {
-    if plant == n {
-        return x ^ 1;
-    }
-    x
+fn planted_number(x: u64, plant: Option<Comparison>, c: Comparison) -> u64 {
+    x ^ u64::from(plant == Some(c))
 }
 
 // Number, polls and record; and that 1 leaves the record as it was.
-fn odd_records(before: Pair, after: Pair, plant: u64) -> u64 {
+fn odd_records(before: Pair, after: Pair, plant: Option<Comparison>) -> u64 {
     let a = after.first;
     let b = after.second;
-    let f = b.chip;
-    let was = flat_in(before);
-    let left = (a.number != 1) | same_records(a.chip, planted_record(was, plant, 9));
-    bit(
-        a.number as u64 == planted_number(b.number as u64, plant, 1),
-        1,
-    ) | bit(a.polls == planted_number(b.polls, plant, 2), 2)
-        | bit(same_records(a.chip, planted_record(f, plant, 3)), 3)
-        | bit(left, 9)
+    let was = planted_record(before.second.chip, plant, Comparison::RecordLeft);
+    let number = planted_number(u64::from(b.number), plant, Comparison::Number);
+    let polls = planted_number(b.polls, plant, Comparison::Polls);
+    let record = planted_record(b.chip, plant, Comparison::Record);
+    let left = a.number != 1 || same_records(a.chip, was);
+    bit(u64::from(a.number) == number, Comparison::Number)
+        | bit(a.polls == polls, Comparison::Polls)
+        | bit(same_records(a.chip, record), Comparison::Record)
+        | bit(left, Comparison::RecordLeft)
 }
 
-fn odd_memories(
-    plant: u64,
-    array: &Memory,
-    security: &Identity,
-    array2: &mut Memory,
-    security2: &mut Identity,
-) -> u64 {
-    if plant == 4 {
-        turn(array2);
+fn planted_memories(plant: Option<Comparison>, second: &mut Side) {
+    if plant == Some(Comparison::Array) {
+        turn(second.array);
     }
-    if plant == 5 {
-        turn(security2);
+    if plant == Some(Comparison::SecurityId) {
+        turn(second.security);
     }
-    let odd = bit(same(array, array2), 4) | bit(same(security, security2), 5);
-    if plant == 4 {
-        turn(array2);
-    }
-    if plant == 5 {
-        turn(security2);
-    }
+}
+
+fn odd_memories(plant: Option<Comparison>, first: &mut Side, second: &mut Side) -> u64 {
+    planted_memories(plant, second);
+    let odd = bit(first.array[..] == second.array[..], Comparison::Array)
+        | bit(
+            first.security[..] == second.security[..],
+            Comparison::SecurityId,
+        );
+    planted_memories(plant, second);
     odd
 }
 
-fn planted_read(number: u8, plant: u64, reply: &mut Reply, reply2: &mut Reply, marks2: &mut Reply) {
-    if plant == 6 {
-        turn(reply2);
+fn planted_read(number: u8, plant: Option<Comparison>, first: &mut Side, second: &mut Side) {
+    if plant == Some(Comparison::Reply) {
+        turn(second.reply);
     }
-    if plant == 7 {
-        turn(marks2);
+    if plant == Some(Comparison::Marks) {
+        turn(second.marks);
     }
-    if (plant == 10) & (number == 1) {
-        turn(reply);
-        turn(reply2);
+    if plant == Some(Comparison::ReadLeft) && number == 1 {
+        turn(first.reply);
+        turn(second.reply);
     }
 }
 
 // Reply and marks; and that 1 leaves both as they were.
-fn odd_read(
-    number: u8,
-    plant: u64,
-    reply: &mut Reply,
-    marks: &mut Reply,
-    reply2: &mut Reply,
-    marks2: &mut Reply,
-) -> u64 {
-    planted_read(number, plant, reply, reply2, marks2);
-    let left = (number != 1) | all_are(reply, BEFORE) & all_are(marks, BEFORE);
-    let odd = bit(same(reply, reply2), 6) | bit(same(marks, marks2), 7) | bit(left, 10);
-    planted_read(number, plant, reply, reply2, marks2);
+fn odd_read(number: u8, plant: Option<Comparison>, first: &mut Side, second: &mut Side) -> u64 {
+    planted_read(number, plant, first, second);
+    let left = number != 1 || all_are(first.reply, BEFORE) && all_are(first.marks, BEFORE);
+    let odd = bit(first.reply[..] == second.reply[..], Comparison::Reply)
+        | bit(first.marks[..] == second.marks[..], Comparison::Marks)
+        | bit(left, Comparison::ReadLeft);
+    planted_read(number, plant, first, second);
     odd
-}
-
-fn all_before(reply: &mut Reply, marks: &mut Reply, reply2: &mut Reply, marks2: &mut Reply) {
-    set(reply, BEFORE);
-    set(marks, BEFORE);
-    set(reply2, BEFORE);
-    set(marks2, BEFORE);
 }
 
 // ---- lookup
 
-fn first_looks(
-    s: StoreRecord,
-    l: Lengths,
-    station: u16,
-    array: &mut [u8],
-    security: &mut [u8],
-    reply: &mut [u8],
-    marks: &mut [u8],
-    buffer: &mut [u8],
-) -> StoreRecord {
-    let a = within(l.array, array);
-    let i = within(l.security, security);
-    let r = within(l.reply, reply);
-    let m = within(l.marks, marks);
-    let n = within(l.bytes, buffer);
-    store::lookup(
-        s,
-        &mut array[..a],
-        &mut security[..i],
-        &mut reply[..r],
-        &mut marks[..m],
-        station,
-        &mut buffer[..n],
-    )
-}
-
-fn second_looks(
-    s: Store,
-    l: Lengths,
-    station: u16,
-    array: &mut [u8],
-    security: &mut [u8],
-    reply: &mut [u8],
-    marks: &mut [u8],
-    buffer: &mut [u8],
-) -> Store {
-    let a = within(l.array, array);
-    let i = within(l.security, security);
-    let r = within(l.reply, reply);
-    let m = within(l.marks, marks);
-    let n = within(l.bytes, buffer);
-    second_stations::lookup(
-        s,
-        &mut array[..a],
-        &mut security[..i],
-        &mut reply[..r],
-        &mut marks[..m],
-        station,
-        &mut buffer[..n],
-    )
-}
-
-// What a lookup has to give: nothing that is known, or the data that a byte stands for.
-#[derive(Clone, Copy)]
-pub struct Wanted {
-    pub known: bool,
-    pub from: u8,
-}
-
-fn planted_buffers(number: u8, plant: u64, buffer: &mut [u8; 29], buffer2: &mut [u8; 29]) {
-    if plant == 8 {
-        turn(buffer2);
-    }
-    if (plant == 11) & (number != 0) | (plant == 12) & (number == 0) {
-        turn(buffer);
-        turn(buffer2);
+fn planted_buffers(
+    number: u8,
+    plant: Option<Comparison>,
+    buffer: &mut Buffer,
+    buffer2: &mut Buffer,
+) {
+    match plant {
+        Some(Comparison::Buffer) => turn(buffer2),
+        Some(Comparison::BufferLeft) if number != 0 => {
+            turn(buffer);
+            turn(buffer2);
+        }
+        Some(Comparison::DataGivenBack) if number == 0 => {
+            turn(buffer);
+            turn(buffer2);
+        }
+        _ => {}
     }
 }
 
-fn gives(number: u8, wanted: Wanted, buffer: &[u8]) -> bool {
-    if (number != 0) | !wanted.known {
-        return true;
+// A done lookup gives the data that a byte stands for, where these are known.
+fn gives(number: u8, wanted: Option<u8>, buffer: &Buffer) -> bool {
+    match wanted {
+        Some(from) if number == 0 => data_of(from).starts_with(&buffer[..28]),
+        _ => true,
     }
-    let data = data_of(wanted.from);
-    same_front(28, &data, buffer)
 }
 
 // The buffers; that a refusal leaves them; and that they hold what is wanted.
 fn odd_buffers(
     number: u8,
-    wanted: Wanted,
-    plant: u64,
-    buffer: &mut [u8; 29],
-    buffer2: &mut [u8; 29],
+    wanted: Option<u8>,
+    plant: Option<Comparison>,
+    buffer: &mut Buffer,
+    buffer2: &mut Buffer,
 ) -> u64 {
     planted_buffers(number, plant, buffer, buffer2);
-    let left = (number == 0) | all_are(buffer, BEFORE);
-    bit(same(buffer, buffer2), 8) | bit(left, 11) | bit(gives(number, wanted, buffer), 12)
+    let left = number == 0 || all_are(buffer, BEFORE);
+    bit(buffer[..] == buffer2[..], Comparison::Buffer)
+        | bit(left, Comparison::BufferLeft)
+        | bit(gives(number, wanted, buffer), Comparison::DataGivenBack)
 }
 
 // "17 exactly if lookup's read shows no such live slot"; a lookup has no polls.
-fn odd_lookup(number: u8, polls: u64, plant: u64, station: u16, reply: &Reply) -> u64 {
-    let none = showing::live_slots(reply, station) == 0;
-    let due = planted_number(if none { 17 } else { 0 }, plant, 13);
-    let right = (number != 0) & (number != 17) | (number as u64 == due);
-    bit(right, 13) | bit(polls == planted_number(0, plant, 14), 14)
+fn odd_lookup(
+    number: u8,
+    polls: u64,
+    plant: Option<Comparison>,
+    station: u16,
+    reply: &Reply,
+) -> u64 {
+    let due = match showing::live_slots(reply, station) {
+        0 => 17,
+        _ => 0,
+    };
+    let due = planted_number(due, plant, Comparison::NumberByRead);
+    let right = !matches!(number, 0 | 17) || u64::from(number) == due;
+    bit(right, Comparison::NumberByRead)
+        | bit(
+            polls == planted_number(0, plant, Comparison::PollsByList),
+            Comparison::PollsByList,
+        )
 }
 
+fn looked(
+    p: Pair,
+    l: Lengths,
+    station: u16,
+    wanted: Option<u8>,
+    plant: Option<Comparison>,
+    first: &mut Side,
+    second: &mut Side,
+) -> Went {
+    first.cleared();
+    second.cleared();
+    let mut buffer = [BEFORE; 29];
+    let mut buffer2 = [BEFORE; 29];
+    let n = l.bytes.min(29);
+    let lent = &mut buffer[..n];
+    let lent2 = &mut buffer2[..n];
+    let pair = Pair {
+        first: first.lent(l, |a, i, r, m| {
+            store::lookup(p.first, a, i, r, m, station, lent)
+        }),
+        second: second.lent(l, |a, i, r, m| {
+            second_stations::lookup(p.second, a, i, r, m, station, lent2)
+        }),
+    };
+    let number = pair.first.number;
+    let odd = odd_records(p, pair, plant)
+        | odd_memories(plant, first, second)
+        | odd_read(number, plant, first, second)
+        | odd_buffers(number, wanted, plant, &mut buffer, &mut buffer2)
+        | odd_lookup(number, pair.first.polls, plant, station, first.reply);
+    Went { pair, odd }
+}
+
+// `wanted`: the byte that the data of a done lookup count up from, where it is known.
 pub fn looked_up(
     p: Pair,
     l: Lengths,
     station: u16,
-    wanted: Wanted,
-    plant: u64,
-    array: &mut Memory,
-    security: &mut Identity,
-    reply: &mut Reply,
-    marks: &mut Reply,
-    array2: &mut Memory,
-    security2: &mut Identity,
-    reply2: &mut Reply,
-    marks2: &mut Reply,
+    wanted: Option<u8>,
+    plant: Option<Comparison>,
+    sides: &mut Sides,
 ) -> Went {
-    all_before(reply, marks, reply2, marks2);
-    let mut buffer = [BEFORE; 29];
-    let mut buffer2 = [BEFORE; 29];
-    let first = first_looks(
-        p.first,
-        l,
-        station,
-        array,
-        security,
-        reply,
-        marks,
-        &mut buffer,
-    );
-    let second = second_looks(
-        p.second,
-        l,
-        station,
-        array2,
-        security2,
-        reply2,
-        marks2,
-        &mut buffer2,
-    );
-    let number = first.number;
-    let pair = Pair { first, second };
-    let odd = odd_records(p, pair, plant)
-        | odd_memories(plant, array, security, array2, security2)
-        | odd_read(number, plant, reply, marks, reply2, marks2)
-        | odd_buffers(number, wanted, plant, &mut buffer, &mut buffer2)
-        | odd_lookup(number, polls_of(pair), plant, station, reply);
-    Went { pair, odd }
+    let first = &mut sides.first;
+    let second = &mut sides.second;
+    looked(p, l, station, wanted, plant, first, second)
 }
 
 // ---- store
@@ -349,86 +331,60 @@ pub struct Call {
     pub allowance: u64,
 }
 
-fn first_stores(
-    s: StoreRecord,
-    l: Lengths,
-    c: Call,
-    list: &[u64],
-    array: &mut [u8],
-    security: &mut [u8],
-    reply: &mut [u8],
-    marks: &mut [u8],
-    data: &[u8],
-) -> StoreRecord {
-    let a = within(l.array, array);
-    let i = within(l.security, security);
-    let r = within(l.reply, reply);
-    let m = within(l.marks, marks);
-    let n = within(l.bytes, data);
-    store::store(
-        s,
-        &mut array[..a],
-        &mut security[..i],
-        &mut reply[..r],
-        &mut marks[..m],
-        c.station,
-        &data[..n],
-        c.allowance,
-        list,
-    )
-}
-
-fn second_stores(
-    s: Store,
-    l: Lengths,
-    c: Call,
-    list: &[u64],
-    array: &mut [u8],
-    security: &mut [u8],
-    reply: &mut [u8],
-    marks: &mut [u8],
-    data: &[u8],
-) -> Store {
-    let a = within(l.array, array);
-    let i = within(l.security, security);
-    let r = within(l.reply, reply);
-    let m = within(l.marks, marks);
-    let n = within(l.bytes, data);
-    second_stations::store(
-        s,
-        &mut array[..a],
-        &mut security[..i],
-        &mut reply[..r],
-        &mut marks[..m],
-        c.station,
-        &data[..n],
-        c.allowance,
-        list,
-    )
-}
-
-// Whether the read was done.
-fn was_read(number: u8) -> bool {
-    match number {
-        0 | 8 | 11 | 16 | 18 => true,
-        _ => false,
-    }
-}
-
 // "16 exactly if the read shows no empty slot"; done or 18 and the polls, as the list says of so many writes.
-fn odd_store(number: u8, polls: u64, c: Call, plant: u64, list: &[u64], reply: &Reply) -> u64 {
-    if !was_read(number) {
-        return bit(polls == planted_number(0, plant, 14), 14);
+fn odd_store(
+    number: u8,
+    polls: u64,
+    c: Call,
+    plant: Option<Comparison>,
+    list: &[u64],
+    reply: &Reply,
+) -> u64 {
+    let no_polls = polls == planted_number(0, plant, Comparison::PollsByList);
+    // whether the read was done
+    if !matches!(number, 0 | 8 | 11 | 16 | 18) {
+        return bit(no_polls, Comparison::PollsByList);
     }
     let full = !showing::has_empty(reply);
-    let right = full == (planted_number(number as u64, plant, 13) == 16);
-    if (number != 0) & (number != 18) {
-        return bit(right, 13) | bit(polls == planted_number(0, plant, 14), 14);
+    let says = planted_number(u64::from(number), plant, Comparison::NumberByRead);
+    let right = bit(full == (says == 16), Comparison::NumberByRead);
+    if !matches!(number, 0 | 18) {
+        return right | bit(no_polls, Comparison::PollsByList);
     }
-    let writes = std::num::wrapping_add_u64(2, showing::live_slots(reply, c.station));
+    let writes = showing::live_slots(reply, c.station).wrapping_add(2);
     let due = showing::due_of(list, c.allowance, writes);
-    let counted = (number == due.number) & (polls == planted_number(due.polls, plant, 14));
-    bit(right, 13) | bit(counted, 14)
+    let counted = number == due.number
+        && polls == planted_number(due.polls, plant, Comparison::PollsByList);
+    right | bit(counted, Comparison::PollsByList)
+}
+
+fn kept(
+    p: Pair,
+    l: Lengths,
+    c: Call,
+    list: &[u64],
+    plant: Option<Comparison>,
+    first: &mut Side,
+    second: &mut Side,
+) -> Went {
+    first.cleared();
+    second.cleared();
+    let data = data_of(c.from);
+    let lent = &data[..l.bytes.min(29)];
+    let pair = Pair {
+        first: first.lent(l, |a, i, r, m| {
+            store::store(p.first, a, i, r, m, c.station, lent, c.allowance, list)
+        }),
+        second: second.lent(l, |a, i, r, m| {
+            second_stations::store(p.second, a, i, r, m, c.station, lent, c.allowance, list)
+        }),
+    };
+    let number = pair.first.number;
+    let odd = odd_records(p, pair, plant)
+        | odd_memories(plant, first, second)
+        | odd_read(number, plant, first, second)
+        | odd_store(number, pair.first.polls, c, plant, list, first.reply);
+    Went { pair, odd }
 }
 
 pub fn stored(
@@ -436,153 +392,92 @@ pub fn stored(
     l: Lengths,
     c: Call,
     list: &[u64],
-    plant: u64,
-    array: &mut Memory,
-    security: &mut Identity,
-    reply: &mut Reply,
-    marks: &mut Reply,
-    array2: &mut Memory,
-    security2: &mut Identity,
-    reply2: &mut Reply,
-    marks2: &mut Reply,
+    plant: Option<Comparison>,
+    sides: &mut Sides,
 ) -> Went {
-    all_before(reply, marks, reply2, marks2);
-    let data = data_of(c.from);
-    let first = first_stores(p.first, l, c, list, array, security, reply, marks, &data);
-    let second = second_stores(
-        p.second, l, c, list, array2, security2, reply2, marks2, &data,
-    );
-    let number = first.number;
-    let pair = Pair { first, second };
-    let odd = odd_records(p, pair, plant)
-        | odd_memories(plant, array, security, array2, security2)
-        | odd_read(number, plant, reply, marks, reply2, marks2)
-        | odd_store(number, polls_of(pair), c, plant, list, reply);
-    Went { pair, odd }
+    let first = &mut sides.first;
+    let second = &mut sides.second;
+    kept(p, l, c, list, plant, first, second)
 }
 
 // ---- events between calls
 
-// What happens: 0 a frame, 1 a completion, else a power cut.
 #[derive(Clone, Copy)]
-pub struct Event {
-    pub kind: u64,
-    pub k: u64,
-    pub m: u8,
+pub enum Event<'a> {
+    Frame(&'a [u8]),
+    Completion,
+    PowerCut(Tear),
 }
 
 // A frame between calls is no reset of work, and has room for one reply byte.
-fn first_frame(c: Chip, array: &mut [u8], security: &mut [u8], sent: &[u8]) -> rules::After {
-    let mut reply = [0u8; 1];
-    let mut marks = [0u8; 1];
-    let tear = Tear { k: 0, m: 0 };
-    let x = Circumstances { tear };
-    chip::frame(c, array, security, sent, &mut reply, &mut marks, x)
-}
-
-fn second_frame(f: Flat, array: &mut [u8], security: &mut [u8], sent: &[u8]) -> second::Step {
-    let mut reply = [0u8; 1];
-    let mut marks = [0u8; 1];
-    let x = Extra { k: 0, m: 0 };
-    second::frame(f, array, security, sent, &mut reply, &mut marks, x)
-}
-
-fn first_happens(
-    c: Chip,
-    e: Event,
-    array: &mut [u8],
-    security: &mut [u8],
-    sent: &[u8],
-) -> rules::After {
-    let kind = e.kind;
-    let tear = Tear { k: e.k, m: e.m };
-    match kind {
-        0 => first_frame(c, array, security, sent),
-        1 => chip::completion(c, array, security),
-        _ => chip::power_cut(c, array, security, tear),
+fn first_happens(c: Chip, e: Event, array: &mut [u8], security: &mut [u8]) -> rules::After {
+    match e {
+        Event::Frame(sent) => {
+            let tear = Tear { k: 0, m: 0 };
+            let x = Circumstances { tear };
+            chip::frame(c, array, security, sent, &mut [0], &mut [0], x)
+        }
+        Event::Completion => chip::completion(c, array, security),
+        Event::PowerCut(tear) => chip::power_cut(c, array, security, tear),
     }
 }
 
-fn second_happens(
-    f: Flat,
-    e: Event,
-    array: &mut [u8],
-    security: &mut [u8],
-    sent: &[u8],
-) -> second::Step {
-    let kind = e.kind;
-    match kind {
-        0 => second_frame(f, array, security, sent),
-        1 => second::completion(f, array, security),
-        _ => second::power_cut(f, array, security, e.k, e.m),
+fn second_happens(f: Flat, e: Event, array: &mut [u8], security: &mut [u8]) -> second::Step {
+    match e {
+        Event::Frame(sent) => {
+            let x = Extra { k: 0, m: 0 };
+            second::frame(f, array, security, sent, &mut [0], &mut [0], x)
+        }
+        Event::Completion => second::completion(f, array, security),
+        Event::PowerCut(tear) => second::power_cut(f, array, security, tear.k, tear.m),
     }
 }
 
-// On as much of each memory as is lent.
-fn first_event(
-    c: Chip,
-    e: Event,
+fn passed(
+    p: Pair,
     l: Lengths,
-    array: &mut [u8],
-    security: &mut [u8],
-    sent: &[u8],
-) -> rules::After {
-    let a = within(l.array, array);
-    let i = within(l.security, security);
-    first_happens(c, e, &mut array[..a], &mut security[..i], sent)
-}
-
-fn second_event(
-    f: Flat,
     e: Event,
-    l: Lengths,
-    array: &mut [u8],
-    security: &mut [u8],
-    sent: &[u8],
-) -> second::Step {
-    let a = within(l.array, array);
-    let i = within(l.security, security);
-    second_happens(f, e, &mut array[..a], &mut security[..i], sent)
-}
-
-// The records keep their polls; their number is the event's.
-fn eventful(p: Pair, c: Chip, number: u8, f: Flat, number2: u8) -> Pair {
-    let a = p.first;
-    let b = p.second;
-    let first = StoreRecord {
-        chip: c,
-        number,
-        polls: a.polls,
+    plant: Option<Comparison>,
+    first: &mut Side,
+    second: &mut Side,
+) -> Went {
+    let a = first.lent(l, |array, security, _, _| {
+        first_happens(p.first.chip, e, array, security)
+    });
+    let b = second.lent(l, |array, security, _, _| {
+        second_happens(p.second.chip, e, array, security)
+    });
+    let answer = a.answer;
+    let number = chip::answer_number(answer);
+    // The records keep their polls; their number is the event's.
+    let pair = Pair {
+        first: StoreRecord {
+            chip: a.chip,
+            number,
+            ..p.first
+        },
+        second: Store {
+            chip: b.state,
+            number: b.number,
+            ..p.second
+        },
     };
-    let second = Store {
-        chip: f,
-        number: number2,
-        polls: b.polls,
-    };
-    Pair { first, second }
+    let due = planted_number(u64::from(b.number), plant, Comparison::EventNumber);
+    let record = planted_record(b.state, plant, Comparison::EventRecord);
+    let odd = bit(u64::from(number) == due, Comparison::EventNumber)
+        | bit(same_records(a.chip, record), Comparison::EventRecord)
+        | odd_memories(plant, first, second);
+    Went { pair, odd }
 }
 
 pub fn happened(
     p: Pair,
     l: Lengths,
     e: Event,
-    sent: &[u8],
-    plant: u64,
-    array: &mut Memory,
-    security: &mut Identity,
-    array2: &mut Memory,
-    security2: &mut Identity,
+    plant: Option<Comparison>,
+    sides: &mut Sides,
 ) -> Went {
-    let a = first_event(chip_of(p), e, l, array, security, sent);
-    let b = second_event(flat_in(p), e, l, array2, security2, sent);
-    let answer = a.answer;
-    let number = chip::answer_number(answer);
-    let c = a.chip;
-    let f = b.state;
-    let pair = eventful(p, c, number, f, b.number);
-    let same_number = number as u64 == planted_number(b.number as u64, plant, 15);
-    let odd = bit(same_number, 15)
-        | bit(same_records(c, planted_record(f, plant, 16)), 16)
-        | odd_memories(plant, array, security, array2, security2);
-    Went { pair, odd }
+    let first = &mut sides.first;
+    let second = &mut sides.second;
+    passed(p, l, e, plant, first, second)
 }

@@ -1,9 +1,11 @@
 // Calls and events that are drawn.
 ghost use Rattle.std.specs.Prelude.{◌≡◌, ◌≤◌, length, take};
 
-use crate::both::{Call, Event, Lengths};
+use crate::both::{Call, Event, Lengths, RIGHT};
+use crate::chips::Sort;
 use crate::lists::station_of;
 use drawing::dice::{draw, once_in, seed_of};
+use rules::Tear;
 
 // More entries than a call has writes.
 pub type Entries = [u64; 2304];
@@ -13,10 +15,7 @@ pub fn entries_within(n: usize, s: &[u64]) -> usize
     ensures within { result ≤ length s.now }
     ensures front { result ≡ length (take result s.now) }
 {
-    if n < s.len() {
-        return n;
-    }
-    s.len()
+    n.min(s.len())
 }
 
 // ---- storing calls
@@ -25,9 +24,9 @@ fn allowance_of(seed: u64) -> u64 {
     match draw(seed, 1, 64) {
         0 => 65535,
         1 => 65536,
-        2 => 0xffff_ffff_ffff_ffff,
-        3 | 4 | 5 => 0,
-        6 | 7 | 8 | 9 => 1,
+        2 => u64::MAX,
+        3..=5 => 0,
+        6..=9 => 1,
         10..=19 => 2,
         20..=29 => 3,
         30..=39 => 5,
@@ -56,7 +55,7 @@ pub fn call(seed: u64) -> Call {
 }
 
 // How many entries are lent.
-pub fn entries(seed: u64) -> usize {
+fn entry_count(seed: u64) -> usize {
     match draw(seed, 5, 16) {
         0 => 0,
         1 => 1,
@@ -71,79 +70,85 @@ fn large(seed: u64) -> u64 {
     match draw(seed, 7, 4) {
         0 => 65535,
         1 => 65536,
-        2 => 0xffff_ffff_ffff_ffff,
+        2 => u64::MAX,
         _ => 1000,
     }
+}
+
+// A poll within the allowance.
+fn within_allowance(seed: u64, question: u64, allowance: u64) -> u64 {
+    draw(seed, question, allowance % 512).wrapping_add(1)
 }
 
 // Mostly completion arrives within the allowance. Seldom never, or too late.
 fn some_entry(seed: u64, allowance: u64) -> u64 {
     match draw(seed, 8, 16) {
         0 => 0,
-        1 => std::num::wrapping_add_u64(allowance, 1),
+        1 => allowance.wrapping_add(1),
         2 => allowance,
         3 => large(seed),
-        _ => std::num::wrapping_add_u64(1, draw(seed, 9, allowance % 512)),
+        _ => within_allowance(seed, 9, allowance),
     }
 }
 
-fn within_allowance(seed: u64, allowance: u64) -> u64 {
-    std::num::wrapping_add_u64(1, draw(seed, 10, allowance % 512))
-}
-
-fn entry_of(style: u64, seed: u64, allowance: u64) -> u64 {
-    match style {
-        0 => 1,
-        1 | 2 => within_allowance(seed, allowance),
-        3 => draw(seed, 11, 4),
-        _ => some_entry(seed, allowance),
-    }
-}
-
-// One style for all entries of a call.
-pub fn fill_entries(list: &mut Entries, n: usize, seed: u64, allowance: u64) {
+// The entries of a call, in a lent list: one style for all of them.
+pub fn entries(list: &mut Entries, seed: u64, allowance: u64) -> &[u64] {
     let style = draw(seed, 12, 5);
-    let mut i: usize = 0;
-    while i < 2304 {
-        if i < n {
-            list[i] = entry_of(style, seed_of(seed, i as u64), allowance);
-        }
-        i += 1;
+    let n = entries_within(entry_count(seed), list);
+    for (i, entry) in list[..n].iter_mut().enumerate() {
+        let s = seed_of(seed, i as u64);
+        *entry = match style {
+            0 => 1,
+            1 | 2 => within_allowance(s, 10, allowance),
+            3 => draw(s, 11, 4),
+            _ => some_entry(s, allowance),
+        };
     }
+    &list[..n]
 }
 
 // ---- lengths
 
 fn wrong(right: usize, seed: u64) -> usize {
     match draw(seed, 13, 3) {
-        0 => std::num::wrapping_sub_usize(right, 1),
-        1 => std::num::wrapping_add_usize(right, 1),
+        0 => right.wrapping_sub(1),
+        1 => right.wrapping_add(1),
         _ => 0,
     }
 }
 
 // The array or the Security ID is wrong for a whole run.
-pub fn run_lengths(l: Lengths, array: bool, security: bool, seed: u64) -> Lengths {
-    let mut next = l;
-    if array {
-        next.array = wrong(2097152, seed);
+pub fn run_lengths(sort: Sort, seed: u64) -> Lengths {
+    match sort {
+        Sort::WrongArray => Lengths {
+            array: wrong(RIGHT.array, seed),
+            ..RIGHT
+        },
+        Sort::WrongSecurity => Lengths {
+            security: wrong(RIGHT.security, seed),
+            ..RIGHT
+        },
+        _ => RIGHT,
     }
-    if security {
-        next.security = wrong(2048, seed);
-    }
-    next
 }
 
 // A buffer is wrong for one call, now and then.
 pub fn lengths(l: Lengths, seed: u64) -> Lengths {
-    let mut next = l;
     match draw(seed, 14, 48) {
-        0 => next.reply = wrong(65536, seed),
-        1 => next.marks = wrong(65536, seed),
-        2 | 3 => next.bytes = wrong(28, seed),
-        _ => {}
+        0 => Lengths {
+            reply: wrong(RIGHT.reply, seed),
+            ..l
+        },
+        1 => Lengths {
+            marks: wrong(RIGHT.marks, seed),
+            ..l
+        },
+        2 | 3 => Lengths {
+            bytes: wrong(RIGHT.bytes, seed),
+            ..l
+        },
+        _ => l,
     }
-    next
 }
 
 // ---- events
@@ -168,26 +173,9 @@ fn torn_byte(seed: u64) -> u8 {
     }
 }
 
-pub fn cut(seed: u64) -> Event {
-    Event {
-        kind: 2,
+pub fn cut(seed: u64) -> Event<'static> {
+    Event::PowerCut(Tear {
         k: torn_place(seed),
         m: torn_byte(seed),
-    }
-}
-
-pub fn completion() -> Event {
-    Event {
-        kind: 1,
-        k: 0,
-        m: 0,
-    }
-}
-
-pub fn frame() -> Event {
-    Event {
-        kind: 0,
-        k: 0,
-        m: 0,
-    }
+    })
 }

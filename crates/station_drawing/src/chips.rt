@@ -1,54 +1,92 @@
 // Chips that a run of calls starts with.
 use drawing::dice::{draw, once_in, seed_of};
-use rules::{Chip, Locks, Rest, Works};
+use rules::{Chip, Flags, Locks, Rest, Work, Works};
 
-// How many sorts there are.
-pub const SORTS: u64 = 23;
+#[derive(Clone, Copy)]
+pub enum Sort {
+    // nothing runs, and the list is open
+    Idle,
+    // all write locks, the list's, all but the list's
+    Locked,
+    ListLocked,
+    RestLocked,
+    // with WEL, with the reset enable, in SQI
+    Wel,
+    Enabled,
+    Sqi,
+    // the list is locked for good
+    Permanent,
+    // something runs
+    PageRuns,
+    Busy,
+    // something is suspended, in the list or far from it
+    PageAside,
+    FarPageAside,
+    SectorAside,
+    FarSectorAside,
+    BlockAside,
+    FarBlockAside,
+    // one runs while another is suspended
+    FarPageRunsSectorAside,
+    SectorRunsFarPageAside,
+    // a record that is not well-formed, and any
+    Broken,
+    Any,
+    // wrong memories, on an idle chip with an open list
+    WrongArray,
+    WrongSecurity,
+    // drawn locks and flags
+    Drawn,
+}
 
-// Sorts of wrong memories, on an idle chip with an open list.
-pub const WRONG_ARRAY: u64 = 20;
-
-pub const WRONG_SECURITY: u64 = 21;
+pub const SORTS: [Sort; 23] = [
+    Sort::Idle,
+    Sort::Locked,
+    Sort::ListLocked,
+    Sort::RestLocked,
+    Sort::Wel,
+    Sort::Enabled,
+    Sort::Sqi,
+    Sort::Permanent,
+    Sort::PageRuns,
+    Sort::Busy,
+    Sort::PageAside,
+    Sort::FarPageAside,
+    Sort::SectorAside,
+    Sort::FarSectorAside,
+    Sort::BlockAside,
+    Sort::FarBlockAside,
+    Sort::FarPageRunsSectorAside,
+    Sort::SectorRunsFarPageAside,
+    Sort::Broken,
+    Sort::Any,
+    Sort::WrongArray,
+    Sort::WrongSecurity,
+    Sort::Drawn,
+];
 
 const WRITE_LOCKS: u64 = 0x5555_ffff_ffff;
 
 // The list's block has bit 0, and is the last of the table of blocks.
 const LIST_LOCK: u64 = 1;
 
-const LIST_BLOCK: u64 = 39;
+const LIST_BLOCK: usize = 39;
 
-fn with_work(
-    protection: u64,
-    permanent: u64,
-    works: Works,
-    flags: u8,
-    burst: u64,
-    buffer: [u8; 256],
-) -> Chip {
-    let locks = Locks {
-        protection,
-        permanent,
-    };
-    let flags = numbering::flags_of(flags);
-    let burst = numbering::burst_of(burst);
-    let rest = Rest {
-        locks,
-        burst,
-        works,
-        flags,
-    };
-    Chip { buffer, rest }
-}
+const REGISTER: u64 = 0x1_0000_0000_0000;
 
-fn works_of(kind: u64, n: u64, aside: u64, m: u64) -> Works {
-    let running = numbering::work_of(kind, n);
-    let suspended = numbering::work_of(aside, m);
-    Works { running, suspended }
-}
+const NO_LOCKS: Locks = Locks {
+    protection: 0,
+    permanent: 0,
+};
+
+const NO_WORKS: Works = Works {
+    running: Work::Nothing,
+    suspended: Work::Nothing,
+};
 
 // Either part, with IOC, WPEN and the reset enable at will: no SQI, no WEL.
-fn calm_flags(seed: u64) -> u8 {
-    (seed_of(seed, 1) % 256) as u8 & 0xcc
+fn calm_flags(seed: u64) -> Flags {
+    numbering::flags_of((seed_of(seed, 1) % 256) as u8 & 0xcc)
 }
 
 // With WEL, WPLD and SEC at will too.
@@ -58,60 +96,61 @@ fn free_flags(seed: u64) -> u8 {
 
 // ---- nothing runs
 
-fn idle(protection: u64, permanent: u64, flags: u8, seed: u64) -> Chip {
-    with_work(
-        protection,
-        permanent,
-        works_of(0, 0, 0, 0),
-        flags,
-        draw(seed, 3, 4),
-        [255u8; 256],
-    )
+fn idle(locks: Locks, flags: Flags, seed: u64) -> Chip {
+    Chip {
+        buffer: [255; 256],
+        rest: Rest {
+            locks,
+            burst: numbering::burst_of(draw(seed, 3, 4)),
+            works: NO_WORKS,
+            flags,
+        },
+    }
 }
 
-fn idle_of(sort: u64, seed: u64) -> Chip {
-    let flags = calm_flags(seed);
-    match sort {
-        1 => idle(WRITE_LOCKS, 0, flags, seed),
-        2 => idle(LIST_LOCK, 0, flags, seed),
-        3 => idle(WRITE_LOCKS - LIST_LOCK, 0, flags, seed),
-        4 => idle(0, 0, flags | 0x02, seed),
-        5 => idle(0, 0, flags | 0x40, seed),
-        6 => idle(0, 0, flags | 0x01, seed),
-        7 => idle(LIST_LOCK, LIST_LOCK, flags, seed),
-        22 => idle(
-            seed_of(seed, 4) % 0x1_0000_0000_0000 & seed_of(seed, 5),
-            0,
-            free_flags(seed),
-            seed,
-        ),
-        _ => idle(0, 0, flags, seed),
-    }
+fn with_locks(protection: u64, permanent: u64, seed: u64) -> Chip {
+    let locks = Locks {
+        protection,
+        permanent,
+    };
+    idle(locks, calm_flags(seed), seed)
+}
+
+fn drawn(seed: u64) -> Chip {
+    let locks = Locks {
+        protection: seed_of(seed, 4) % REGISTER & seed_of(seed, 5),
+        permanent: 0,
+    };
+    idle(locks, numbering::flags_of(free_flags(seed)), seed)
 }
 
 // ---- something runs or is suspended
 
 // Sectors 16 to 31 and pages 256 to 511 are the list's.
-fn list_sector(seed: u64) -> u64 {
-    16 + draw(seed, 6, 16) % 16
+fn list_sector(seed: u64) -> Work {
+    Work::EraseSector((16 + draw(seed, 6, 16) % 16) as usize)
 }
 
-fn list_page(seed: u64) -> u64 {
-    256 + draw(seed, 7, 256) % 256
+fn list_page(seed: u64) -> Work {
+    Work::ProgramPage((256 + draw(seed, 7, 256) % 256) as usize)
 }
 
 // Above the list.
-fn far_sector(seed: u64) -> u64 {
-    32 + draw(seed, 8, 200) % 200
+fn far_sector(seed: u64) -> Work {
+    Work::EraseSector((32 + draw(seed, 8, 200) % 200) as usize)
 }
 
-fn far_page(seed: u64) -> u64 {
-    4096 + draw(seed, 9, 4096) % 4096
+fn far_page(seed: u64) -> Work {
+    Work::ProgramPage((4096 + draw(seed, 9, 4096) % 4096) as usize)
+}
+
+fn far_block(seed: u64) -> Work {
+    Work::EraseBlock((10 + draw(seed, 20, 29) % 29) as usize)
 }
 
 // All FF but for the mark of a slot and one byte.
 fn touched_buffer(seed: u64) -> [u8; 256] {
-    let mut buffer = [255u8; 256];
+    let mut buffer = [255; 256];
     let slot = (seed_of(seed, 10) % 8 * 32) as usize;
     let other = (8 + seed_of(seed, 11) % 248) as usize;
     buffer[slot] = (seed_of(seed, 12) % 2 * 0x53) as u8;
@@ -120,79 +159,83 @@ fn touched_buffer(seed: u64) -> [u8; 256] {
     buffer
 }
 
+fn programs(w: Work) -> bool {
+    matches!(w, Work::ProgramPage(_))
+}
+
 // A page program has bytes in its buffer; an erase has none.
-fn at_work(works: Works, program: bool, seed: u64) -> Chip {
-    let flags = free_flags(seed) & 0xdf;
-    if program {
-        return with_work(0, 0, works, flags, 0, touched_buffer(seed));
-    }
-    with_work(0, 0, works, flags, 0, [255u8; 256])
-}
-
-// Of the kinds of work that are not of the array.
-fn other_number(kind: u64, seed: u64) -> u64 {
-    match kind {
-        5 => 1 + draw(seed, 14, 7) % 7,
-        7 => draw(seed, 15, 4),
-        8 => seed_of(seed, 16) % 0x1_0000_0000_0000,
-        _ => 0,
-    }
-}
-
-fn other_work(seed: u64) -> Chip {
-    let kind = match draw(seed, 17, 5) {
-        0 => 3,
-        1 => 5,
-        2 => 6,
-        3 => 7,
-        _ => 8,
+fn at_work(running: Work, suspended: Work, seed: u64) -> Chip {
+    let buffer = if programs(running) || programs(suspended) {
+        touched_buffer(seed)
+    } else {
+        [255; 256]
     };
-    at_work(works_of(kind, other_number(kind, seed), 0, 0), false, seed)
-}
-
-fn busy_erase(seed: u64) -> Chip {
-    if once_in(seed, 18, 3) {
-        return at_work(works_of(2, LIST_BLOCK, 0, 0), false, seed);
+    Chip {
+        buffer,
+        rest: Rest {
+            locks: NO_LOCKS,
+            burst: numbering::burst_of(0),
+            works: Works { running, suspended },
+            flags: numbering::flags_of(free_flags(seed) & 0xdf),
+        },
     }
-    at_work(works_of(1, list_sector(seed), 0, 0), false, seed)
 }
 
-fn busy_of(seed: u64) -> Chip {
+// Work that is not of the array, or of all of it.
+fn other_work(seed: u64) -> Work {
+    match draw(seed, 17, 5) {
+        0 => Work::EraseArray,
+        1 => Work::ProgramSecurity((1 + draw(seed, 14, 7) % 7) as usize),
+        2 => Work::LockSecurity,
+        3 => {
+            let n = draw(seed, 15, 4);
+            Work::WriteConfiguration(n % 2 == 1, n / 2 % 2 == 1)
+        }
+        _ => Work::AddPermanent(seed_of(seed, 16) % REGISTER),
+    }
+}
+
+fn any_work(seed: u64) -> Work {
     if once_in(seed, 19, 2) {
-        return other_work(seed);
-    }
-    busy_erase(seed)
-}
-
-fn working_of(sort: u64, seed: u64) -> Chip {
-    match sort {
-        8 => at_work(works_of(4, list_page(seed), 0, 0), true, seed),
-        9 => busy_of(seed),
-        10 => at_work(works_of(0, 0, 4, list_page(seed)), true, seed),
-        11 => at_work(works_of(0, 0, 4, far_page(seed)), true, seed),
-        12 => at_work(works_of(0, 0, 1, list_sector(seed)), false, seed),
-        13 => at_work(works_of(0, 0, 1, far_sector(seed)), false, seed),
-        14 => at_work(works_of(0, 0, 2, LIST_BLOCK), false, seed),
-        15 => at_work(works_of(0, 0, 2, 10 + draw(seed, 20, 29) % 29), false, seed),
-        16 => at_work(
-            works_of(4, far_page(seed), 1, list_sector(seed)),
-            true,
-            seed,
-        ),
-        _ => at_work(
-            works_of(1, list_sector(seed), 4, far_page(seed)),
-            true,
-            seed,
-        ),
+        other_work(seed)
+    } else if once_in(seed, 18, 3) {
+        Work::EraseBlock(LIST_BLOCK)
+    } else {
+        list_sector(seed)
     }
 }
 
 // A chip of a sort.
-pub fn start(sort: u64, seed: u64) -> Chip {
+pub fn start(sort: Sort, seed: u64) -> Chip {
+    let calm = calm_flags(seed);
     match sort {
-        8..=17 => working_of(sort, seed),
-        18 => image_drawing::chips::broken(seed_of(seed, 21), seed),
-        19 => image_drawing::chips::any(seed),
-        _ => idle_of(sort, seed),
+        Sort::Idle | Sort::WrongArray | Sort::WrongSecurity => idle(NO_LOCKS, calm, seed),
+        Sort::Locked => with_locks(WRITE_LOCKS, 0, seed),
+        Sort::ListLocked => with_locks(LIST_LOCK, 0, seed),
+        Sort::RestLocked => with_locks(WRITE_LOCKS - LIST_LOCK, 0, seed),
+        Sort::Wel => idle(NO_LOCKS, Flags { wel: true, ..calm }, seed),
+        Sort::Enabled => idle(
+            NO_LOCKS,
+            Flags {
+                enable: true,
+                ..calm
+            },
+            seed,
+        ),
+        Sort::Sqi => idle(NO_LOCKS, Flags { sqi: true, ..calm }, seed),
+        Sort::Permanent => with_locks(LIST_LOCK, LIST_LOCK, seed),
+        Sort::PageRuns => at_work(list_page(seed), Work::Nothing, seed),
+        Sort::Busy => at_work(any_work(seed), Work::Nothing, seed),
+        Sort::PageAside => at_work(Work::Nothing, list_page(seed), seed),
+        Sort::FarPageAside => at_work(Work::Nothing, far_page(seed), seed),
+        Sort::SectorAside => at_work(Work::Nothing, list_sector(seed), seed),
+        Sort::FarSectorAside => at_work(Work::Nothing, far_sector(seed), seed),
+        Sort::BlockAside => at_work(Work::Nothing, Work::EraseBlock(LIST_BLOCK), seed),
+        Sort::FarBlockAside => at_work(Work::Nothing, far_block(seed), seed),
+        Sort::FarPageRunsSectorAside => at_work(far_page(seed), list_sector(seed), seed),
+        Sort::SectorRunsFarPageAside => at_work(list_sector(seed), far_page(seed), seed),
+        Sort::Broken => image_drawing::chips::broken(seed_of(seed, 21), seed),
+        Sort::Any => image_drawing::chips::any(seed),
+        Sort::Drawn => drawn(seed),
     }
 }

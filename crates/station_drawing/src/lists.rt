@@ -1,81 +1,66 @@
 // Station lists: slots of each kind, and lists of several sorts.
+ghost use Rattle.std.specs.Prelude.{◌+◌, ◌≤◌};
+
 use drawing::dice::{draw, once_in, seed_of};
-use image_drawing::places::{plus, put};
+use image_drawing::places::Memory;
 
-// How many sorts there are.
-pub const SORTS: u64 = 10;
+// The list's places, and how many slots of 32 bytes it has.
+pub const START: usize = 0x10000;
 
-pub const SLOTS: usize = 2048;
+pub const END: usize = 0x20000;
 
-// The list starts at 010000.
-pub fn place_of(slot: usize) -> usize {
-    65536 + slot % 2048 * 32
+const SLOTS: usize = 2048;
+
+pub fn place_of(slot: usize) -> usize
+    ensures { result + 32 ≤ 0x20000 }
+{
+    START + slot % SLOTS * 32
 }
 
-// Data that a byte stands for: 28 bytes that count up from it, or FF all along.
-pub fn data_byte(from: u8, i: usize) -> u8 {
-    if from == 255 {
-        return 255;
-    }
-    ((from as usize + i % 32) % 256) as u8
-}
-
-// One byte more than a call takes.
+// Data that a byte stands for: they count up from it, or FF all along. One byte more than a call takes.
 pub fn data_of(from: u8) -> [u8; 29] {
-    let mut data = [0u8; 29];
-    let mut i: usize = 0;
-    while i < 29 {
-        data[i] = data_byte(from, i);
-        i += 1;
+    if from == 255 {
+        return [255; 29];
     }
-    data
+    std::array::from_fn(|i| from.wrapping_add((i % 32) as u8))
 }
 
-// A slot: the two bytes of its mark, its number and its data.
+// Marks.
+pub const LIVE: [u8; 2] = [0x53, 0x54];
+
+pub const CLEARED: [u8; 2] = [0, 0];
+
+pub const UNMARKED: [u8; 2] = [255, 255];
+
+// A slot: its mark, its number and its data.
 #[derive(Clone, Copy)]
 pub struct Slot {
-    pub first: u8,
-    pub other: u8,
+    pub mark: [u8; 2],
     pub station: u16,
     pub from: u8,
 }
 
-pub fn live_slot(station: u16, from: u8) -> Slot {
-    Slot {
-        first: 0x53,
-        other: 0x54,
-        station,
-        from,
+pub const EMPTY: Slot = Slot {
+    mark: UNMARKED,
+    station: 0xffff,
+    from: 255,
+};
+
+// What a slot holds; the number high byte first.
+pub fn slot_bytes(s: Slot) -> [u8; 32] {
+    let mut bytes = [0; 32];
+    for (b, d) in bytes[4..].iter_mut().zip(data_of(s.from)) {
+        *b = d;
     }
+    let [first, other] = s.mark;
+    let [high, low] = s.station.to_be_bytes();
+    bytes[..4].copy_from_slice(&[first, other, high, low]);
+    bytes
 }
 
-fn marked(first: u8, other: u8, station: u16, from: u8) -> Slot {
-    Slot {
-        first,
-        other,
-        station,
-        from,
-    }
-}
-
-// What a slot holds, byte by byte; the number high byte first.
-pub fn slot_byte(s: Slot, i: usize) -> u8 {
-    match i {
-        0 => s.first,
-        1 => s.other,
-        2 => (s.station / 256) as u8,
-        3 => (s.station % 256) as u8,
-        _ => data_byte(s.from, std::num::wrapping_sub_usize(i, 4)),
-    }
-}
-
-pub fn put_slot(array: &mut [u8], slot: usize, s: Slot) {
+pub fn put_slot(array: &mut Memory, slot: usize, s: Slot) {
     let place = place_of(slot);
-    let mut i: usize = 0;
-    while i < 32 {
-        put(array, plus(place, i), slot_byte(s, i));
-        i += 1;
-    }
+    array[place..place + 32].copy_from_slice(&slot_bytes(s));
 }
 
 // ---- drawn slots
@@ -94,144 +79,183 @@ pub fn station_of(n: u64) -> u16 {
     }
 }
 
-// The kinds of slots.
-const EMPTY: u64 = 0;
+#[derive(Clone, Copy)]
+enum Kind {
+    Empty,
+    Live,
+    // of the number that many slots have
+    Hot,
+    Cleared,
+    Half,
+    Unmarked,
+    AllFf,
+    NearlyEmpty,
+    Noise,
+}
 
-const LIVE: u64 = 1;
-
-const HOT: u64 = 2;
-
-const CLEARED: u64 = 3;
-
-const HALF: u64 = 4;
-
-const UNMARKED: u64 = 5;
-
-const ALL_FF: u64 = 6;
-
-const NEARLY_EMPTY: u64 = 7;
-
-const NOISE: u64 = 8;
+const KINDS: [Kind; 9] = [
+    Kind::Empty,
+    Kind::Live,
+    Kind::Hot,
+    Kind::Cleared,
+    Kind::Half,
+    Kind::Unmarked,
+    Kind::AllFf,
+    Kind::NearlyEmpty,
+    Kind::Noise,
+];
 
 // A mark that is half written or half cleared.
-fn half_marked(seed: u64, station: u16, from: u8) -> Slot {
+fn half_mark(seed: u64) -> [u8; 2] {
     match draw(seed, 31, 6) {
-        0 => marked(0x00, 0x54, station, from),
-        1 => marked(0x53, 0x00, station, from),
-        2 => marked(0x53, 0xff, station, from),
-        3 => marked(0xff, 0x54, station, from),
-        4 => marked(0x53, 0x55, station, from),
-        _ => marked(0x54, 0x53, station, from),
+        0 => [0x00, 0x54],
+        1 => [0x53, 0x00],
+        2 => [0x53, 0xff],
+        3 => [0xff, 0x54],
+        4 => [0x53, 0x55],
+        _ => [0x54, 0x53],
     }
 }
 
-fn slot_of(kind: u64, seed: u64) -> Slot {
-    let station = station_of(seed_of(seed, 32));
-    let from = (seed_of(seed, 33) % 256) as u8;
-    match kind {
-        LIVE => live_slot(station, from),
-        HOT => live_slot(0x0102, from),
-        CLEARED => marked(0, 0, station, from),
-        HALF => half_marked(seed, station, from),
-        UNMARKED => marked(255, 255, station, from),
-        ALL_FF => live_slot(0xffff, 255),
-        _ => marked(255, 255, 0xffff, 255),
-    }
+fn noise(seed: u64) -> [u8; 32] {
+    std::array::from_fn(|i| (seed_of(seed, i as u64) % 256) as u8)
 }
 
 // One byte of an empty slot is not FF.
-fn spoil(array: &mut [u8], slot: usize, seed: u64) {
-    let i = plus(place_of(slot), (seed_of(seed, 34) % 32) as usize);
-    put(array, i, (seed_of(seed, 35) % 255) as u8);
+fn nearly_empty(seed: u64) -> [u8; 32] {
+    let mut bytes = [255; 32];
+    bytes[(seed_of(seed, 34) % 32) as usize] = (seed_of(seed, 35) % 255) as u8;
+    bytes
 }
 
-fn put_noise(array: &mut [u8], slot: usize, seed: u64) {
-    let place = place_of(slot);
-    let mut i: usize = 0;
-    while i < 32 {
-        put(array, plus(place, i), (seed_of(seed, i as u64) % 256) as u8);
-        i += 1;
+fn drawn_slot(kind: Kind, seed: u64) -> Slot {
+    let station = station_of(seed_of(seed, 32));
+    let from = (seed_of(seed, 33) % 256) as u8;
+    let drawn = Slot {
+        mark: LIVE,
+        station,
+        from,
+    };
+    match kind {
+        Kind::Live => drawn,
+        Kind::Hot => Slot {
+            station: 0x0102,
+            ..drawn
+        },
+        Kind::Cleared => Slot {
+            mark: CLEARED,
+            ..drawn
+        },
+        Kind::Half => Slot {
+            mark: half_mark(seed),
+            ..drawn
+        },
+        Kind::Unmarked => Slot {
+            mark: UNMARKED,
+            ..drawn
+        },
+        Kind::AllFf => Slot {
+            mark: LIVE,
+            ..EMPTY
+        },
+        Kind::Empty | Kind::NearlyEmpty | Kind::Noise => EMPTY,
     }
 }
 
-fn put_drawn(array: &mut [u8], slot: usize, kind: u64, seed: u64) {
-    if kind == NOISE {
-        put_noise(array, slot, seed);
-    } else {
-        put_slot(array, slot, slot_of(kind, seed));
-        if kind == NEARLY_EMPTY {
-            spoil(array, slot, seed);
-        }
+fn drawn_bytes(kind: Kind, seed: u64) -> [u8; 32] {
+    match kind {
+        Kind::NearlyEmpty => nearly_empty(seed),
+        Kind::Noise => noise(seed),
+        _ => slot_bytes(drawn_slot(kind, seed)),
     }
 }
 
 // ---- sorts of lists
 
-fn any_kind(seed: u64) -> u64 {
-    draw(seed, 36, 9)
+#[derive(Clone, Copy)]
+pub enum Sort {
+    Empty,
+    // some slots are filled, and those behind them empty
+    Filled,
+    // many live slots of a number
+    ManyOfOne,
+    // dead ones, and seldom an empty one
+    Dead,
+    Full,
+    FullButOne,
+    Noise,
+    // FFFF with data all FF
+    AllFf,
+    // a live one here and there
+    Sparse,
+    // the first eight of any kind
+    FirstEight,
 }
 
-fn dead_kind(seed: u64) -> u64 {
+pub const SORTS: [Sort; 10] = [
+    Sort::Empty,
+    Sort::Filled,
+    Sort::ManyOfOne,
+    Sort::Dead,
+    Sort::Full,
+    Sort::FullButOne,
+    Sort::Noise,
+    Sort::AllFf,
+    Sort::Sparse,
+    Sort::FirstEight,
+];
+
+fn any_kind(seed: u64) -> Kind {
+    KINDS[(draw(seed, 36, 9) % 9) as usize]
+}
+
+fn dead_kind(seed: u64) -> Kind {
     match draw(seed, 38, 5) {
-        0 => CLEARED,
-        1 => HALF,
-        2 => NEARLY_EMPTY,
-        3 => NOISE,
-        _ => UNMARKED,
+        0 => Kind::Cleared,
+        1 => Kind::Half,
+        2 => Kind::NearlyEmpty,
+        3 => Kind::Noise,
+        _ => Kind::Unmarked,
     }
 }
 
-fn often(n: u64, kind: u64, other: u64, seed: u64) -> u64 {
-    if once_in(seed, 39, n) {
-        return other;
-    }
-    kind
+// The other one once in n.
+fn often(n: u64, kind: Kind, other: Kind, seed: u64) -> Kind {
+    if once_in(seed, 39, n) { other } else { kind }
 }
 
 // What a slot of a list is. `bound` is a place in the list.
-fn kind_in(sort: u64, slot: u64, bound: u64, seed: u64) -> u64 {
+fn kind_in(sort: Sort, slot: u64, bound: u64, seed: u64) -> Kind {
     match sort {
-        // some slots are filled, and those behind them empty
-        1 => if slot < bound { any_kind(seed) } else { EMPTY },
-        // many live slots of a number
-        2 => often(2, HOT, any_kind(seed), seed),
-        // dead ones, and seldom an empty one
-        3 => often(64, dead_kind(seed), EMPTY, seed),
-        // full
-        4 => often(16, LIVE, HOT, seed),
-        // full but for one
-        5 => if slot == bound {
-            EMPTY
-        } else {
-            often(8, LIVE, CLEARED, seed)
-        },
-        6 => NOISE,
-        // FFFF with data all FF
-        7 => often(3, ALL_FF, EMPTY, seed),
-        // a live one here and there
-        8 => often(64, EMPTY, LIVE, seed),
-        // the first eight of any kind
-        9 => if slot < 8 { any_kind(seed) } else { EMPTY },
-        _ => EMPTY,
+        Sort::Filled if slot < bound => any_kind(seed),
+        Sort::ManyOfOne => often(2, Kind::Hot, any_kind(seed), seed),
+        Sort::Dead => often(64, dead_kind(seed), Kind::Empty, seed),
+        Sort::Full => often(16, Kind::Live, Kind::Hot, seed),
+        Sort::FullButOne if slot != bound => often(8, Kind::Live, Kind::Cleared, seed),
+        Sort::Noise => Kind::Noise,
+        Sort::AllFf => often(3, Kind::AllFf, Kind::Empty, seed),
+        Sort::Sparse => often(64, Kind::Empty, Kind::Live, seed),
+        Sort::FirstEight if slot < 8 => any_kind(seed),
+        Sort::Empty | Sort::Filled | Sort::FullButOne | Sort::FirstEight => Kind::Empty,
     }
 }
 
 // The same list in each memory that is filled with the same seed.
-pub fn fill(array: &mut [u8], sort: u64, seed: u64) {
+pub fn fill(array: &mut Memory, sort: Sort, seed: u64) {
     let bound = draw(seed, 40, 2048);
-    let mut slot: usize = 0;
-    while slot < SLOTS {
-        let s = seed_of(seed, slot as u64);
-        put_drawn(array, slot, kind_in(sort, slot as u64, bound, s), s);
-        slot += 1;
+    for (n, slot) in array[START..END].chunks_exact_mut(32).enumerate() {
+        let s = seed_of(seed, n as u64);
+        slot.copy_from_slice(&drawn_bytes(kind_in(sort, n as u64, bound, s), s));
     }
 }
 
 // Every slot is live, and its number is its place.
-pub fn fill_full(array: &mut [u8]) {
-    let mut slot: usize = 0;
-    while slot < SLOTS {
-        put_slot(array, slot, live_slot((slot % 2048) as u16, 7));
-        slot += 1;
+pub fn fill_full(array: &mut Memory) {
+    for (slot, station) in array[START..END].chunks_exact_mut(32).zip(0..2048) {
+        slot.copy_from_slice(&slot_bytes(Slot {
+            mark: LIVE,
+            station,
+            from: 7,
+        }));
     }
 }

@@ -1,50 +1,20 @@
 // What a call has to come to by what its read showed (document 02, W-206).
-use drawing::at;
-use image_drawing::places::plus;
+use crate::both::Reply;
 
 // "live if its mark is 53 54", and of that number, high byte first.
-fn is_live_of(shown: &[u8], slot: usize, station: u16) -> bool {
-    let p = slot % 2048 * 32;
-    let mark = (at(shown, p) == 0x53) & (at(shown, plus(p, 1)) == 0x54);
-    let high = at(shown, plus(p, 2)) == (station / 256) as u8;
-    let low = at(shown, plus(p, 3)) == (station % 256) as u8;
-    mark & high & low
-}
-
-pub fn live_slots(shown: &[u8], station: u16) -> u64 {
-    let mut n: u64 = 0;
-    let mut slot: usize = 0;
-    while slot < 2048 {
-        if is_live_of(shown, slot, station) {
-            n = std::num::wrapping_add_u64(n, 1);
-        }
-        slot += 1;
-    }
-    n
+pub fn live_slots(shown: &Reply, station: u16) -> usize {
+    let [high, low] = station.to_be_bytes();
+    shown
+        .chunks_exact(32)
+        .filter(|slot| slot.starts_with(&[0x53, 0x54, high, low]))
+        .count()
 }
 
 // "empty if all FF"
-fn is_empty(shown: &[u8], slot: usize) -> bool {
-    let p = slot % 2048 * 32;
-    let mut i: usize = 0;
-    while i < 32 {
-        if at(shown, plus(p, i)) != 255 {
-            return false;
-        }
-        i += 1;
-    }
-    true
-}
-
-pub fn has_empty(shown: &[u8]) -> bool {
-    let mut slot: usize = 0;
-    while slot < 2048 {
-        if is_empty(shown, slot) {
-            return true;
-        }
-        slot += 1;
-    }
-    false
+pub fn has_empty(shown: &Reply) -> bool {
+    shown
+        .chunks_exact(32)
+        .any(|slot| slot.iter().all(|b| *b == 255))
 }
 
 // A number and polls.
@@ -54,27 +24,18 @@ pub struct Due {
     pub polls: u64,
 }
 
-fn entry(list: &[u64], i: usize) -> u64 {
-    if i < list.len() {
-        return list[i];
-    }
-    0
-}
-
 // So many writes, none of which the chip refuses: "before which poll completion arrives (0 or no entry: never)".
-pub fn due_of(list: &[u64], allowance: u64, writes: u64) -> Due {
+pub fn due_of(list: &[u64], allowance: u64, writes: usize) -> Due {
     let mut polls: u64 = 0;
-    let mut i: u64 = 0;
-    while i < writes {
-        let e = entry(list, i as usize);
-        if (e == 0) | (allowance < e) {
+    for i in 0..writes {
+        let entry = list.get(i).copied().unwrap_or(0);
+        if entry == 0 || allowance < entry {
             return Due {
                 number: 18,
-                polls: std::num::wrapping_add_u64(polls, allowance),
+                polls: polls.wrapping_add(allowance),
             };
         }
-        polls = std::num::wrapping_add_u64(polls, e);
-        i += 1;
+        polls = polls.wrapping_add(entry);
     }
     Due { number: 0, polls }
 }

@@ -9,54 +9,41 @@ mod report;
 mod runs;
 mod worked;
 
+use report::{Report, NOTHING};
+use station_drawing::both::{Side, Sides};
+
 const RUNS: u64 = 1600;
 
 fn main(rt: HostRuntime) {
-    let mut counts = [0u64; 256];
-    let mut array = [255u8; 2097153];
-    let mut security = [0x5au8; 2049];
-    let mut reply = [0u8; 65537];
-    let mut marks = [0u8; 65537];
-    let mut array2 = [255u8; 2097153];
-    let mut security2 = [0x5au8; 2049];
-    let mut reply2 = [0u8; 65537];
-    let mut marks2 = [0u8; 65537];
-    worked::both_filled(&mut array, &mut array2);
-    worked::paper_shown(
-        &rt,
-        &mut counts,
-        &mut array,
-        &mut security,
-        &mut reply,
-        &mut marks,
-        &mut array2,
-        &mut security2,
-        &mut reply2,
-        &mut marks2,
-    );
-    runs::runs_tried(
-        &rt,
-        RUNS,
-        &mut counts,
-        &mut array,
-        &mut security,
-        &mut reply,
-        &mut marks,
-        &mut array2,
-        &mut security2,
-        &mut reply2,
-        &mut marks2,
-    );
-    report::counts_said(&rt, &mut counts);
-    planted::planted_tried(
-        &rt,
-        &mut array,
-        &mut security,
-        &mut reply,
-        &mut marks,
-        &mut array2,
-        &mut security2,
-        &mut reply2,
-        &mut marks2,
-    );
+    let mut array = [255; 2097153];
+    let mut security = [0x5a; 2049];
+    let mut reply = [0; 65537];
+    let mut marks = [0; 65537];
+    let mut array2 = [255; 2097153];
+    let mut security2 = [0x5a; 2049];
+    let mut reply2 = [0; 65537];
+    let mut marks2 = [0; 65537];
+    let mut sides = Sides {
+        first: Side {
+            array: &mut array,
+            security: &mut security,
+            reply: &mut reply,
+            marks: &mut marks,
+        },
+        second: Side {
+            array: &mut array2,
+            security: &mut security2,
+            reply: &mut reply2,
+            marks: &mut marks2,
+        },
+    };
+    let mut report = Report {
+        rt: &rt,
+        counts: NOTHING,
+    };
+    worked::both_filled(&mut sides);
+    worked::paper_shown(&mut report, &mut sides);
+    runs::runs_tried(RUNS, &mut report, &mut sides);
+    report.counts_said();
+    planted::planted_tried(&report, &mut sides);
 }

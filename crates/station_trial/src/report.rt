@@ -1,209 +1,182 @@
 // What is counted, and what is written.
+use station_drawing::comparisons::{COMPARISONS, Comparison, is_odd};
 
-// Places of what is counted: the paper's values, cases with a difference, stores, lookups, power cuts; numbers of stores and of lookups; sorts of chips and of lists;
-// done stores by the marks that they cleared.
-pub type Counts = [u64; 256];
+#[derive(Clone, Copy)]
+pub struct Counts {
+    // the paper's values, cases with a difference, stores, lookups, power cuts
+    pub values: u64,
+    pub differences: u64,
+    pub stores: u64,
+    pub lookups: u64,
+    pub cuts: u64,
+    // numbers of stores and of lookups
+    pub store_numbers: [u64; 32],
+    pub lookup_numbers: [u64; 32],
+    // sorts of chips and of lists
+    pub chips: [u64; 23],
+    pub lists: [u64; 10],
+    // done stores by the marks that they cleared
+    pub cleared: [u64; 4],
+}
 
-pub const WORKED: usize = 0;
+pub const NOTHING: Counts = Counts {
+    values: 0,
+    differences: 0,
+    stores: 0,
+    lookups: 0,
+    cuts: 0,
+    store_numbers: [0; 32],
+    lookup_numbers: [0; 32],
+    chips: [0; 23],
+    lists: [0; 10],
+    cleared: [0; 4],
+};
 
-pub const DIFFERENCES: usize = 1;
+fn bump(n: &mut u64) {
+    *n = n.wrapping_add(1);
+}
 
-pub const STORES: usize = 2;
-
-pub const LOOKUPS: usize = 3;
-
-pub const CUTS: usize = 4;
-
-pub const STORE_NUMBERS: usize = 32;
-
-pub const LOOKUP_NUMBERS: usize = 64;
-
-pub const CHIPS: usize = 96;
-
-pub const LISTS: usize = 128;
-
-pub const CLEARED: usize = 144;
-
-// How many comparisons there are.
-pub const COMPARISONS: u64 = 16;
-
-pub fn bump(counts: &mut Counts, i: usize) {
-    if i < 256 {
-        let n = counts[i];
-        counts[i] = std::num::wrapping_add_u64(n, 1);
+// One more at a place.
+fn bump_at(counts: &mut [u64], i: usize) {
+    if i < counts.len() {
+        counts[i] = counts[i].wrapping_add(1);
     }
 }
 
-pub fn count(counts: &Counts, i: usize) -> u64 {
-    if i < 256 {
-        return counts[i];
-    }
-    0
+// How many came up.
+fn kinds(counts: &[u64]) -> usize {
+    counts.iter().filter(|n| **n != 0).count()
 }
 
 // What cannot be written is lost.
-fn say(rt: &impl Print, text: &[u8]) {
-    let _ = rt.write_all(text);
+#[derive(Drop)]
+pub struct Report<'a, P> {
+    pub rt: &'a P,
+    pub counts: Counts,
 }
 
-fn say_number(rt: &impl Print, text: &[u8], n: u64) {
-    say(rt, text);
-    let _ = rt.print(n);
-}
+impl<P: Print> Report<'_, P> {
+    // ---- what is counted
 
-// ---- comparisons
-
-// Each comparison has a bit, and a planted difference of its number.
-fn comparison_said(rt: &impl Print, n: u64) {
-    match n {
-        1 => say(rt, b" number"),
-        2 => say(rt, b" polls"),
-        3 => say(rt, b" record"),
-        4 => say(rt, b" array"),
-        5 => say(rt, b" Security ID"),
-        6 => say(rt, b" reply"),
-        7 => say(rt, b" marks"),
-        8 => say(rt, b" buffer"),
-        9 => say(rt, b" record left"),
-        10 => say(rt, b" reply and marks left"),
-        11 => say(rt, b" buffer left"),
-        12 => say(rt, b" data given back"),
-        13 => say(rt, b" number by what the read shows"),
-        14 => say(rt, b" polls by the list"),
-        15 => say(rt, b" event's number"),
-        16 => say(rt, b" event's record"),
-        _ => {}
+    pub fn chip_counted(&mut self, sort: usize) {
+        bump_at(&mut self.counts.chips, sort);
     }
-}
 
-fn odd_said(rt: &impl Print, odd: u64) {
-    let mut n: u64 = 1;
-    while n <= COMPARISONS {
-        if odd >> n & 1 != 0 {
-            comparison_said(rt, n);
+    pub fn list_counted(&mut self, sort: usize) {
+        bump_at(&mut self.counts.lists, sort);
+    }
+
+    pub fn cut_counted(&mut self) {
+        bump(&mut self.counts.cuts);
+    }
+
+    // A store; where it is done, with the live slots that its read showed.
+    pub fn store_counted(&mut self, number: u8, live: usize) {
+        bump(&mut self.counts.stores);
+        bump_at(&mut self.counts.store_numbers, usize::from(number % 32));
+        if number == 0 {
+            bump_at(&mut self.counts.cleared, live.min(3));
         }
-        n += 1;
     }
-}
 
-// A case with a difference is told, and counted.
-pub fn told(rt: &impl Print, counts: &mut Counts, name: &[u8], k: u64, n: u64, odd: u64) {
-    if odd != 0 {
-        bump(counts, DIFFERENCES);
-        say(rt, name);
-        say_number(rt, b" ", k);
-        say_number(rt, b" ", n);
-        say(rt, b", not the same:");
-        odd_said(rt, odd);
-        say(rt, b"\n");
+    pub fn lookup_counted(&mut self, number: u8) {
+        bump(&mut self.counts.lookups);
+        bump_at(&mut self.counts.lookup_numbers, usize::from(number % 32));
     }
-}
 
-// With a planted difference.
-pub fn planted_said(rt: &impl Print, plant: u64, odd: u64) {
-    say(rt, b"planted,");
-    comparison_said(rt, plant);
-    say(rt, b": not the same:");
-    odd_said(rt, odd);
-    say(rt, b"\n");
-}
+    // ---- comparisons
 
-// A value of the paper: of which sentence, and which of its steps.
-pub fn shows(rt: &impl Print, counts: &mut Counts, sentence: u64, n: u64, right: bool) {
-    bump(counts, WORKED);
-    if !right {
-        bump(counts, DIFFERENCES);
-        say_number(rt, b"not the paper's: sentence ", sentence);
-        say_number(rt, b", step ", n);
-        say(rt, b"\n");
-    }
-}
-
-// ---- rows
-
-fn number_said(rt: &impl Print, counts: &Counts, from: usize, number: u8) {
-    let n = count(counts, std::num::wrapping_add_usize(from, number as usize));
-    if n != 0 {
-        say_number(rt, b", ", n);
-        say_number(rt, b" times ", number as u64);
-    }
-}
-
-fn numbers_said(rt: &impl Print, counts: &Counts, from: usize) {
-    let mut i: u8 = 0;
-    while i < 32 {
-        number_said(rt, counts, from, i);
-        i += 1;
-    }
-    say(rt, b"\n");
-}
-
-// How many of n kinds came up.
-fn kinds(counts: &Counts, from: usize, n: usize) -> u64 {
-    let mut found: u64 = 0;
-    let mut i: usize = 0;
-    while i < n {
-        if count(counts, std::num::wrapping_add_usize(from, i)) != 0 {
-            found = std::num::wrapping_add_u64(found, 1);
+    fn odd_said(&self, odd: u64) {
+        for c in COMPARISONS {
+            if is_odd(odd, c) {
+                let _ = print!(self.rt; " {c}");
+            }
         }
-        i += 1;
+        let _ = print!(self.rt; "\n");
     }
-    found
-}
 
-// What did not come up is told, and counts as a difference.
-fn came_up(rt: &impl Print, counts: &mut Counts, name: &[u8], from: usize, n: usize) {
-    if count(counts, std::num::wrapping_add_usize(from, n)) == 0 {
-        bump(counts, DIFFERENCES);
-        say(rt, name);
-        say_number(rt, b" did not come up: ", n as u64);
-        say(rt, b"\n");
+    // A case with a difference is told, and counted.
+    pub fn told(&mut self, name: &str, k: u64, n: u64, odd: u64) {
+        if odd != 0 {
+            bump(&mut self.counts.differences);
+            let _ = print!(self.rt; "{name} {k} {n}, not the same:");
+            self.odd_said(odd);
+        }
     }
-}
 
-// Each of n kinds.
-fn all_came_up(rt: &impl Print, counts: &mut Counts, name: &[u8], from: usize, n: usize) {
-    let mut i: usize = 0;
-    while i < n {
-        came_up(rt, counts, name, from, i);
-        i += 1;
+    // With a planted difference.
+    pub fn planted_said(&self, plant: Comparison, odd: u64) {
+        let _ = print!(self.rt; "planted, {plant}: not the same:");
+        self.odd_said(odd);
     }
-}
 
-fn numbers_came_up(rt: &impl Print, counts: &mut Counts) {
-    came_up(rt, counts, b"a store's number", STORE_NUMBERS, 0);
-    came_up(rt, counts, b"a store's number", STORE_NUMBERS, 1);
-    came_up(rt, counts, b"a store's number", STORE_NUMBERS, 3);
-    came_up(rt, counts, b"a store's number", STORE_NUMBERS, 5);
-    came_up(rt, counts, b"a store's number", STORE_NUMBERS, 8);
-    came_up(rt, counts, b"a store's number", STORE_NUMBERS, 11);
-    came_up(rt, counts, b"a store's number", STORE_NUMBERS, 16);
-    came_up(rt, counts, b"a store's number", STORE_NUMBERS, 18);
-    came_up(rt, counts, b"a lookup's number", LOOKUP_NUMBERS, 0);
-    came_up(rt, counts, b"a lookup's number", LOOKUP_NUMBERS, 1);
-    came_up(rt, counts, b"a lookup's number", LOOKUP_NUMBERS, 3);
-    came_up(rt, counts, b"a lookup's number", LOOKUP_NUMBERS, 5);
-    came_up(rt, counts, b"a lookup's number", LOOKUP_NUMBERS, 17);
-}
+    // A value of the paper: of which sentence, and which of its steps.
+    pub fn shows(&mut self, sentence: usize, n: usize, right: bool) {
+        bump(&mut self.counts.values);
+        if !right {
+            bump(&mut self.counts.differences);
+            let _ = println!(self.rt; "not the paper's: sentence {sentence}, step {n}");
+        }
+    }
 
-pub fn counts_said(rt: &impl Print, counts: &mut Counts) {
-    numbers_came_up(rt, counts);
-    all_came_up(rt, counts, b"a sort of chip", CHIPS, 23);
-    all_came_up(rt, counts, b"a sort of list", LISTS, 10);
-    all_came_up(rt, counts, b"a number of cleared marks", CLEARED, 4);
-    say_number(rt, b"the paper's values: ", count(counts, WORKED));
-    say_number(rt, b"\nstored by both: ", count(counts, STORES));
-    numbers_said(rt, counts, STORE_NUMBERS);
-    say_number(rt, b"looked up by both: ", count(counts, LOOKUPS));
-    numbers_said(rt, counts, LOOKUP_NUMBERS);
-    say_number(rt, b"power cuts between: ", count(counts, CUTS));
-    say_number(rt, b"\nof the runs: chips ", kinds(counts, CHIPS, 23));
-    say_number(rt, b" kinds, lists ", kinds(counts, LISTS, 10));
-    say_number(
-        rt,
-        b" kinds, done stores by the marks that they cleared ",
-        kinds(counts, CLEARED, 4),
-    );
-    say_number(rt, b" kinds\n", count(counts, DIFFERENCES));
-    say(rt, b" differences\n");
+    // ---- rows
+
+    fn numbers_said(&self, counts: &[u64]) {
+        for (number, n) in counts.iter().enumerate() {
+            if *n != 0 {
+                let _ = print!(self.rt; ", {n} times {number}");
+            }
+        }
+        let _ = print!(self.rt; "\n");
+    }
+
+    // What did not come up is told, and counts as a difference.
+    fn came_up(&mut self, name: &str, i: usize, n: u64) {
+        if n == 0 {
+            bump(&mut self.counts.differences);
+            let _ = println!(self.rt; "{name} did not come up: {i}");
+        }
+    }
+
+    fn all_came_up(&mut self, name: &str, counts: &[u64]) {
+        for (i, n) in counts.iter().enumerate() {
+            self.came_up(name, i, *n);
+        }
+    }
+
+    fn numbers_came_up(&mut self, name: &str, numbers: &[usize], counts: &[u64]) {
+        for number in numbers {
+            let n = counts.get(*number).copied().unwrap_or(0);
+            self.came_up(name, *number, n);
+        }
+    }
+
+    pub fn counts_said(&mut self) {
+        let c = self.counts;
+        self.numbers_came_up(
+            "a store's number",
+            &[0, 1, 3, 5, 8, 11, 16, 18],
+            &c.store_numbers,
+        );
+        self.numbers_came_up("a lookup's number", &[0, 1, 3, 5, 17], &c.lookup_numbers);
+        self.all_came_up("a sort of chip", &c.chips);
+        self.all_came_up("a sort of list", &c.lists);
+        self.all_came_up("a number of cleared marks", &c.cleared);
+        let values = c.values;
+        let stores = c.stores;
+        let _ = print!(self.rt; "the paper's values: {values}\nstored by both: {stores}");
+        self.numbers_said(&c.store_numbers);
+        let lookups = c.lookups;
+        let _ = print!(self.rt; "looked up by both: {lookups}");
+        self.numbers_said(&c.lookup_numbers);
+        let cuts = c.cuts;
+        let chips = kinds(&c.chips);
+        let lists = kinds(&c.lists);
+        let cleared = kinds(&c.cleared);
+        let differences = self.counts.differences;
+        let _ = println!(self.rt; "power cuts between: {cuts}");
+        let _ = print!(self.rt; "of the runs: chips {chips} kinds, lists {lists} kinds, ");
+        let _ = println!(self.rt; "done stores by the marks that they cleared {cleared} kinds");
+        let _ = println!(self.rt; "{differences} differences");
+    }
 }

@@ -1,30 +1,8 @@
 // Runs of drawn calls on drawn chips and lists, with events between.
-use crate::report;
-use crate::report::{Counts, bump};
+use crate::report::Report;
 use drawing::dice::{draw, seed_of};
-use image_drawing::places::{Identity, Memory, plus};
-use station_drawing::both::{Call, Event, Lengths, Pair, Reply, Wanted};
-use station_drawing::calls::Entries;
+use station_drawing::both::{Call, Event, Lengths, Pair, Sides};
 use station_drawing::{both, calls, chips, lists, showing};
-
-// ---- what is counted
-
-fn store_counted(counts: &mut Counts, number: u8, station: u16, reply: &Reply) {
-    bump(counts, report::STORES);
-    bump(counts, plus(report::STORE_NUMBERS, (number % 32) as usize));
-    if number == 0 {
-        let n = showing::live_slots(reply, station);
-        let class = if n < 3 { n } else { 3 };
-        bump(counts, plus(report::CLEARED, class as usize));
-    }
-}
-
-fn lookup_counted(counts: &mut Counts, number: u8) {
-    bump(counts, report::LOOKUPS);
-    bump(counts, plus(report::LOOKUP_NUMBERS, (number % 32) as usize));
-}
-
-// ---- steps of a run
 
 // The number of the run, and of the step in it.
 #[derive(Clone, Copy)]
@@ -33,306 +11,103 @@ struct At {
     step: u64,
 }
 
+// ---- steps of a run
+
 fn looks(
-    rt: &impl Print,
     p: Pair,
     l: Lengths,
     t: At,
     station: u16,
-    wanted: Wanted,
-    counts: &mut Counts,
-    array: &mut Memory,
-    security: &mut Identity,
-    reply: &mut Reply,
-    marks: &mut Reply,
-    array2: &mut Memory,
-    security2: &mut Identity,
-    reply2: &mut Reply,
-    marks2: &mut Reply,
+    wanted: Option<u8>,
+    report: &mut Report<impl Print>,
+    sides: &mut Sides,
 ) -> Pair {
-    let w = both::looked_up(
-        p, l, station, wanted, 0, array, security, reply, marks, array2, security2, reply2, marks2,
-    );
-    let next = w.pair;
-    lookup_counted(counts, both::number_of(next));
-    report::told(rt, counts, b"lookup of run", t.run, t.step, w.odd);
-    next
+    let w = both::looked_up(p, l, station, wanted, None, sides);
+    report.lookup_counted(w.pair.first.number);
+    report.told("lookup of run", t.run, t.step, w.odd);
+    w.pair
 }
 
-// So many entries of a list are lent.
-fn stores_by(
-    rt: &impl Print,
-    p: Pair,
-    l: Lengths,
-    t: At,
-    c: Call,
-    list: &[u64],
-    entries: usize,
-    counts: &mut Counts,
-    array: &mut Memory,
-    security: &mut Identity,
-    reply: &mut Reply,
-    marks: &mut Reply,
-    array2: &mut Memory,
-    security2: &mut Identity,
-    reply2: &mut Reply,
-    marks2: &mut Reply,
-) -> Pair {
-    let n = calls::entries_within(entries, list);
-    let w = both::stored(
-        p,
-        l,
-        c,
-        &list[..n],
-        0,
-        array,
-        security,
-        reply,
-        marks,
-        array2,
-        security2,
-        reply2,
-        marks2,
-    );
-    let next = w.pair;
-    store_counted(counts, both::number_of(next), c.station, reply);
-    report::told(rt, counts, b"store of run", t.run, t.step, w.odd);
-    next
-}
-
-fn stores_of(
-    rt: &impl Print,
-    p: Pair,
-    l: Lengths,
-    t: At,
-    c: Call,
-    list: &Entries,
-    entries: usize,
-    counts: &mut Counts,
-    array: &mut Memory,
-    security: &mut Identity,
-    reply: &mut Reply,
-    marks: &mut Reply,
-    array2: &mut Memory,
-    security2: &mut Identity,
-    reply2: &mut Reply,
-    marks2: &mut Reply,
-) -> Pair {
-    stores_by(
-        rt, p, l, t, c, list, entries, counts, array, security, reply, marks, array2, security2,
-        reply2, marks2,
-    )
+// Of a number, as the last read of the first model showed the list.
+fn live_slots(sides: &Sides, station: u16) -> usize {
+    showing::live_slots(sides.first.reply, station)
 }
 
 fn stores(
-    rt: &impl Print,
     p: Pair,
     l: Lengths,
     t: At,
     c: Call,
     seed: u64,
-    counts: &mut Counts,
-    array: &mut Memory,
-    security: &mut Identity,
-    reply: &mut Reply,
-    marks: &mut Reply,
-    array2: &mut Memory,
-    security2: &mut Identity,
-    reply2: &mut Reply,
-    marks2: &mut Reply,
+    report: &mut Report<impl Print>,
+    sides: &mut Sides,
 ) -> Pair {
-    let mut list = [0u64; 2304];
-    let entries = calls::entries(seed);
-    calls::fill_entries(&mut list, entries, seed, c.allowance);
-    stores_of(
-        rt,
-        p,
-        calls::lengths(l, seed),
-        t,
-        c,
-        &list,
-        entries,
-        counts,
-        array,
-        security,
-        reply,
-        marks,
-        array2,
-        security2,
-        reply2,
-        marks2,
-    )
+    let mut list = [0; 2304];
+    let entries = calls::entries(&mut list, seed, c.allowance);
+    let w = both::stored(p, calls::lengths(l, seed), c, entries, None, sides);
+    report.store_counted(w.pair.first.number, live_slots(sides, c.station));
+    report.told("store of run", t.run, t.step, w.odd);
+    w.pair
 }
 
 // What was just stored is looked up.
 fn stores_and_looks(
-    rt: &impl Print,
     p: Pair,
     l: Lengths,
     t: At,
     seed: u64,
-    counts: &mut Counts,
-    array: &mut Memory,
-    security: &mut Identity,
-    reply: &mut Reply,
-    marks: &mut Reply,
-    array2: &mut Memory,
-    security2: &mut Identity,
-    reply2: &mut Reply,
-    marks2: &mut Reply,
+    report: &mut Report<impl Print>,
+    sides: &mut Sides,
 ) -> Pair {
     let c = calls::call(seed);
-    let next = stores(
-        rt, p, l, t, c, seed, counts, array, security, reply, marks, array2, security2, reply2,
-        marks2,
-    );
-    let wanted = Wanted {
-        known: both::number_of(next) == 0,
-        from: c.from,
+    let next = stores(p, l, t, c, seed, report, sides);
+    let wanted = if next.first.number == 0 {
+        Some(c.from)
+    } else {
+        None
     };
-    looks(
-        rt, next, l, t, c.station, wanted, counts, array, security, reply, marks, array2,
-        security2, reply2, marks2,
-    )
-}
-
-fn looks_drawn(
-    rt: &impl Print,
-    p: Pair,
-    l: Lengths,
-    t: At,
-    seed: u64,
-    counts: &mut Counts,
-    array: &mut Memory,
-    security: &mut Identity,
-    reply: &mut Reply,
-    marks: &mut Reply,
-    array2: &mut Memory,
-    security2: &mut Identity,
-    reply2: &mut Reply,
-    marks2: &mut Reply,
-) -> Pair {
-    let wanted = Wanted {
-        known: false,
-        from: 0,
-    };
-    looks(
-        rt,
-        p,
-        calls::lengths(l, seed),
-        t,
-        calls::station(seed),
-        wanted,
-        counts,
-        array,
-        security,
-        reply,
-        marks,
-        array2,
-        security2,
-        reply2,
-        marks2,
-    )
+    looks(next, l, t, c.station, wanted, report, sides)
 }
 
 // ---- events
 
 fn happens(
-    rt: &impl Print,
     p: Pair,
     l: Lengths,
     t: At,
     e: Event,
-    sent: &[u8],
-    counts: &mut Counts,
-    array: &mut Memory,
-    security: &mut Identity,
-    array2: &mut Memory,
-    security2: &mut Identity,
+    report: &mut Report<impl Print>,
+    sides: &mut Sides,
 ) -> Pair {
-    let w = both::happened(p, l, e, sent, 0, array, security, array2, security2);
-    report::told(rt, counts, b"event of run", t.run, t.step, w.odd);
+    let w = both::happened(p, l, e, None, sides);
+    report.told("event of run", t.run, t.step, w.odd);
     w.pair
 }
 
-fn sends(
-    rt: &impl Print,
-    p: Pair,
-    l: Lengths,
-    t: At,
-    opcode: u8,
-    counts: &mut Counts,
-    array: &mut Memory,
-    security: &mut Identity,
-    array2: &mut Memory,
-    security2: &mut Identity,
-) -> Pair {
-    let sent = [opcode];
-    happens(
-        rt,
-        p,
-        l,
-        t,
-        calls::frame(),
-        &sent,
-        counts,
-        array,
-        security,
-        array2,
-        security2,
-    )
-}
-
 fn cuts(
-    rt: &impl Print,
     p: Pair,
     l: Lengths,
     t: At,
     seed: u64,
-    counts: &mut Counts,
-    array: &mut Memory,
-    security: &mut Identity,
-    array2: &mut Memory,
-    security2: &mut Identity,
+    report: &mut Report<impl Print>,
+    sides: &mut Sides,
 ) -> Pair {
-    bump(counts, report::CUTS);
-    happens(
-        rt,
-        p,
-        l,
-        t,
-        calls::cut(seed),
-        b"",
-        counts,
-        array,
-        security,
-        array2,
-        security2,
-    )
+    report.cut_counted();
+    happens(p, l, t, calls::cut(seed), report, sides)
 }
 
 // A power cut, and 06 and 98, which open the list again.
 fn cuts_and_opens(
-    rt: &impl Print,
     p: Pair,
     l: Lengths,
     t: At,
     seed: u64,
-    counts: &mut Counts,
-    array: &mut Memory,
-    security: &mut Identity,
-    array2: &mut Memory,
-    security2: &mut Identity,
+    report: &mut Report<impl Print>,
+    sides: &mut Sides,
 ) -> Pair {
-    let a = cuts(
-        rt, p, l, t, seed, counts, array, security, array2, security2,
-    );
-    let b = sends(
-        rt, a, l, t, 0x06, counts, array, security, array2, security2,
-    );
-    sends(
-        rt, b, l, t, 0x98, counts, array, security, array2, security2,
-    )
+    let a = cuts(p, l, t, seed, report, sides);
+    let b = happens(a, l, t, Event::Frame(&[0x06]), report, sides);
+    happens(b, l, t, Event::Frame(&[0x98]), report, sides)
 }
 
 // The reset enable, suspension, resumption, WEL.
@@ -345,170 +120,57 @@ fn opcode(seed: u64) -> u8 {
     }
 }
 
-fn event(
-    rt: &impl Print,
-    kind: u64,
-    p: Pair,
-    l: Lengths,
-    t: At,
-    seed: u64,
-    counts: &mut Counts,
-    array: &mut Memory,
-    security: &mut Identity,
-    array2: &mut Memory,
-    security2: &mut Identity,
-) -> Pair {
-    match kind {
-        11 | 12 => cuts_and_opens(
-            rt, p, l, t, seed, counts, array, security, array2, security2,
-        ),
-        13 => happens(
-            rt,
-            p,
-            l,
-            t,
-            calls::completion(),
-            b"",
-            counts,
-            array,
-            security,
-            array2,
-            security2,
-        ),
-        14 => sends(
-            rt,
-            p,
-            l,
-            t,
-            opcode(seed),
-            counts,
-            array,
-            security,
-            array2,
-            security2,
-        ),
-        _ => cuts(
-            rt, p, l, t, seed, counts, array, security, array2, security2,
-        ),
-    }
-}
-
 fn step(
-    rt: &impl Print,
     p: Pair,
     l: Lengths,
     t: At,
     seed: u64,
-    counts: &mut Counts,
-    array: &mut Memory,
-    security: &mut Identity,
-    reply: &mut Reply,
-    marks: &mut Reply,
-    array2: &mut Memory,
-    security2: &mut Identity,
-    reply2: &mut Reply,
-    marks2: &mut Reply,
+    report: &mut Report<impl Print>,
+    sides: &mut Sides,
 ) -> Pair {
-    let kind = draw(seed, 42, 16);
-    match kind {
-        0..=6 => stores_and_looks(
-            rt, p, l, t, seed, counts, array, security, reply, marks, array2, security2, reply2,
-            marks2,
-        ),
-        7..=10 => looks_drawn(
-            rt, p, l, t, seed, counts, array, security, reply, marks, array2, security2, reply2,
-            marks2,
-        ),
-        _ => event(
-            rt, kind, p, l, t, seed, counts, array, security, array2, security2,
-        ),
+    match draw(seed, 42, 16) {
+        0..=6 => stores_and_looks(p, l, t, seed, report, sides),
+        7..=10 => {
+            let l = calls::lengths(l, seed);
+            looks(p, l, t, calls::station(seed), None, report, sides)
+        }
+        11 | 12 => cuts_and_opens(p, l, t, seed, report, sides),
+        13 => happens(p, l, t, Event::Completion, report, sides),
+        14 => happens(p, l, t, Event::Frame(&[opcode(seed)]), report, sides),
+        _ => cuts(p, l, t, seed, report, sides),
     }
 }
 
 // ---- runs
 
-// Each sort in turn; an idle chip with an open list more often.
-fn sort_of(k: u64) -> u64 {
-    if k % 32 < chips::SORTS {
-        return k % 32;
-    }
-    0
-}
-
 // The same list in both arrays.
-fn filled(k: u64, counts: &mut Counts, array: &mut Memory, array2: &mut Memory) {
+fn filled(k: u64, report: &mut Report<impl Print>, sides: &mut Sides) {
     let seed = seed_of(207, k);
-    let sort = draw(seed, 43, lists::SORTS);
-    bump(counts, plus(report::LISTS, (sort % 16) as usize));
-    lists::fill(array, sort, seed);
-    lists::fill(array2, sort, seed);
+    let n = (draw(seed, 43, 10) % 10) as usize;
+    let sort = lists::SORTS[n];
+    report.list_counted(n);
+    lists::fill(sides.first.array, sort, seed);
+    lists::fill(sides.second.array, sort, seed);
 }
 
-fn run(
-    rt: &impl Print,
-    k: u64,
-    counts: &mut Counts,
-    array: &mut Memory,
-    security: &mut Identity,
-    reply: &mut Reply,
-    marks: &mut Reply,
-    array2: &mut Memory,
-    security2: &mut Identity,
-    reply2: &mut Reply,
-    marks2: &mut Reply,
-) {
+// Each sort of chip in turn; an idle chip with an open list more often.
+fn run(k: u64, report: &mut Report<impl Print>, sides: &mut Sides) {
     let seed = seed_of(206, k);
-    let sort = sort_of(k);
-    bump(counts, plus(report::CHIPS, (sort % 32) as usize));
-    filled(k, counts, array, array2);
-    let l = calls::run_lengths(
-        both::right_lengths(),
-        sort == chips::WRONG_ARRAY,
-        sort == chips::WRONG_SECURITY,
-        seed,
-    );
+    let turn = (k % 32) as usize;
+    let n = if turn < 23 { turn } else { 0 };
+    let sort = chips::SORTS[n];
+    report.chip_counted(n);
+    filled(k, report, sides);
+    let l = calls::run_lengths(sort, seed);
     let mut p = both::pair_of(chips::start(sort, seed));
-    let mut n: u64 = 0;
-    while n < 6 {
-        let t = At { run: k, step: n };
-        p = step(
-            rt,
-            p,
-            l,
-            t,
-            seed_of(seed, n),
-            counts,
-            array,
-            security,
-            reply,
-            marks,
-            array2,
-            security2,
-            reply2,
-            marks2,
-        );
-        n += 1;
+    for i in 0..6 {
+        let t = At { run: k, step: i };
+        p = step(p, l, t, seed_of(seed, i), report, sides);
     }
 }
 
-pub fn runs_tried(
-    rt: &impl Print,
-    runs: u64,
-    counts: &mut Counts,
-    array: &mut Memory,
-    security: &mut Identity,
-    reply: &mut Reply,
-    marks: &mut Reply,
-    array2: &mut Memory,
-    security2: &mut Identity,
-    reply2: &mut Reply,
-    marks2: &mut Reply,
-) {
-    let mut k: u64 = 0;
-    while k < runs {
-        run(
-            rt, k, counts, array, security, reply, marks, array2, security2, reply2, marks2,
-        );
-        k += 1;
+pub fn runs_tried(runs: u64, report: &mut Report<impl Print>, sides: &mut Sides) {
+    for k in 0..runs {
+        run(k, report, sides);
     }
 }

@@ -1,9 +1,0 @@
--- The array stays as long; what is left of the slot falls.
-use Rattle.std.proofs.Common.{◌≡◌, ◌-◌, length}
-use Rattle.station_drawing.proofs.lists.put_slot.Given as goal
-
-abbrev pub invariant-loop-i : goal.invariant-loop-i
-invariant-loop-i l = length l.array ≡ length l.initial.array
-
-abbrev pub decreases-loop-i : goal.decreases-loop-i
-decreases-loop-i l = 32 - l.i
