@@ -8,36 +8,24 @@ use keeping::told;
 use std::env::{Env, FillError};
 use std::io::{Read, Write};
 
-// What the words so far ask for: the part that a new chip is, where the name of the chip's file stands among them (0: nowhere), and whether the next word is
-// that name.
+// What the words so far ask for: the part that a new chip is, where the name of the chip's file stands among them, and whether the next word is that name.
 #[derive(Clone, Copy)]
 struct Session {
     ba: bool,
     disguise: bool,
     raw: bool,
-    file: usize,
+    file: Option<usize>,
     naming: bool,
     served: bool,
     wrong: bool,
 }
 
-fn same(a: &[u8], b: &[u8]) -> bool {
-    a == b
-}
-
-fn starts_dashed(word: &[u8]) -> bool {
-    if 0 < word.len() {
-        return word[0] == b'-';
-    }
-    false
-}
-
 fn is_option(word: &[u8]) -> bool {
-    (1 < word.len()) & starts_dashed(word)
+    (1 < word.len()) & word.starts_with(b"-")
 }
 
 fn is_name(word: &[u8]) -> bool {
-    (0 < word.len()) & !starts_dashed(word)
+    !word.is_empty() & !word.starts_with(b"-")
 }
 
 fn say(rt: &HostRuntime, text: &[u8]) {
@@ -109,11 +97,11 @@ fn word_of(rt: &HostRuntime, i: usize, word: &mut [u8]) -> usize
 }
 
 fn source_served<R: Read>(rt: &HostRuntime, s: Session, from: &mut R) -> bool {
-    if s.file == 0 {
+    let Some(i) = s.file else {
         return served(rt, s, from, b"");
-    }
+    };
     let mut name = [0u8; 4096];
-    let n = word_of(rt, s.file, &mut name);
+    let n = word_of(rt, i, &mut name);
     served(rt, s, from, &name[..n])
 }
 
@@ -121,7 +109,7 @@ fn source_served<R: Read>(rt: &HostRuntime, s: Session, from: &mut R) -> bool {
 fn session_served(rt: &HostRuntime, s: Session, word: &[u8]) -> Session {
     let mut next = s;
     next.served = true;
-    if same(word, b"-") {
+    if let b"-" = word {
         let mut from = rt.stdin();
         next.wrong = !source_served(rt, s, &mut from);
         return next;
@@ -145,7 +133,7 @@ fn file_named(rt: &HostRuntime, s: Session, i: usize, word: &[u8]) -> Session {
         return wrong_told(rt, s, word, b" is no name of a chip's file");
     }
     let mut next = s;
-    next.file = i;
+    next.file = Some(i);
     next.naming = false;
     next
 }
@@ -156,28 +144,21 @@ fn word_taken(rt: &HostRuntime, s: Session, i: usize, word: &[u8]) -> Session {
     if s.naming {
         return file_named(rt, s, i, word);
     }
-    if same(word, b"--identity-of-sst26vf016b") {
-        next.disguise = true;
-        return next;
+    match word {
+        b"--identity-of-sst26vf016b" => next.disguise = true,
+        b"--old" => next.ba = false,
+        b"--chip" => {
+            next.raw = false;
+            next.naming = true;
+        }
+        b"--raw" => {
+            next.raw = true;
+            next.naming = true;
+        }
+        _ if is_option(word) => return wrong_told(rt, s, word, b" is no option"),
+        _ => return session_served(rt, s, word),
     }
-    if same(word, b"--old") {
-        next.ba = false;
-        return next;
-    }
-    if same(word, b"--chip") {
-        next.raw = false;
-        next.naming = true;
-        return next;
-    }
-    if same(word, b"--raw") {
-        next.raw = true;
-        next.naming = true;
-        return next;
-    }
-    if is_option(word) {
-        return wrong_told(rt, s, word, b" is no option");
-    }
-    session_served(rt, s, word)
+    next
 }
 
 fn argument_taken(rt: &HostRuntime, s: Session, i: usize) -> Session {
@@ -192,7 +173,7 @@ fn arguments_taken(rt: &HostRuntime, n: usize) -> Session {
         ba: true,
         disguise: false,
         raw: false,
-        file: 0,
+        file: None,
         naming: false,
         served: false,
         wrong: false,
