@@ -1,8 +1,8 @@
 // Scripts from files and from standard input: each on a new chip, with counts of its own.
-use crate::parts::within;
+ghost use Rattle.std.specs.Prelude.{◌≤◌, length};
+
 use crate::posts::{EACCES, ENOENT, carried};
 use calling::Account;
-use ordering::Place;
 use posting::Report;
 use standing::Playing;
 use std::env::{Env, FillError};
@@ -29,8 +29,7 @@ fn say(rt: &impl Print, text: &[u8]) {
 
 fn say_row(rt: &impl Print, r: Row) {
     let t = r.text;
-    let n = within(r.length, &t);
-    say(rt, &t[..n]);
+    say(rt, &t[..r.length.min(80)]);
     say(rt, b"\n");
 }
 
@@ -47,7 +46,9 @@ fn refilled(
     source: &mut impl Read,
     prompt: bool,
     input: &mut [u8; 65536],
-) -> usize {
+) -> usize
+    ensures { result ≤ length input.new }
+{
     if prompt {
         say(rt, b"> ");
     }
@@ -60,42 +61,50 @@ fn refilled(
     }
 }
 
-// Where nothing came, the line's end that the last line may lack.
-fn with_end(n: usize, input: &mut [u8; 65536]) -> usize {
-    if n == 0 {
-        input[0] = b'\n';
-        return 1;
-    }
-    n
-}
-
-fn byte_at(input: &[u8; 65536], i: usize) -> u8 {
-    if i < 65536 {
-        return input[i];
-    }
-    b'\n'
-}
-
-// A script half played: what came of it, of a file and of a call, what of that is told, and how much of the input is taken.
+// A script half played: what came of it, of a file and of a call.
 #[derive(Clone, Copy)]
 struct Desk {
     now: Playing,
     report: Report,
     account: Account,
-    at: Place,
-    taken: usize,
-    came: usize,
-    ended: bool,
-    over: bool,
 }
 
-// A row is told, or a byte is taken, or more bytes come.
-fn turn(
-    rt: &(impl Files + Print),
-    source: &mut impl Read,
-    prompt: bool,
+// The rows of a line that ended, one after the other: a proved loop has to end, so it counts them, up to a number that no line reaches.
+fn line_told(
+    rt: &impl Print,
     d: Desk,
-    input: &mut [u8; 65536],
+    array: &[u8; 2097153],
+    security: &[u8; 2049],
+    frame: &[u8; 65537],
+    expected: &[u8; 65537],
+    known: &[u8; 65537],
+    remark: &[u8; 65537],
+    reply: &[u8; 65537],
+    marks: &[u8; 65537],
+) {
+    let mut at = ordering::begun(d.now);
+    for _ in 0..u64::MAX {
+        if ordering::is_over(at) {
+            return;
+        }
+        let r = telling::row(
+            d.now, at, frame, expected, known, remark, reply, marks, array, security,
+        );
+        told(rt, r);
+        told(rt, post_rows::row(d.now, d.report, at, frame));
+        told(
+            rt,
+            station_rows::row(d.now, d.account, at, expected, known, reply, marks),
+        );
+        at = ordering::next(d.now, at);
+    }
+}
+
+// Each byte that came is taken; what it ends is told before the next one.
+fn taken(
+    rt: &(impl Files + Print),
+    start: Desk,
+    came: &[u8],
     array: &mut [u8; 2097153],
     security: &mut [u8; 2049],
     frame: &mut [u8; 65537],
@@ -105,78 +114,39 @@ fn turn(
     reply: &mut [u8; 65537],
     marks: &mut [u8; 65537],
 ) -> Desk {
-    let mut next = d;
-    let now = d.now;
-    let at = d.at;
-    if !ordering::is_over(at) {
-        let r = telling::row(
-            now, at, frame, expected, known, remark, reply, marks, array, security,
-        );
-        told(rt, r);
-        told(rt, post_rows::row(now, d.report, at, frame));
-        told(
-            rt,
-            station_rows::row(now, d.account, at, expected, known, reply, marks),
-        );
-        next.at = ordering::next(now, at);
-        return next;
-    }
-    if d.taken < d.came {
-        let b = byte_at(input, d.taken);
+    let mut d = start;
+    for b in came {
         let now = playing::take(
-            now, b, array, security, frame, expected, known, remark, reply, marks,
+            d.now, *b, array, security, frame, expected, known, remark, reply, marks,
         );
         let c = carried(rt, now, array, security, frame);
-        let report = c.report;
         let called = calling::carry(
             c.playing, array, security, frame, expected, known, reply, marks,
         );
-        let playing = called.playing;
-        let account = called.account;
-        next.now = playing;
-        next.report = report;
-        next.account = account;
-        next.at = ordering::begun(playing);
-        next.taken = std::num::wrapping_add_usize(d.taken, 1);
-        return next;
+        d = Desk {
+            now: called.playing,
+            report: c.report,
+            account: called.account,
+        };
+        line_told(
+            rt, d, array, security, frame, expected, known, remark, reply, marks,
+        );
     }
-    if d.ended {
-        next.over = true;
-        return next;
-    }
-    let n = refilled(rt, source, prompt, input);
-    next.ended = n == 0;
-    next.came = with_end(n, input);
-    next.taken = 0;
-    next
+    d
 }
 
 fn begun(strict: bool) -> Desk {
     let c = posting::nothing(standing::start(strict));
-    let report = c.report;
     let called = calling::nothing(c.playing);
-    let now = called.playing;
-    let account = called.account;
-    let at = ordering::nothing();
     Desk {
-        now,
-        report,
-        account,
-        at,
-        taken: 0,
-        came: 0,
-        ended: false,
-        over: false,
+        now: called.playing,
+        report: c.report,
+        account: called.account,
     }
 }
 
-fn tally_of(d: Desk) -> Tally {
-    let now = d.now;
-    let bench = now.bench;
-    bench.tally
-}
-
-// A proved loop has to end, and nothing says that an input does: so it counts its turns, up to a number that no run reaches.
+// A proved loop has to end, and nothing says that an input does: so it counts its turns, up to a number that no run reaches. Where nothing comes any more,
+// the line's end that the last line may lack is taken last.
 fn turned(
     rt: &(impl Files + Print),
     source: &mut impl Read,
@@ -194,13 +164,14 @@ fn turned(
 ) -> Desk {
     let mut d = start;
     for _ in 0..u64::MAX {
-        if d.over {
+        let n = refilled(rt, source, prompt, input);
+        let came = if n == 0 { b"\n" } else { &input[..n] };
+        d = taken(
+            rt, d, came, array, security, frame, expected, known, remark, reply, marks,
+        );
+        if n == 0 {
             break;
         }
-        d = turn(
-            rt, source, prompt, d, input, array, security, frame, expected, known, remark, reply,
-            marks,
-        );
     }
     d
 }
@@ -237,7 +208,7 @@ fn script_played(
         &mut reply,
         &mut marks,
     );
-    tally_of(d)
+    d.now.bench.tally
 }
 
 // ---- the scripts
@@ -259,11 +230,11 @@ fn input_played(rt: &(impl Files + Print), s: Session, source: &mut impl Read) -
     say_row(rt, telling::heading());
     let t = script_played(rt, source, s.strict, s.prompt);
     say_row(rt, telling::total(t));
-    let sum = tallies::sum_of(s.tally, t);
-    let mut next = s;
-    next.scripts = std::num::wrapping_add_u64(s.scripts, 1);
-    next.tally = sum;
-    next
+    Session {
+        scripts: s.scripts.wrapping_add(1),
+        tally: tallies::sum_of(s.tally, t),
+        ..s
+    }
 }
 
 // Its name, the heading and its rows.
@@ -297,17 +268,9 @@ fn file_played(rt: &HostRuntime, s: Session, input: bool, name: &[u8]) -> Sessio
 
 // An option, or a script.
 fn word_played(rt: &HostRuntime, s: Session, word: &[u8]) -> Session {
-    let mut next = s;
-    let argument = telling::argument_of(word);
-    match argument {
-        Argument::Strict => {
-            next.strict = true;
-            next
-        }
-        Argument::Prompt => {
-            next.prompt = true;
-            next
-        }
+    match telling::argument_of(word) {
+        Argument::Strict => Session { strict: true, ..s },
+        Argument::Prompt => Session { prompt: true, ..s },
         Argument::Input => file_played(rt, s, true, word),
         Argument::Script => file_played(rt, s, false, word),
     }

@@ -3,7 +3,6 @@
 #![tactic(auto)]
 
 mod files;
-mod parts;
 mod posts;
 
 fn main(rt: HostRuntime) {

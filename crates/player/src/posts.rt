@@ -1,5 +1,4 @@
 // Files that a script saves, loads and compares: here they are read and written. What comes of them is said by crates posting and image_posts.
-use crate::parts::within;
 use posting::{Carried, Trouble};
 use standing::{Playing, Post};
 use std::io;
@@ -86,7 +85,7 @@ fn raw_saved(rt: &impl Files, p: Playing, array: &[u8], name: &[u8]) -> Carried 
     if number != 0 {
         return posting::end(p, None, number, 0);
     }
-    let n = within(2097152, array);
+    let n = array.len().min(2097152);
     let t = written(rt, name, &array[..n]);
     posting::end(p, t, 0, n)
 }
@@ -99,13 +98,12 @@ fn used(
     file: &[u8],
     length: usize,
 ) -> Carried {
-    let n = within(length, file);
+    let came = &file[..length.min(file.len())];
     match f {
-        Post::Save => posting::nothing(p),
-        Post::SaveRaw => posting::nothing(p),
-        Post::Load => image_posts::load(p, array, security, &file[..n]),
-        Post::LoadRaw => posting::load_raw(p, array, &file[..n]),
-        Post::CompareRaw => posting::compare_raw(p, array, &file[..n]),
+        Post::Save | Post::SaveRaw => posting::nothing(p),
+        Post::Load => image_posts::load(p, array, security, came),
+        Post::LoadRaw => posting::load_raw(p, array, came),
+        Post::CompareRaw => posting::compare_raw(p, array, came),
     }
 }
 
@@ -147,9 +145,7 @@ fn posted(
     match f {
         Post::Save => saved(rt, p, array, security, name),
         Post::SaveRaw => raw_saved(rt, p, array, name),
-        Post::Load => taken(rt, p, f, array, security, name),
-        Post::LoadRaw => taken(rt, p, f, array, security, name),
-        Post::CompareRaw => taken(rt, p, f, array, security, name),
+        Post::Load | Post::LoadRaw | Post::CompareRaw => taken(rt, p, f, array, security, name),
     }
 }
 
@@ -161,8 +157,7 @@ pub fn carried(
     security: &mut [u8],
     frame: &[u8],
 ) -> Carried {
-    let reading = p.reading;
-    let n = within(reading.sent, frame);
+    let n = p.reading.sent.min(frame.len());
     match posting::asked(p) {
         None => posting::nothing(p),
         Some(f) => posted(rt, p, f, array, security, &frame[..n]),
