@@ -17,6 +17,8 @@ fn frame_right(sent_len: usize, reply_len: usize, marks_len: usize) -> bool
     (sent_len <= 65536) & (reply_len <= 65536) & (reply_len == marks_len)
 }
 
+// The memories, the reply and the marks stay parameters of their own: `chip::frame` and C's fulkibono_frame are handed them apart.
+
 // ---- an accepted 99: it stops what runs, the only frame that changes the two memories
 
 pub fn resets(known: bool, r: Rest, sent: &[u8], reply_len: usize, marks_len: usize) -> bool

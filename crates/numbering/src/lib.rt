@@ -11,6 +11,7 @@ use rules::{Burst, Flags, Work};
 
 // ---- works
 
+// The kinds are numbers in a record's bytes (fulkibono.h). No cast gives them, since most works have a number beside the kind.
 pub fn kind_of(w: Work) -> u64
     ensures { result ≡ kind_of w }
 {
@@ -48,6 +49,7 @@ pub fn work_right(kind: u64, n: u64) -> bool
     (kind < 9) & (!((kind == 0) | (kind == 3) | (kind == 6)) | (n == 0)) & ((kind != 7) | (n < 4))
 }
 
+// Total, no Option: record_code judges a record's bytes by `work_right` and takes them apart later, and the law work_kept names the two.
 pub fn work_of(kind: u64, n: u64) -> Work
     ensures { result ≡ work_of kind n }
 {
@@ -110,7 +112,7 @@ pub fn burst_byte(b: Burst) -> u64
     b as u64
 }
 
-// How many bytes it has.
+// How many bytes it has: 8, 16, 32 or 64.
 pub fn burst_length(b: Burst) -> usize
     ensures { result ≡ burst_length b }
 {
