@@ -17,7 +17,6 @@ use Rattle.rules.specs.Promises.{zeroed, carried_of, frame_of}
 use Rattle.rules.specs.Demands.{frame_call}
 use Rattle.rules.proofs.Promises.{lent_one}
 use Rattle.rules.proofs.Tears.{frames_leave}
-use Rattle.memory.specs.Patched.{Patched}
 use Rattle.record_code.specs.Layout.{is_code, decode}
 use Rattle.bench.specs.Boundary.{LentBench, Came, Seen, lent_bench_of, came_of, state_in, CallPromise}
 use Rattle.bench.proofs.Outcomes.{of_code, of_no_code}
@@ -62,23 +61,16 @@ judged b g a i p = go (is_code b.bytes) refl
 
 -- ---- the copy that is judged
 
-copied : (l l₀ src : List ℕ) (n : ℕ) → length l₀ ≡ n → length src ≡ n → Patched l l₀ 0 n (λ i. get_or src (0 + i) 0) → l ≡ src
-copied l l₀ src n e d p =
-    ext_get_or 0 l src (p.size ∙ e ∙ sym d)
-    (λ i h. let k : i < n = (let s = p.size in omega arith) in rw zero-add at (p.inside i k))
-
 pub of_other_size : (l : List ℕ) → (length l ≡ 320 → ⊥) → false ≡ ((decode l).known && well_formed (decode l).chip)
 unfolding is_code
 of_other_size l h = rw (ne_eqb (length l) 320 h)
 
 -- what the empty frame says of the copy is said of the bytes, and the buffer is as it was
-pub copy_judged : (bytes copy first id copy' id' file file' : List ℕ) (r : ℕ) → length bytes ≡ 320 → length first ≡ 320 → length id ≡ 2048 → 2097152 ≤ length file
-    → Patched copy first 0 320 (λ i. get_or bytes (0 + i) 0)
+pub copy_judged : (bytes copy id copy' id' file file' : List ℕ) (r : ℕ) → length id ≡ 2048 → 2097152 ≤ length file → copy ≡ bytes
     → CallPromise (lent_bench_of copy (take 2097152 file) id) (frame_call (carried_of [] [] [] zeroed)) (came_of r copy' (take 2097152 file') id' [] [])
     → drop 2097152 file' ≡ drop 2097152 file
     → (eqb r 2 ≡ ((decode bytes).known && well_formed (decode bytes).chip)) × (file' ≡ file)
-copy_judged bytes copy first id copy' id' file file' r size e i h c p behind =
-    let same = copied copy first bytes 320 e size c in
+copy_judged bytes copy id copy' id' file file' r i h same p behind =
     let j = judged (lent_bench_of copy (take 2097152 file) id) (came_of r copy' (take 2097152 file') id' [] []) (length-take-le 2097152 file h) i p in (
       j.0 ∙ ap (λ l. (decode l).known && well_formed (decode l).chip) same,
       sym (take-append-drop 2097152 file') ∙ (λ k. j.1 k ++ behind k) ∙ take-append-drop 2097152 file,

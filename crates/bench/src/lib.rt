@@ -16,7 +16,6 @@ ghost use Rattle.bench.specs.Images.{idle_of, image_read_of, WriteImagePromise, 
 
 use chip::{Circumstances, Event, Tear};
 use rules::Rest;
-use rules::plain::smaller;
 
 // ---- the chip
 
@@ -197,7 +196,7 @@ fn empty_frame(coded: &mut [u8], file: &mut [u8], id: &mut [u8]) -> u8
     ensures number { CallPromise (lent_bench_of coded.old (take 2097152 file.old) id.old) (frame_call (carried_of [] [] [] zeroed)) (came_of result coded.new (take 2097152 file.new) id.new [] []) }
     ensures behind { drop 2097152 file.new ≡ drop 2097152 file.old }
 {
-    let n = smaller(2097152, file.len());
+    let n = file.len().min(2097152);
     event(
         Event::Frame,
         coded,
@@ -220,7 +219,7 @@ fn is_record_by(bytes: &[u8], coded: &mut [u8; 320], id: &mut [u8; 2048], file: 
     if bytes.len() != 320 {
         return false;
     }
-    memory::copy(coded, 0, 320, bytes, 0);
+    coded.copy_from_slice(bytes);
     empty_frame(coded, file, id) == 2
 }
 

@@ -1,5 +1,5 @@
 -- Two bytes of a list, a sum that goes on, and bytes put into a list. Assumes nothing.
-use Rattle.std.proofs.Common.{◌≡◌, ℕ, suc, ◌+◌, ◌-◌, ◌*◌, ◌/◌, ◌%◌, ◌<◌, ◌≤◌, List, [], ◌∷◌, ◌++◌, length, get_or, take, drop, set, sym, ap, ◌∙◌, append_assoc, append-nil, add-mul, arith, length-append, length-drop, take-append-drop, length-take-le, get_or-drop, take_all, drop-cons, get_or-take, take-suc, take-take, drop-drop, take_at, ext_get_or, take-add, drop_at}
+use Rattle.std.proofs.Common.{◌≡◌, ℕ, suc, ◌+◌, ◌-◌, ◌*◌, ◌/◌, ◌%◌, ◌<◌, ◌≤◌, List, [], ◌∷◌, ◌++◌, length, get_or, take, drop, set, sym, ap, ◌∙◌, append_assoc, append-nil, add-mul, arith, length-append, length-drop, take-append-drop, length-take-le, get_or-drop, take_all, drop-cons, get_or-take, take-take, drop-drop, take_at, ext_get_or, take-add, drop_at}
 use lib.Seq.{paste, take-paste, sets-eq, take-append-le, length_paste_head}
 use Rattle.std.specs.List.{fold}
 use Rattle.memory.specs.Patched.{Patched}

@@ -1,18 +1,17 @@
 -- A call on the record of some bytes: the record is decoded, the store's function called, and its record coded again. Assumes nothing.
-use Prim.Native.Nat.{ℕ, ◌+◌, ◌-◌, ◌<◌, ◌≤◌}
-use mathlib.Core.Path.{◌≡◌, refl, sym, ap, ◌∙◌}
+use Prim.Native.Nat.{ℕ}
+use mathlib.Core.Path.{◌≡◌, sym, ap, ◌∙◌}
 use mathlib.Core.Bool.{Bool, true, false}
 use mathlib.Core.List.{List, ◌++◌}
 use native.Mathlib.Omega.{arith}
-use lib.Dec.{eqb, ltb}
-use lib.ListN.{length, get_or, take, drop, length-append, length-drop, get_or-append}
-use lib.Seq.{ext_get_or, get_or-take, get_or-drop, get_or-append-add, length-take-le, take-append_seam}
-use borrow.Author.Tests.{ltb-true, ltb-false, eqb-true}
+use lib.Dec.{eqb}
+use lib.ListN.{length, take, drop, length-append, length-drop}
+use lib.Seq.{take-append_seam}
+use borrow.Author.Tests.{eqb-true}
 use Rattle.rules.specs.declared.Chip.{Chip}
 use Rattle.rules.specs.Words.{pick, lent}
 use Rattle.rules.specs.Promises.{bench_of, state_of}
 use Rattle.rules.proofs.Bools.{and_split}
-use Rattle.memory.specs.Patched.{Patched}
 use Rattle.record_code.specs.Layout.{record_size, NothingReserved, code, is_code, rest_code, chip_in}
 use Rattle.record_code.proofs.Faithful.{reserved_kept}
 use Rattle.stations.specs.declared.StoreRecord.{StoreRecord}
@@ -21,43 +20,6 @@ use Rattle.stations.specs.Calls.{Ended}
 use Rattle.stations.proofs.Given.{lookup_given}
 use Rattle.station_bench.specs.Boundary.{Told, told_of, told_by, stored_in, Found, found_of, found_by, found_in}
 use Rattle.station_bench.specs.Boundary as boundary
-
-zero_plus : (i : ℕ) → 0 + i ≡ i
-zero_plus i = omega arith
-
--- ---- the page
-
-pub page_read : (l l₀ bytes : List ℕ) → length l₀ ≡ 256 → 256 ≤ length bytes → Patched l l₀ 0 256 (λ i. get_or bytes (0 + i) 0) → l ≡ take 256 bytes
-page_read l l₀ bytes whole long p = ext_get_or 0 l (take 256 bytes) (p.size ∙ whole ∙ sym (length-take-le 256 bytes long)) at
-  where
-    at : (i : ℕ) → i < length l → get_or l i 0 ≡ get_or (take 256 bytes) i 0
-    at i h =
-        let s = p.size ∙ whole in
-        let k : i < 256 = omega arith in
-        ap (λ (x : ℕ). get_or l x 0) (sym (zero_plus i)) ∙ p.inside i k ∙ ap (λ (x : ℕ). get_or bytes x 0) (zero_plus i) ∙ sym (get_or-take 256 bytes i 0 k)
-
-pub page_put : (l l₀ page : List ℕ) → length page ≡ 256 → 256 ≤ length l₀ → Patched l l₀ 0 256 (λ i. get_or page (0 + i) 0) → l ≡ page ++ drop 256 l₀
-page_put l l₀ page whole long p = ext_get_or 0 l (page ++ drop 256 l₀) (p.size ∙ sym size) at
-  where
-    size : length (page ++ drop 256 l₀) ≡ length l₀
-    size = let a = length-append page (drop 256 l₀) in let b = length-drop 256 l₀ in omega arith
-
-    front : (i : ℕ) → i < 256 → get_or l i 0 ≡ get_or (page ++ drop 256 l₀) i 0
-    front i k =
-        ap (λ (x : ℕ). get_or l x 0) (sym (zero_plus i)) ∙ p.inside i k ∙ ap (λ (x : ℕ). get_or page x 0) (zero_plus i)
-        ∙ sym (get_or-append page (drop 256 l₀) 0 i (omega arith))
-
-    at : (i : ℕ) → i < length l → get_or l i 0 ≡ get_or (page ++ drop 256 l₀) i 0
-    at i h = go (ltb i 256) refl
-      where
-        go : (b : Bool) → ltb i 256 ≡ b → get_or l i 0 ≡ get_or (page ++ drop 256 l₀) i 0
-        go true e = front i (ltb-true i 256 e)
-        go false e =
-            let k = ltb-false i 256 e in
-            let q : length page + (i - 256) ≡ i = omega arith in
-            let z : 256 + (i - 256) ≡ i = omega arith in
-            p.after i (omega arith)
-            ∙ sym (ap (λ (x : ℕ). get_or (page ++ drop 256 l₀) x 0) (sym q) ∙ get_or-append-add page (drop 256 l₀) (i - 256) 0 ∙ get_or-drop 256 l₀ (i - 256) 0 ∙ ap (λ (x : ℕ). get_or l₀ x 0) z)
 
 -- ---- the record
 

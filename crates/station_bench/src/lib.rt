@@ -24,7 +24,7 @@ fn chip_in(bytes: &[u8]) -> Chip
     ensures { result ≡ chip_in bytes.now }
 {
     let mut page = [0u8; 256];
-    memory::copy(&mut page, 0, 256, bytes, 0);
+    page.copy_from_slice(&bytes[..256]);
     let rest = record_code::rest_in(bytes);
     Chip { buffer: page, rest }
 }
@@ -35,7 +35,7 @@ fn put_page(bytes: &mut [u8], page: &[u8; 256])
     ensures bytes_after { bytes.new ≡ page.now ++ drop 256 bytes.old }
     ensures whole { length page.now ≡ 256 }
 {
-    memory::copy(bytes, 0, 256, page, 0);
+    bytes[..256].copy_from_slice(page);
 }
 
 // The bytes of a chip's record. The reserved ones are 0 already.

@@ -10,10 +10,8 @@ returns-then-bytes-ne320 c = record { value = of_other_size c.args.bytes.now c.i
 
 pub returns : goal.returns
 returns c = let a = c.args in
-    let size = c.if-bytes-ne320.false in
     let long = c.requires in
-    let e : length a.coded.now ≡ 320 = search rules in
     let i : length a.id.now ≡ 2048 = search rules in
-    let t = copy_judged a.bytes.now c.copy.new.s a.coded.now a.id.now c.empty_frame.new.coded c.empty_frame.new.id a.file.now c.empty_frame.new.file c.empty_frame.result size e i (omega arith)
-    c.copy.ensures c.empty_frame.ensures.number c.empty_frame.ensures.behind in
+    let t = copy_judged a.bytes.now c.copy_from_slice.new.self a.id.now c.empty_frame.new.coded c.empty_frame.new.id a.file.now c.empty_frame.new.file c.empty_frame.result i (omega arith)
+    c.copy_from_slice.ensures.after c.empty_frame.ensures.number c.empty_frame.ensures.behind in
     record { value = t.0; kept = t.1 }
