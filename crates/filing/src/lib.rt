@@ -11,10 +11,7 @@ use std::{fs, io};
 
 // The name as a path, which is text: one that is no UTF-8 is refused, as std refuses it.
 fn path_of(name: &[u8]) -> io::Result<&str> {
-    match std::str::from_utf8(name) {
-        Ok(text) => Ok(text),
-        Err(_) => Err(io::Error::from(ErrorKind::InvalidFilename)),
-    }
+    std::str::from_utf8(name).map_err(|_| io::Error::from(ErrorKind::InvalidFilename))
 }
 
 // The file of that name, to be read.
@@ -24,10 +21,7 @@ pub fn opened<R: Files>(files: &R, name: &[u8]) -> io::Result<R::File> {
 
 // The first n bytes, or all where there are fewer.
 pub fn front_written<W: Write>(to: &mut W, bytes: &[u8], n: usize) -> bool {
-    if n <= bytes.len() {
-        return to.write_all(&bytes[..n]).is_ok();
-    }
-    to.write_all(bytes).is_ok()
+    to.write_all(&bytes[..n.min(bytes.len())]).is_ok()
 }
 
 // Reads until the buffer is full or the file ends; how many bytes are in front of it then.
@@ -35,10 +29,7 @@ pub fn read_full<R: Read>(from: &mut R, buffer: &mut [u8]) -> io::Result<usize>
     ensures { IfOk result (λ n. n ≤ length buffer.new) }
 {
     let mut done = 0;
-    for _ in 0..u64::MAX {
-        if done >= buffer.len() {
-            break;
-        }
+    while done < buffer.len() {
         let n = from.read(&mut buffer[done..])?;
         if n == 0 {
             break;
@@ -51,10 +42,7 @@ pub fn read_full<R: Read>(from: &mut R, buffer: &mut [u8]) -> io::Result<usize>
 // Whether a file has no byte behind those that were read.
 pub fn has_ended<R: Read>(from: &mut R) -> bool {
     let mut one = [0u8; 1];
-    match from.read(&mut one) {
-        Ok(n) => n == 0,
-        Err(_) => false,
-    }
+    matches!(from.read(&mut one), Ok(0))
 }
 
 // The name with .part behind it, in front of the buffer; nothing where that is too long for a name.
@@ -69,8 +57,8 @@ fn part_name(name: &[u8], part: &mut [u8]) -> usize
     if part.len() - 5 < n {
         return 0;
     }
-    memory::copy(part, 0, n, name, 0);
-    memory::copy(part, n, 5, b".part", 0);
+    part[..n].copy_from_slice(name);
+    part[n..n + 5].copy_from_slice(b".part");
     n + 5
 }
 

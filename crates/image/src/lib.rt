@@ -6,12 +6,12 @@ ghost use Rattle.image.specs.Promises.{posted_number};
 
 use rules::Chip;
 
-// Why a file is not written, or not read.
+// Why a file is not written, or not read: document 02's numbers.
 #[derive(Clone, Copy)]
 pub enum FileRefusal {
-    Malformed,
-    AtWork,
-    WrongFile,
+    Malformed = 1,
+    AtWork = 14,
+    WrongFile = 15,
 }
 
 // What reading a file gives back: the answer, and the record afterwards, which a refusal leaves as it was.
@@ -48,8 +48,6 @@ pub fn number(answer: Result<(), FileRefusal>) -> u8
 {
     match answer {
         Ok(()) => 0,
-        Err(FileRefusal::Malformed) => 1,
-        Err(FileRefusal::AtWork) => 14,
-        Err(FileRefusal::WrongFile) => 15,
+        Err(why) => why as u8,
     }
 }

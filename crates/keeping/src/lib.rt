@@ -12,15 +12,12 @@ use rules::Chip;
 use std::fs::File;
 use std::io;
 use std::io::ErrorKind;
-use telling::{broken_told, refused_told};
+use telling::{broken, refused};
 pub use telling::{part_told, told};
 
 // A file that cannot be read, is refused or could not be saved. Why was told.
 #[derive(Clone, Copy)]
-pub struct Unserved;
-
-// What came of reading a file: the chip that is kept in it, or none.
-pub type Loaded = Result<Option<Chip>, Unserved>;
+pub struct Failure;
 
 // The chip of a session: the one in the file, or a new one of the part that is asked for.
 pub fn chip_of(kept: Option<Chip>, ba: bool) -> Chip
@@ -37,31 +34,30 @@ fn image_taken(
     file: &[u8],
     array: &mut [u8; 2097152],
     security: &mut [u8; 2048],
-) -> Loaded {
+) -> Result<Option<Chip>, Failure> {
     let r = image_reading::read(chip::new(), file, array, security);
     match r.answer {
         Ok(()) => Ok(Some(r.chip)),
-        Err(FileRefusal::AtWork) => Err(Unserved),
+        Err(FileRefusal::AtWork) => Err(Failure),
         Err(FileRefusal::Malformed) => {
-            refused_told(rt, name, 1, fault_rows::length(false, file.len()));
-            Err(Unserved)
+            let why = fault_rows::length(false, file.len());
+            Err(refused(rt, name, 1, why))
         }
         Err(FileRefusal::WrongFile) => {
-            refused_told(rt, name, 15, fault_rows::fault(image_reading::fault(file)));
-            Err(Unserved)
+            let why = fault_rows::fault(image_reading::fault(file));
+            Err(refused(rt, name, 15, why))
         }
     }
 }
 
 // A new chip with this array.
-fn raw_taken(rt: &HostRuntime, name: &[u8], file: &[u8], array: &mut [u8; 2097152]) -> Loaded
+fn raw_taken(rt: &HostRuntime, name: &[u8], file: &[u8], array: &mut [u8; 2097152]) -> Result<Option<Chip>, Failure>
     ensures { IfOk result (λ kept. kept ≡ None) }
 {
     if raw_image::load(array, file).is_ok() {
         return Ok(None);
     }
-    refused_told(rt, name, 1, fault_rows::length(true, file.len()));
-    Err(Unserved)
+    Err(refused(rt, name, 1, fault_rows::length(true, file.len())))
 }
 
 // As many bytes as there is room for.
@@ -73,18 +69,11 @@ fn taken_from(
     file: &mut [u8],
     array: &mut [u8; 2097152],
     security: &mut [u8; 2048],
-) -> Loaded {
-    let n = match filing::read_full(from, file) {
-        Ok(n) => n,
-        Err(e) => {
-            broken_told(rt, name, e);
-            return Err(Unserved);
-        }
-    };
+) -> Result<Option<Chip>, Failure> {
+    let n = filing::read_full(from, file).map_err(|e| broken(rt, name, e))?;
     if n < file.len() {
         if !filing::has_ended(from) {
-            broken_told(rt, name, io::Error::from(ErrorKind::UnexpectedEof));
-            return Err(Unserved);
+            return Err(broken(rt, name, io::Error::from(ErrorKind::UnexpectedEof)));
         }
     }
     if raw {
@@ -93,6 +82,7 @@ fn taken_from(
     image_taken(rt, name, &file[..n], array, security)
 }
 
+// The buffer comes by reference (c): taken as a slice where it is made, its length is counted out, and the check gives up.
 fn taken_by(
     rt: &HostRuntime,
     from: &mut File,
@@ -101,7 +91,7 @@ fn taken_by(
     file: &mut [u8; 2148375],
     array: &mut [u8; 2097152],
     security: &mut [u8; 2048],
-) -> Loaded {
+) -> Result<Option<Chip>, Failure> {
     taken_from(rt, from, raw, name, file, array, security)
 }
 
@@ -113,21 +103,20 @@ fn taken(
     name: &[u8],
     array: &mut [u8; 2097152],
     security: &mut [u8; 2048],
-) -> Loaded {
+) -> Result<Option<Chip>, Failure> {
     let mut file = [0u8; 2148375];
     taken_by(rt, from, raw, name, &mut file, array, security)
 }
 
 // A file that is not there is a new chip.
-fn unopened(rt: &HostRuntime, name: &[u8], e: io::Error) -> Loaded
+fn unopened(rt: &HostRuntime, name: &[u8], e: io::Error) -> Result<Option<Chip>, Failure>
     ensures { IfOk result (λ kept. kept ≡ None) }
 {
     if e.kind() == ErrorKind::NotFound {
         told(rt, name, b" is not there: a new chip, which is saved to it");
         return Ok(None);
     }
-    broken_told(rt, name, e);
-    Err(Unserved)
+    Err(broken(rt, name, e))
 }
 
 fn load_named(
@@ -136,7 +125,7 @@ fn load_named(
     name: &[u8],
     array: &mut [u8; 2097152],
     security: &mut [u8; 2048],
-) -> Loaded {
+) -> Result<Option<Chip>, Failure> {
     match filing::opened(rt, name) {
         Ok(mut from) => taken(rt, &mut from, raw, name, array, security),
         Err(e) => unopened(rt, name, e),
@@ -150,7 +139,7 @@ pub fn load(
     name: &[u8],
     array: &mut [u8; 2097152],
     security: &mut [u8; 2048],
-) -> Loaded {
+) -> Result<Option<Chip>, Failure> {
     if name.is_empty() {
         return Ok(None);
     }
@@ -160,24 +149,22 @@ pub fn load(
             name,
             b".part is there: another session saves, or one was killed while it saved; remove it. Nothing is served",
         );
-        return Err(Unserved);
+        return Err(Failure);
     }
     load_named(rt, raw, name, array, security)
 }
 
 // ---- writing
 
-fn saved(rt: &HostRuntime, name: &[u8], bytes: &[u8]) -> bool {
-    match filing::replace(rt, name, bytes) {
-        Ok(()) => true,
-        Err(e) => {
-            broken_told(rt, name, e);
-            told(rt, name, b" is not saved, and stays as it was");
-            false
-        }
-    }
+fn saved(rt: &HostRuntime, name: &[u8], bytes: &[u8]) -> Result<(), Failure> {
+    filing::replace(rt, name, bytes).map_err(|e| {
+        let failure = broken(rt, name, e);
+        told(rt, name, b" is not saved, and stays as it was");
+        failure
+    })
 }
 
+// The buffer as in `taken_by` (c).
 fn image_saved_by(
     rt: &HostRuntime,
     name: &[u8],
@@ -185,7 +172,7 @@ fn image_saved_by(
     array: &[u8; 2097152],
     security: &[u8; 2048],
     file: &mut [u8; 2148374],
-) -> bool {
+) -> Result<(), Failure> {
     match image_writing::write(c, array, security, file) {
         Ok(()) => saved(rt, name, file),
         Err(FileRefusal::AtWork) => {
@@ -194,7 +181,7 @@ fn image_saved_by(
                 name,
                 b" is not saved, refused 14, and stays as it was: an operation is suspended; resume it with 30, and let it end",
             );
-            false
+            Err(Failure)
         }
         Err(FileRefusal::Malformed) => {
             told(
@@ -202,9 +189,9 @@ fn image_saved_by(
                 name,
                 b" is not saved, refused 1, and stays as it was: the record is broken",
             );
-            false
+            Err(Failure)
         }
-        Err(FileRefusal::WrongFile) => false,
+        Err(FileRefusal::WrongFile) => Err(Failure),
     }
 }
 
@@ -214,12 +201,12 @@ fn image_saved(
     c: Chip,
     array: &[u8; 2097152],
     security: &[u8; 2048],
-) -> bool {
+) -> Result<(), Failure> {
     let mut file = [0u8; 2148374];
     image_saved_by(rt, name, c, array, security, &mut file)
 }
 
-// The chip into its file, where it has a name; false where that fails, which is told.
+// The chip into its file, where it has a name; where that fails, that is told.
 pub fn save(
     rt: &HostRuntime,
     raw: bool,
@@ -227,9 +214,9 @@ pub fn save(
     c: Chip,
     array: &[u8; 2097152],
     security: &[u8; 2048],
-) -> bool {
+) -> Result<(), Failure> {
     if name.is_empty() {
-        return true;
+        return Ok(());
     }
     if raw {
         return saved(rt, name, array);

@@ -1,4 +1,5 @@
 // What is said on standard error.
+use crate::Failure;
 use filing::front_written;
 use rules::Chip;
 use std::io;
@@ -50,17 +51,18 @@ fn say_error(rt: &HostRuntime, e: io::Error) {
     say(rt, shown.as_bytes());
 }
 
-// What the system says of it.
-pub fn broken_told(rt: &HostRuntime, name: &[u8], e: io::Error) {
+// A failure, with what the system says of it.
+pub fn broken(rt: &HostRuntime, name: &[u8], e: io::Error) -> Failure {
     say(rt, b"programmer: ");
     say(rt, name);
     say(rt, b": ");
     say_error(rt, e);
     say(rt, b"\n");
+    Failure
 }
 
-// The number, and what is wrong.
-pub fn refused_told(rt: &HostRuntime, name: &[u8], number: u64, why: Row) {
+// A failure, with the number and what is wrong.
+pub fn refused(rt: &HostRuntime, name: &[u8], number: u64, why: Row) -> Failure {
     say(rt, b"programmer: ");
     say(rt, name);
     say(rt, b" is refused, ");
@@ -69,4 +71,5 @@ pub fn refused_told(rt: &HostRuntime, name: &[u8], number: u64, why: Row) {
     let text = why.text;
     front_written(&mut rt.stderr(), &text, why.length);
     say(rt, b"\n");
+    Failure
 }

@@ -75,7 +75,7 @@ fn served<R: Read>(rt: &HostRuntime, s: Session, from: &mut R, name: &[u8]) -> b
     keeping::part_told(rt, before, kept.is_some(), name);
     let mut to = rt.stdout();
     let c = sessions::serve(from, &mut to, before, s.disguise, &mut array, &mut security);
-    keeping::save(rt, s.raw, name, c, &array, &security)
+    keeping::save(rt, s.raw, name, c, &array, &security).is_ok()
 }
 
 // How many words the command line has, the program's own name among them.
