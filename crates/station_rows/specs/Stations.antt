@@ -1,6 +1,6 @@
 -- The rows of a line with a call, by the parts of what is told of any line. That the number is not the expected one is told as for an event: crate reasons,
 -- `unmet_row`. The list is what the call's read showed. A row that is not told is blank.
-use Rattle.std.specs.Prelude.{ℕ, ◌+◌, ◌-◌, ◌*◌, min, not, ◌&&◌, ◌||◌, List, [], ◌∷◌, eqb, ltb, leb, length, get_or, replicate}
+use Rattle.std.specs.Prelude.{ℕ, ◌+◌, ◌-◌, ◌*◌, min, not, ◌&&◌, ◌||◌, List, [], ◌∷◌, eqb, ltb, leb, length, get_or, replicate, Option, Some, None}
 use Rattle.rules.specs.declared.Chip.{Chip}
 use Rattle.rules.specs.Words.{pick}
 use Rattle.stations.specs.Slots.{Shown, shown_in, slot_count, those_from, station, live_of, slot_of, free_slot}
@@ -25,7 +25,6 @@ use Rattle.standing.specs.Benches.{front}
 use Rattle.ordering.specs.declared.Part.{Part}
 use Rattle.ordering.specs.declared.Place.{Place}
 use Rattle.calling.specs.declared.Account.{Account}
-use Rattle.calling.specs.declared.Errand.{Errand}
 use Rattle.calls.specs.Lists.{station_of, allowance_of}
 use Rattle.calling.specs.Lines.{errand_of}
 
@@ -171,9 +170,9 @@ cut_row k p a at expected known reply marks =
     let l = line_of p.reading in
     part_row at.part at.row k p a l (front l.expected expected) (front l.expected known) (front list_size reply) (front list_size marks)
 
-abbrev pub row_if : Errand → Playing → Account → Place → List ℕ → List ℕ → List ℕ → List ℕ → Row
-row_if Errand.Nothing p a at expected known reply marks = blank
-row_if (Errand.Call k) p a at expected known reply marks = cut_row k p a at expected known reply marks
+abbrev pub row_if : Option Call → Playing → Account → Place → List ℕ → List ℕ → List ℕ → List ℕ → Row
+row_if None p a at expected known reply marks = blank
+row_if (Some k) p a at expected known reply marks = cut_row k p a at expected known reply marks
 
 abbrev pub row_of : Playing → Account → Place → List ℕ → List ℕ → List ℕ → List ℕ → Row
 row_of p = row_if (errand_of p) p

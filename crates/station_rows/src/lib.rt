@@ -5,16 +5,15 @@ mod heads;
 mod listings;
 mod whys;
 
-ghost use Rattle.std.specs.Prelude.{◌≡◌, length};
-ghost use Rattle.stations.specs.Calls.{list_size};
+ghost use Rattle.std.specs.Prelude.{◌≡◌};
 ghost use Rattle.station_rows.specs.Stations.{sure, part_row, cut_row, row_of};
 ghost use Rattle.reasons.specs.Reasons.{came_row};
 
-use calling::{Account, Errand};
+use calling::Account;
 use ordering::{Part, Place};
 use rows::Row;
-use rules::plain::smaller;
 use script::Line;
+use slots::ListRead;
 use standing::{Call, Playing};
 
 // The byte that came where what was found differs.
@@ -34,11 +33,9 @@ fn part_row(
     l: Line,
     expected: &[u8],
     known: &[u8],
-    reply: &[u8],
-    marks: &[u8],
+    read: &ListRead,
 ) -> Row
-    requires { length reply.now ≡ list_size }
-    ensures { result ≡ part_row part i k p a l expected.now known.now reply.now marks.now }
+    ensures { result ≡ part_row part i k p a l expected.now known.now read.now.reply.now read.now.marks.now }
 {
     let bench = p.bench;
     let before = p.before;
@@ -48,9 +45,9 @@ fn part_row(
     let n = calls::station_of(slots);
     match part {
         Part::Remark => rows::empty(),
-        Part::Head => heads::row(k, bench.line, n, p.number, a, reply, marks),
+        Part::Head => heads::row(k, bench.line, n, p.number, a, read),
         Part::Second => rows::empty(),
-        Part::Bytes => listings::bytes(k, p.number, a, i, reply, marks),
+        Part::Bytes => listings::bytes(k, p.number, a, i, read),
         Part::More => listings::more(k, p.number, a),
         Part::Configuration => rows::empty(),
         Part::Bits => rows::empty(),
@@ -66,8 +63,7 @@ fn part_row(
             bench.array,
             bench.security,
             before,
-            reply,
-            marks,
+            read,
         ),
         Part::Torn => rows::empty(),
         Part::Unmet => whys::length_unmet(i, v, l.expected, p.number),
@@ -86,19 +82,20 @@ fn cut_row(
     at: Place,
     expected: &[u8],
     known: &[u8],
-    reply: &[u8],
-    marks: &[u8],
+    reply: &[u8; 65537],
+    marks: &[u8; 65537],
 ) -> Row
-    requires { length reply.now ≡ 65537 }
     ensures { result ≡ cut_row k p a at expected.now known.now reply.now marks.now }
 {
     let reading = p.reading;
     let l = script::line_of(reading);
     let part = at.part;
-    let x = smaller(l.expected, expected.len());
-    let y = smaller(l.expected, known.len());
-    let n = smaller(65536, reply.len());
-    let m = smaller(65536, marks.len());
+    let x = l.expected.min(expected.len());
+    let y = l.expected.min(known.len());
+    let read = ListRead {
+        reply: &reply[..65536],
+        marks: &marks[..65536],
+    };
     part_row(
         part,
         at.row,
@@ -108,8 +105,7 @@ fn cut_row(
         l,
         &expected[..x],
         &known[..y],
-        &reply[..n],
-        &marks[..m],
+        &read,
     )
 }
 
@@ -125,9 +121,8 @@ pub fn row(
 ) -> Row
     ensures { result ≡ row_of p a at expected.now known.now reply.now marks.now }
 {
-    let errand = calling::asked(p);
-    match errand {
-        Errand::Nothing => rows::empty(),
-        Errand::Call(k) => cut_row(k, p, a, at, expected, known, reply, marks),
+    match calling::asked(p) {
+        None => rows::empty(),
+        Some(k) => cut_row(k, p, a, at, expected, known, reply, marks),
     }
 }

@@ -1,19 +1,19 @@
 // What was found, and the list. specs/Stations.antt.
-ghost use Rattle.std.specs.Prelude.{◌≡◌, eqb, ◌<◌, length};
+ghost use Rattle.std.specs.Prelude.{◌≡◌, eqb, ◌<◌};
 ghost use Rattle.standing.specs.declared.Call.{Call};
 ghost use Rattle.rules.specs.Words.{pick};
 ghost use Rattle.writing.specs.Rows.{blank};
-ghost use Rattle.stations.specs.Slots.{shown_in};
-ghost use Rattle.stations.specs.Calls.{list_size};
+ghost use Rattle.slots.specs.Reads.{shown_of};
 ghost use Rattle.station_rows.specs.Stations.{found_row, slot_row, found_slot_row, station_row, left_out_row, counts_row, bytes_row, more_row};
 
 use crate::heads::station_count;
 use calling::Account;
 use census::Counts;
 use rows::Row;
-use rules::plain::smaller;
+use slots::ListRead;
 use standing::Call;
 
+#[tactic(auto, unfolding(crate::specs::Stations::found_row))]
 fn found_row(number: u8, i: usize, bytes: &[u8; 28]) -> Row
     ensures { result ≡ found_row number i bytes.now }
 {
@@ -21,36 +21,36 @@ fn found_row(number: u8, i: usize, bytes: &[u8; 28]) -> Row
     if number != 0 {
         return rows::empty();
     }
-    rows::reply(smaller(i, 1) * 16, bytes, &sure)
+    rows::reply(i.min(1) * 16, bytes, &sure)
 }
 
-fn slot_row(reply: &[u8], marks: &[u8], i: usize) -> Row
-    requires { (length reply.now ≡ list_size) × (i < 2048) }
-    ensures { result ≡ slot_row (shown_in reply.now marks.now) reply.now i }
+#[tactic(auto, unfolding(crate::specs::Stations::slot_row))]
+fn slot_row(read: &ListRead, i: usize) -> Row
+    requires { i < 2048 }
+    ensures { result ≡ slot_row (shown_of read.now) read.now.reply.now i }
 {
-    let n = slots::station_of(reply, marks, i);
-    let r = rows::below(348, n, i as u64, 0);
-    let r = byte_text::printed_bytes(r, reply, i * 32 + 4, 28);
+    let n = read.station_of(i);
+    let r = rows::below(348, n as u64, i as u64, 0);
+    let r = byte_text::printed_bytes(r, read.reply, i * 32 + 4, 28);
     rows::form(r, 199, 0, 0, 0)
 }
 
 // Where lookup finds the slot.
-fn found_slot_row(reply: &[u8], marks: &[u8], i: usize) -> Row
-    requires { (length reply.now ≡ list_size) × (i < 2048) }
-    ensures { result ≡ found_slot_row (shown_in reply.now marks.now) reply.now i }
+fn found_slot_row(read: &ListRead, i: usize) -> Row
+    requires { i < 2048 }
+    ensures { result ≡ found_slot_row (shown_of read.now) read.now.reply.now i }
 {
-    if census::is_found(reply, marks, i) {
-        return slot_row(reply, marks, i);
+    if census::is_found(read, i) {
+        return slot_row(read, i);
     }
     rows::empty()
 }
 
-fn station_row(number: u8, cut: usize, reply: &[u8], marks: &[u8], i: usize) -> Row
-    requires { length reply.now ≡ list_size }
-    ensures { result ≡ station_row number cut (shown_in reply.now marks.now) reply.now i }
+fn station_row(number: u8, cut: usize, read: &ListRead, i: usize) -> Row
+    ensures { result ≡ station_row number cut (shown_of read.now) read.now.reply.now i }
 {
     if (number == 0) & (i < cut) & (i < 2048) {
-        return found_slot_row(reply, marks, i);
+        return found_slot_row(read, i);
     }
     rows::empty()
 }
@@ -72,27 +72,25 @@ pub fn counts_row(c: Counts) -> Row
     rows::form(r, 351, c.dead, 0, 0)
 }
 
-fn list_row(number: u8, a: Account, i: usize, reply: &[u8], marks: &[u8]) -> Row
-    requires { length reply.now ≡ list_size }
-    ensures { result ≡ bytes_row Call.Stations number a i (shown_in reply.now marks.now) reply.now }
+fn list_row(number: u8, a: Account, i: usize, read: &ListRead) -> Row
+    ensures { result ≡ bytes_row Call.Stations number a i (shown_of read.now) read.now.reply.now }
 {
     let counts = a.counts;
     if i < 2048 {
-        return station_row(number, a.cut, reply, marks, i);
+        return station_row(number, a.cut, read, i);
     }
     left_out_row(number, a.cut, counts)
 }
 
 // Row i of a line's bytes.
-pub fn bytes(k: Call, number: u8, a: Account, i: usize, reply: &[u8], marks: &[u8]) -> Row
-    requires { length reply.now ≡ list_size }
-    ensures { result ≡ bytes_row k number a i (shown_in reply.now marks.now) reply.now }
+pub fn bytes(k: Call, number: u8, a: Account, i: usize, read: &ListRead) -> Row
+    ensures { result ≡ bytes_row k number a i (shown_of read.now) read.now.reply.now }
 {
     let found = a.bytes;
     match k {
         Call::Store => rows::empty(),
         Call::Find => found_row(number, i, &found),
-        Call::Stations => list_row(number, a, i, reply, marks),
+        Call::Stations => list_row(number, a, i, read),
     }
 }
 

@@ -1,9 +1,7 @@
 // Why a call was refused, and what of the found bytes is not met. specs/Stations.antt.
-ghost use Rattle.std.specs.Prelude.{◌≡◌, eqb, length};
-ghost use Rattle.rules.specs.Words.{pick};
+ghost use Rattle.std.specs.Prelude.{◌≡◌};
 ghost use Rattle.census.specs.Census.{counts_below};
-ghost use Rattle.stations.specs.Slots.{shown_in};
-ghost use Rattle.stations.specs.Calls.{list_size};
+ghost use Rattle.slots.specs.Reads.{shown_of};
 ghost use Rattle.station_rows.specs.Stations.{number_form, number_row, length_row, running_row, chip_row, why_row, length_unmet, size_of, counts_row};
 ghost use Rattle.standing.specs.declared.Call.{Call};
 
@@ -11,9 +9,10 @@ use crate::listings::counts_row;
 use expecting::Verdict;
 use rows::Row;
 use rules::Chip;
-use rules::plain::smaller;
+use slots::ListRead;
 use standing::Call;
 
+#[tactic(auto, unfolding(crate::specs::Stations::number_form))]
 fn number_form(number: u8) -> usize
     ensures { result ≡ number_form number }
 {
@@ -23,7 +22,7 @@ fn number_form(number: u8) -> usize
     if number == 15 {
         return 276;
     }
-    303 + smaller(number as usize, 18)
+    303 + (number as usize).min(18)
 }
 
 // The number's words.
@@ -76,27 +75,26 @@ fn wrong_length(
 
 // ---- 16
 
-fn counted(reply: &[u8], marks: &[u8]) -> Row
-    requires { length reply.now ≡ list_size }
-    ensures { result ≡ counts_row (counts_below (shown_in reply.now marks.now) 2048) }
+fn counted(read: &ListRead) -> Row
+    ensures { result ≡ counts_row (counts_below (shown_of read.now) 2048) }
 {
-    counts_row(census::counted(reply, marks))
+    counts_row(census::counted(read))
 }
 
 // ---- 18
 
-fn running(n: u16, writes: usize, reply: &[u8], marks: &[u8]) -> Row
-    requires { length reply.now ≡ list_size }
-    ensures { result ≡ running_row n writes (shown_in reply.now marks.now) }
+#[tactic(auto, unfolding(crate::specs::Stations::running_row))]
+fn running(n: u16, writes: usize, read: &ListRead) -> Row
+    ensures { result ≡ running_row n writes (shown_of read.now) }
 {
-    let free = slots::first_empty(reply, marks);
+    let free = read.first_empty().unwrap_or(2048);
     if writes == 0 {
         return rows::below(345, free as u64, 0, 0);
     }
     if writes == 1 {
         return rows::below(346, free as u64, 0, 0);
     }
-    let i = census::live_at(reply, marks, n, writes - 2);
+    let i = census::live_at(read, n, writes - 2).unwrap_or(2048);
     rows::below(347, i as u64, 0, 0)
 }
 
@@ -124,11 +122,9 @@ pub fn why(
     array: usize,
     security: usize,
     before: Chip,
-    reply: &[u8],
-    marks: &[u8],
+    read: &ListRead,
 ) -> Row
-    requires { length reply.now ≡ list_size }
-    ensures { result ≡ why_row k number n size allowance writes array security before (shown_in reply.now marks.now) }
+    ensures { result ≡ why_row k number n size allowance writes array security before (shown_of read.now) }
 {
     if (number == 0) | (number == 17) {
         return rows::empty();
@@ -137,27 +133,22 @@ pub fn why(
         return wrong_length(k, size, allowance, array, security, before);
     }
     if number == 16 {
-        return counted(reply, marks);
+        return counted(read);
     }
     if number == 18 {
-        return running(n, writes, reply, marks);
+        return running(n, writes, read);
     }
     of_chip(number, before)
 }
 
 // ---- the found bytes
 
-fn found_count(number: u8) -> u64
-    ensures { result ≡ pick (eqb number 0) 28 0 }
-{
-    if number == 0 { 28 } else { 0 }
-}
-
+#[tactic(auto, unfolding(crate::specs::Stations::length_unmet))]
 pub fn length_unmet(i: usize, v: Verdict, count: usize, number: u8) -> Row
     ensures { result ≡ length_unmet i v count number }
 {
     if (i == 2) & v.length {
-        return rows::below(185, count as u64, found_count(number), 0);
+        return rows::below(185, count as u64, calling::found_count(number) as u64, 0);
     }
     rows::empty()
 }

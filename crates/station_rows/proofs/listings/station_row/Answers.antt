@@ -6,9 +6,6 @@ use Rattle.rules.proofs.Bools.{and_split}
 use Rattle.station_rows.specs.Stations.{station_row}
 use Rattle.station_rows.proofs.listings.station_row.Goals as goal
 
-pub found_slot_row-requires : goal.found_slot_row-requires
-found_slot_row-requires c = (c.requires, ltb-true (c.args.i) 2048 (and_split (eqb (c.args.number) 0 && ltb (c.args.i) (c.args.cut)) (ltb (c.args.i) 2048) c.if-number-i.true).1)
-
 pub returns-then-number-i : goal.returns-then-number-i
 unfolding station_row
 returns-then-number-i c = rw c.if-number-i.true c.found_slot_row.ensures
