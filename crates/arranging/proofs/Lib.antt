@@ -1,3 +1,2 @@
 -- Laws that the proofs cite.
-pub mod Memories
 pub mod Unique

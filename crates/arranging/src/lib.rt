@@ -5,25 +5,25 @@ ghost use Rattle.std.specs.Prelude.{◌≡◌, length, replicate};
 ghost use Rattle.rules.specs.Words.{lent, written};
 ghost use Rattle.arranging.specs.Settings.{filled, pattern_at, Arranged, bench_set, SettingPlayed};
 
-use rules::plain::smaller;
 use standing::{Bench, Playing, Setting, with_bench};
 
 // n bytes from a place on become v, as far as there are so many.
+#[tactic(auto, unfolding(crate::specs::Settings::filled))]
 fn fill(s: &mut [u8], from: usize, n: usize, v: u8)
     ensures { s.new ≡ filled from n v s.old }
 {
-    let start = smaller(from, s.len());
-    let count = smaller(n, s.len() - start);
-    memory::set_all(s, start, count, v);
+    let start = from.min(s.len());
+    let count = n.min(s.len() - start);
+    s[start..start + count].fill(v);
 }
 
 fn blank(s: &mut [u8])
     ensures { s.new ≡ replicate (length s.old) 0xFF }
 {
-    let n = s.len();
-    memory::set_all(s, 0, n, 255);
+    s.fill(255);
 }
 
+#[tactic(auto, unfolding(crate::specs::Settings::pattern_at))]
 fn pattern_at(i: usize) -> u8
     ensures { result ≡ pattern_at i }
 {
@@ -33,10 +33,8 @@ fn pattern_at(i: usize) -> u8
 fn set_pattern(s: &mut [u8])
     ensures { lent s.new ≡ written (length s.old) pattern_at }
 {
-    let mut i: usize = 0;
-    while i < s.len() {
-        s[i] = pattern_at(i);
-        i += 1;
+    for (i, b) in s.iter_mut().enumerate() {
+        *b = pattern_at(i);
     }
 }
 
@@ -63,12 +61,7 @@ pub fn arrange(s: Setting, slots: [u64; 24], array: &mut [u8], security: &mut [u
             set_pattern(array);
             set_pattern(security);
         }
-        Setting::Buffer => {}
-        Setting::Lend => {}
-        Setting::Record => {}
-        Setting::Full => {}
-        Setting::Short => {}
-        Setting::Strict => {}
+        _ => {}
     }
 }
 
@@ -76,52 +69,32 @@ pub fn arrange(s: Setting, slots: [u64; 24], array: &mut [u8], security: &mut [u
 fn set(b: Bench, s: Setting, slots: [u64; 24]) -> Bench
     ensures { result ≡ bench_set s b slots }
 {
-    let mut next = b;
     match s {
-        Setting::New => {
-            let c = chip::new_of(slots[10] == 0);
-            next.chip = c;
-            next.array = 2097152;
-            next.security = 2048;
-            next
-        }
-        Setting::Fill => b,
-        Setting::Pattern => b,
+        Setting::New => Bench {
+            chip: chip::new_of(slots[10] == 0),
+            array: 2097152,
+            security: 2048,
+            ..b
+        },
+        Setting::Fill | Setting::Pattern => b,
         Setting::Buffer => {
-            let mut c = b.chip;
-            let mut page = c.buffer;
-            fill(
-                &mut page,
-                slots[7] as usize,
-                slots[8] as usize,
-                (slots[9] % 256) as u8,
-            );
-            c.buffer = page;
-            next.chip = c;
-            next
+            let mut chip = b.chip;
+            let v = (slots[9] % 256) as u8;
+            fill(&mut chip.buffer, slots[7] as usize, slots[8] as usize, v);
+            Bench { chip, ..b }
         }
-        Setting::Lend => {
-            next.array = slots[7] as usize;
-            next.security = slots[8] as usize;
-            next
-        }
-        Setting::Record => {
-            let c = fields::record_of(slots);
-            next.chip = c;
-            next
-        }
-        Setting::Full => {
-            next.full = true;
-            next
-        }
-        Setting::Short => {
-            next.full = false;
-            next
-        }
-        Setting::Strict => {
-            next.strict = true;
-            next
-        }
+        Setting::Lend => Bench {
+            array: slots[7] as usize,
+            security: slots[8] as usize,
+            ..b
+        },
+        Setting::Record => Bench {
+            chip: fields::record_of(slots),
+            ..b
+        },
+        Setting::Full => Bench { full: true, ..b },
+        Setting::Short => Bench { full: false, ..b },
+        Setting::Strict => Bench { strict: true, ..b },
     }
 }
 
@@ -135,6 +108,5 @@ pub fn played(
     ensures { SettingPlayed p s slots array.old security.old result array.new security.new }
 {
     arrange(s, slots, array, security);
-    let b = p.bench;
-    with_bench(p, set(b, s, slots))
+    with_bench(p, set(p.bench, s, slots))
 }

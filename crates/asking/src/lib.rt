@@ -6,50 +6,44 @@ ghost use Rattle.rules.specs.Words.{pick};
 ghost use Rattle.fields.specs.Records.{same_record_lem};
 ghost use Rattle.asking.specs.Questions.{one_unmet, answered, Compared, ComparedIf, registers_of, silent, QuestionPlayed};
 
-use rules::plain::smaller;
 use script::Line;
 use standing::{Bench, Playing, Question};
+
+const ARRAY_SIZE: usize = 2_097_152;
+const SECURITY_SIZE: usize = 2048;
 
 // The remainder; of 0 it is 0.
 fn remainder(i: usize, n: usize) -> usize
     ensures { result ≡ pick (eqb n 0) 0 (i % n) }
 {
-    if n == 0 {
-        return 0;
-    }
-    i % n
+    if n == 0 { 0 } else { i % n }
 }
 
 // The n places from `start` on go past the end of so many.
 fn past_end(size: usize, start: usize, n: usize) -> bool
     ensures { result ≡ ltb size (start + n) }
 {
-    if size < start {
-        return true;
-    }
-    if size - start < n {
-        return true;
-    }
-    false
+    size < start || size - start < n
 }
 
 fn one_unmet(b: Bench) -> Bench
     ensures { result ≡ one_unmet b }
 {
-    let tally = tallies::with_unmet(b.tally, 1);
-    let mut next = b;
-    next.tally = tally;
-    next
+    Bench {
+        tally: tallies::with_unmet(b.tally, 1),
+        ..b
+    }
 }
 
 fn answered(p: Playing, b: Bench, number: u8, held: usize) -> Playing
     ensures { result ≡ answered p b number held }
 {
-    let mut next = p;
-    next.bench = b;
-    next.number = number;
-    next.held = held;
-    next
+    Playing {
+        bench: b,
+        number,
+        held,
+        ..p
+    }
 }
 
 // What stands in a memory is compared with the expected bytes, over and over: the first place that differs, or n.
@@ -84,24 +78,20 @@ fn compared_if(
     ensures { ComparedIf silent p start n memory.now expected.now known.now result }
 {
     if silent {
-        return p;
+        p
+    } else {
+        compared(p, start, n, memory, expected, known)
     }
-    compared(p, start, n, memory, expected, known)
 }
 
 // Expected are the status and, where there are two, the configuration.
 fn status(p: Playing, l: Line, expected: &[u8], known: &[u8]) -> Playing
     ensures { ComparedIf (silent l) p 0 (length expected.now) (registers_of p.bench.chip.rest) expected.now known.now result }
 {
-    let slots = l.slots;
-    let b = p.bench;
-    let c = b.chip;
-    let rest = c.rest;
-    let mut registers = [0u8; 2];
-    registers[0] = registers::status_of(rest);
-    registers[1] = registers::configuration_of(rest);
+    let rest = p.bench.chip.rest;
+    let registers = [registers::status_of(rest), registers::configuration_of(rest)];
     compared_if(
-        slots[4] == 0,
+        l.slots[4] == 0,
         p,
         0,
         expected.len(),
@@ -114,13 +104,11 @@ fn status(p: Playing, l: Line, expected: &[u8], known: &[u8]) -> Playing
 fn is(p: Playing, l: Line) -> Playing
     ensures { result ≡ pick (same_record_lem p.bench.chip l.slots) p (answered p (one_unmet p.bench) 1 p.held) }
 {
-    let slots = l.slots;
-    let b = p.bench;
-    let c = b.chip;
-    if fields::same_record(c, slots) {
-        return p;
+    if fields::same_record(p.bench.chip, l.slots) {
+        p
+    } else {
+        answered(p, one_unmet(p.bench), 1, p.held)
     }
-    answered(p, one_unmet(b), 1, p.held)
 }
 
 pub fn played(
@@ -134,16 +122,15 @@ pub fn played(
 ) -> Playing
     ensures { QuestionPlayed q p l array.now security.now expected.now known.now result }
 {
-    let x = smaller(l.expected, expected.len());
-    let k = smaller(l.expected, known.len());
-    let a = smaller(2097152, array.len());
-    let s = smaller(2048, security.len());
+    let x = l.expected.min(expected.len());
+    let k = l.expected.min(known.len());
+    let a = ARRAY_SIZE.min(array.len());
+    let s = SECURITY_SIZE.min(security.len());
     let slots = l.slots;
     let silent = slots[4] == 0;
     match q {
         Question::Status => status(p, l, &expected[..x], &known[..k]),
-        Question::Work => p,
-        Question::Locks => p,
+        Question::Work | Question::Locks => p,
         Question::Dump => {
             let from = slots[7] as usize;
             let n = slots[8] as usize;

@@ -1,6 +1,9 @@
 // The grammar of a script's line as a table: what may follow what, and what each word says. The definitions are in specs/.
 #![tactic(auto)]
 
+ghost use Rattle.std.specs.Prelude.{◌≡◌};
+ghost use Rattle.grammar.specs.Verbs.{number};
+
 pub mod table;
 
 // What a word is.
@@ -105,4 +108,12 @@ pub enum Verb {
     Stations,
     // a mistake was met, or the line ended too early
     Wrong = 31,
+}
+
+impl From<Verb> for u8 {
+    ghost from_gives = { λ v n. n ≡ number v };
+
+    fn from(v: Verb) -> u8 {
+        v as u8
+    }
 }

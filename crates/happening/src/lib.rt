@@ -7,9 +7,8 @@ ghost use Rattle.happening.specs.Events.{JudgedLine, counted, EventPlayed};
 use expecting::Verdict;
 use lending::{happened, marks_wanted, wanted};
 use rules::After;
-use rules::plain::smaller;
 use script::Line;
-use standing::{Event, Playing};
+use standing::{Bench, Event, Playing};
 
 // What the line expected of an event that gave this number.
 fn judged(
@@ -24,16 +23,15 @@ fn judged(
 ) -> Verdict
     ensures { JudgedLine p e l number reply.now marks.now expected.now known.now result }
 {
-    let b = p.bench;
     let slots = l.slots;
-    let r = smaller(wanted(e, slots), reply.len());
-    let m = smaller(marks_wanted(e, slots), marks.len());
-    let x = smaller(l.expected, expected.len());
-    let k = smaller(l.expected, known.len());
+    let r = wanted(e, slots).min(reply.len());
+    let m = marks_wanted(e, slots).min(marks.len());
+    let x = l.expected.min(expected.len());
+    let k = l.expected.min(known.len());
     expecting::judge(
         slots[5] != 0,
         slots[6],
-        b.strict,
+        p.bench.strict,
         number,
         slots[4],
         x,
@@ -48,16 +46,17 @@ fn judged(
 fn counted(p: Playing, after: After, number: u8, v: Verdict) -> Playing
     ensures { result ≡ counted p number after.chip v }
 {
-    let c = after.chip;
-    let mut bench = p.bench;
-    let tally = tallies::with_event(bench.tally, number, expecting::unmet(v));
-    bench.chip = c;
-    bench.tally = tally;
-    let mut next = p;
-    next.bench = bench;
-    next.number = number;
-    next.verdict = v;
-    next
+    let bench = Bench {
+        chip: after.chip,
+        tally: tallies::with_event(p.bench.tally, number, expecting::unmet(v)),
+        ..p.bench
+    };
+    Playing {
+        bench,
+        number,
+        verdict: v,
+        ..p
+    }
 }
 
 // The event on the chip, and what the line expected of it.
@@ -75,10 +74,8 @@ pub fn played(
 ) -> Playing
     ensures { EventPlayed p e l array.old security.old frame.now expected.now known.now reply.old marks.old result array.new security.new reply.new marks.new }
 {
-    let b = p.bench;
-    let after = happened(b, e, l, array, security, frame, reply, marks);
-    let answer = after.answer;
-    let number = chip::answer_number(answer);
+    let after = happened(p.bench, e, l, array, security, frame, reply, marks);
+    let number = chip::answer_number(after.answer);
     let v = judged(p, e, l, number, reply, marks, expected, known);
     counted(p, after, number, v)
 }

@@ -5,7 +5,8 @@ use mathlib.Core.Bool.{Bool, true, false}
 use mathlib.Core.List.{List, ◌++◌}
 use native.Mathlib.Omega.{arith}
 use lib.Dec.{ltb}
-use lib.ListN.{length, get_or, take, drop, get_or-append}
+use lib.ListN.{length, get_or, take, drop, replicate, get_or-append, length-replicate, get_or-replicate}
+use Rattle.std.proofs.Common.{length-append, length-drop}
 use lib.Seq.{get_or-take, get_or-drop, length-take-le, length_front, get_or-append-add}
 use borrow.Author.Tests.{ltb-true, ltb-false}
 use Rattle.rules.specs.Words.{pick, Lent, lent, written, unlent}
@@ -53,3 +54,20 @@ over_patched l l₀ n v o e p = lent_ext p.size (λ i. go i (ltb i o.size) refl)
     go : (i : ℕ) (b : Bool) → ltb i o.size ≡ b → pick b (o.byte i) (get_or l i 0) ≡ pick b (o.byte i) (get_or l₀ i 0)
     go i true q = refl
     go i false q = p.after i (let h = ltb-false i o.size q in omega arith)
+
+-- a part that is filled, and what stands behind it
+pub filled_part : (l p : List ℕ) (n v : ℕ) → n ≤ length l → p ≡ replicate n v → Patched (p ++ drop n l) l 0 n (λ i. v)
+filled_part l p n v fits e =
+    record {
+      size = omega (arith, length-append {A = ℕ}, length-drop {A = ℕ}, size);
+      inside = λ i h. let z : 0 + i ≡ i = omega arith in
+        ap (λ (k : ℕ). get_or (p ++ drop n l) k 0) z ∙ get_or-append p (drop n l) 0 i (omega (arith, size)) ∙ ap (λ (q : List ℕ). get_or q i 0) e ∙ get_or-replicate n i v 0 h;
+      before = λ a h. absurd (omega arith);
+      after = λ a h.
+        let here : length p + (a - n) ≡ a = omega (arith, size) in
+        let there : n + (a - n) ≡ a = omega arith in
+        ap (λ (k : ℕ). get_or (p ++ drop n l) k 0) (sym here) ∙ get_or-append-add p (drop n l) (a - n) 0 ∙ get_or-drop n l (a - n) 0 ∙ ap (λ (k : ℕ). get_or l k 0) there;
+    }
+  where
+    size : length p ≡ n
+    size = ap length e ∙ length-replicate n v

@@ -4,10 +4,9 @@
 ghost use Rattle.std.specs.Prelude.{◌≡◌};
 ghost use Rattle.rules.specs.Numbers.{answer_number};
 ghost use Rattle.rules.specs.Machine.{completion, power_cut};
-ghost use Rattle.standing.specs.declared.Event.{Event};
+ghost use Rattle.chip.specs.declared.events.Event.{Event};
 ghost use Rattle.lending.specs.Lending.{state_lent_lem, wanted, marks_wanted, tear_said, outcome, Ended, Happened};
 
-use rules::plain::smaller;
 use rules::{After, Chip, Circumstances, Tear};
 use script::Line;
 use standing::{Bench, Event};
@@ -18,8 +17,7 @@ pub fn wanted(e: Event, slots: [u64; 24]) -> usize
 {
     match e {
         Event::Frame => slots[1] as usize,
-        Event::Completion => 0,
-        Event::Cut => 0,
+        _ => 0,
     }
 }
 
@@ -27,10 +25,8 @@ pub fn wanted(e: Event, slots: [u64; 24]) -> usize
 pub fn marks_given(slots: [u64; 24]) -> usize
     ensures { result ≡ marks_wanted Event.Frame slots }
 {
-    if slots[2] == 0 {
-        return slots[1] as usize;
-    }
-    slots[3] as usize
+    let n = if slots[2] == 0 { slots[1] } else { slots[3] };
+    n as usize
 }
 
 pub fn marks_wanted(e: Event, slots: [u64; 24]) -> usize
@@ -38,8 +34,7 @@ pub fn marks_wanted(e: Event, slots: [u64; 24]) -> usize
 {
     match e {
         Event::Frame => marks_given(slots),
-        Event::Completion => 0,
-        Event::Cut => 0,
+        _ => 0,
     }
 }
 
@@ -47,20 +42,12 @@ pub fn marks_wanted(e: Event, slots: [u64; 24]) -> usize
 pub fn tear_of(c: Chip, slots: [u64; 24]) -> Tear
     ensures { result ≡ tear_said c slots }
 {
-    let rest = c.rest;
-    let works = rest.works;
-    let run = works.running;
-    let k = slots[7];
-    if slots[9] == 0 {
-        return Tear {
-            k,
-            m: blocks::clean_m(run),
-        };
-    }
-    Tear {
-        k,
-        m: (slots[9] % 256) as u8,
-    }
+    let m = if slots[9] == 0 {
+        blocks::clean_m(c.rest.works.running)
+    } else {
+        (slots[9] % 256) as u8
+    };
+    Tear { k: slots[7], m }
 }
 
 // Reply and marks hold 5A and 07 before a frame, so that `kept` can be seen.
@@ -77,14 +64,14 @@ fn sent(
 {
     let c = b.chip;
     let slots = l.slots;
-    let a = smaller(b.array, array.len());
-    let s = smaller(b.security, security.len());
-    let n = smaller(l.sent, frame.len());
-    let r = smaller(wanted(Event::Frame, slots), reply.len());
-    let m = smaller(marks_given(slots), marks.len());
+    let a = b.array.min(array.len());
+    let s = b.security.min(security.len());
+    let n = l.sent.min(frame.len());
+    let r = wanted(Event::Frame, slots).min(reply.len());
+    let m = marks_given(slots).min(marks.len());
     let tear = tear_of(c, slots);
-    memory::set_all(reply, 0, r, 0x5A);
-    memory::set_all(marks, 0, m, 0x07);
+    reply[..r].fill(0x5a);
+    marks[..m].fill(0x07);
     chip::frame(
         c,
         &mut array[..a],
@@ -99,19 +86,17 @@ fn sent(
 fn ended(b: Bench, array: &mut [u8], security: &mut [u8]) -> After
     ensures { Ended (completion (state_lent_lem b array.old security.old)) (answer_number result.answer) result.chip array.old security.old array.new security.new }
 {
-    let c = b.chip;
-    let a = smaller(b.array, array.len());
-    let s = smaller(b.security, security.len());
-    chip::completion(c, &mut array[..a], &mut security[..s])
+    let a = b.array.min(array.len());
+    let s = b.security.min(security.len());
+    chip::completion(b.chip, &mut array[..a], &mut security[..s])
 }
 
 fn cut(b: Bench, tear: Tear, array: &mut [u8], security: &mut [u8]) -> After
     ensures { Ended (power_cut (state_lent_lem b array.old security.old) tear) (answer_number result.answer) result.chip array.old security.old array.new security.new }
 {
-    let c = b.chip;
-    let a = smaller(b.array, array.len());
-    let s = smaller(b.security, security.len());
-    chip::power_cut(c, &mut array[..a], &mut security[..s], tear)
+    let a = b.array.min(array.len());
+    let s = b.security.min(security.len());
+    chip::power_cut(b.chip, &mut array[..a], &mut security[..s], tear)
 }
 
 // The event on the chip.
@@ -127,11 +112,9 @@ pub fn happened(
 ) -> After
     ensures { Happened (outcome e b l array.old security.old frame.now reply.old marks.old) (answer_number result.answer) result.chip array.old security.old reply.old marks.old array.new security.new reply.new marks.new }
 {
-    let c = b.chip;
-    let slots = l.slots;
     match e {
         Event::Frame => sent(b, l, array, security, frame, reply, marks),
         Event::Completion => ended(b, array, security),
-        Event::Cut => cut(b, tear_of(c, slots), array, security),
+        Event::Cut => cut(b, tear_of(b.chip, l.slots), array, security),
     }
 }

@@ -21,15 +21,14 @@ fn play(
     ensures { Played p l array.old security.old frame.now expected.now known.now reply.old marks.old result array.new security.new reply.new marks.new }
 {
     let now = next_line(p);
-    let slots = l.slots;
-    let deed = deed_of(l.verb);
-    match deed {
+    match deed_of(l.verb) {
         Deed::Nothing => now,
         Deed::Event(e) => happening::played(
             now, e, l, array, security, frame, expected, known, reply, marks,
         ),
-        Deed::Setting(s) => arranging::played(now, s, slots, array, security),
+        Deed::Setting(s) => arranging::played(now, s, l.slots, array, security),
         Deed::Question(q) => asking::played(now, q, l, array, security, expected, known),
+        // what is done with a file, or with the station list, is done above: crates `posting` and `calling`
         Deed::Post(_) => now,
         Deed::Call(_) => now,
         Deed::Wrong => wrong(now),
@@ -51,8 +50,7 @@ pub fn take(
 ) -> Playing
     ensures { Taken p b array.old security.old frame.old expected.old known.old remark.old reply.old marks.old result array.new security.new frame.new expected.new known.new remark.new reply.new marks.new }
 {
-    let half = p.reading;
-    let reading = script::step(half, b, frame, expected, known, remark);
+    let reading = script::step(p.reading, b, frame, expected, known, remark);
     let now = with_reading(p, reading);
     if reading.ended {
         let line = script::line_of(reading);

@@ -6,10 +6,10 @@ use native.Mathlib.Omega.{arith}
 use Rattle.lending.proofs.cut.Goals as goal
 
 pub slice_bounds-power_cut-end-2 : goal.slice_bounds-power_cut-end-2
-slice_bounds-power_cut-end-2 c = sym (length-take-le _ _ (omega (arith, c.smaller-a.ensures)))
+slice_bounds-power_cut-end-2 c = sym (length-take-le _ _ (omega (arith, c.min-a.ensures)))
 
 pub slice_bounds-power_cut-end-4 : goal.slice_bounds-power_cut-end-4
-slice_bounds-power_cut-end-4 c = sym (length-take-le _ _ (omega (arith, c.smaller-s.ensures)))
+slice_bounds-power_cut-end-4 c = sym (length-take-le _ _ (omega (arith, c.min-s.ensures)))
 
 pub returns : goal.returns
-returns c = cut_off c.args.b c.args.array.now c.args.security.now _ _ c.smaller-a.ensures c.smaller-s.ensures c.args.tear _ _ _ c.power_cut.auto.array c.power_cut.auto.security c.power_cut.ensures
+returns c = cut_off c.args.b c.args.array.now c.args.security.now _ _ c.min-a.ensures c.min-s.ensures c.args.tear _ _ _ c.power_cut.auto.array c.power_cut.auto.security c.power_cut.ensures
