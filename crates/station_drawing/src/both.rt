@@ -259,9 +259,9 @@ fn odd_lookup(
     polls: u64,
     plant: Option<Comparison>,
     station: u16,
-    reply: &Reply,
+    first: &Side,
 ) -> u64 {
-    let due = match showing::live_slots(reply, station) {
+    let due = match showing::live_slots(first, station) {
         0 => 17,
         _ => 0,
     };
@@ -274,15 +274,17 @@ fn odd_lookup(
         )
 }
 
-fn looked(
+// `wanted`: the byte that the data of a done lookup count up from, where it is known.
+pub fn looked_up(
     p: Pair,
     l: Lengths,
     station: u16,
     wanted: Option<u8>,
     plant: Option<Comparison>,
-    first: &mut Side,
-    second: &mut Side,
+    sides: &mut Sides,
 ) -> Went {
+    let first = &mut sides.first;
+    let second = &mut sides.second;
     first.cleared();
     second.cleared();
     let mut buffer = [BEFORE; 29];
@@ -303,22 +305,8 @@ fn looked(
         | odd_memories(plant, first, second)
         | odd_read(number, plant, first, second)
         | odd_buffers(number, wanted, plant, &mut buffer, &mut buffer2)
-        | odd_lookup(number, pair.first.polls, plant, station, first.reply);
+        | odd_lookup(number, pair.first.polls, plant, station, first);
     Went { pair, odd }
-}
-
-// `wanted`: the byte that the data of a done lookup count up from, where it is known.
-pub fn looked_up(
-    p: Pair,
-    l: Lengths,
-    station: u16,
-    wanted: Option<u8>,
-    plant: Option<Comparison>,
-    sides: &mut Sides,
-) -> Went {
-    let first = &mut sides.first;
-    let second = &mut sides.second;
-    looked(p, l, station, wanted, plant, first, second)
 }
 
 // ---- store
@@ -338,35 +326,36 @@ fn odd_store(
     c: Call,
     plant: Option<Comparison>,
     list: &[u64],
-    reply: &Reply,
+    first: &Side,
 ) -> u64 {
     let no_polls = polls == planted_number(0, plant, Comparison::PollsByList);
     // whether the read was done
     if !matches!(number, 0 | 8 | 11 | 16 | 18) {
         return bit(no_polls, Comparison::PollsByList);
     }
-    let full = !showing::has_empty(reply);
+    let full = !showing::has_empty(first);
     let says = planted_number(u64::from(number), plant, Comparison::NumberByRead);
     let right = bit(full == (says == 16), Comparison::NumberByRead);
     if !matches!(number, 0 | 18) {
         return right | bit(no_polls, Comparison::PollsByList);
     }
-    let writes = showing::live_slots(reply, c.station).wrapping_add(2);
+    let writes = showing::live_slots(first, c.station).wrapping_add(2);
     let due = showing::due_of(list, c.allowance, writes);
     let counted = number == due.number
         && polls == planted_number(due.polls, plant, Comparison::PollsByList);
     right | bit(counted, Comparison::PollsByList)
 }
 
-fn kept(
+pub fn stored(
     p: Pair,
     l: Lengths,
     c: Call,
     list: &[u64],
     plant: Option<Comparison>,
-    first: &mut Side,
-    second: &mut Side,
+    sides: &mut Sides,
 ) -> Went {
+    let first = &mut sides.first;
+    let second = &mut sides.second;
     first.cleared();
     second.cleared();
     let data = data_of(c.from);
@@ -383,21 +372,8 @@ fn kept(
     let odd = odd_records(p, pair, plant)
         | odd_memories(plant, first, second)
         | odd_read(number, plant, first, second)
-        | odd_store(number, pair.first.polls, c, plant, list, first.reply);
+        | odd_store(number, pair.first.polls, c, plant, list, first);
     Went { pair, odd }
-}
-
-pub fn stored(
-    p: Pair,
-    l: Lengths,
-    c: Call,
-    list: &[u64],
-    plant: Option<Comparison>,
-    sides: &mut Sides,
-) -> Went {
-    let first = &mut sides.first;
-    let second = &mut sides.second;
-    kept(p, l, c, list, plant, first, second)
 }
 
 // ---- events between calls
@@ -433,14 +409,15 @@ fn second_happens(f: Flat, e: Event, array: &mut [u8], security: &mut [u8]) -> s
     }
 }
 
-fn passed(
+pub fn happened(
     p: Pair,
     l: Lengths,
     e: Event,
     plant: Option<Comparison>,
-    first: &mut Side,
-    second: &mut Side,
+    sides: &mut Sides,
 ) -> Went {
+    let first = &mut sides.first;
+    let second = &mut sides.second;
     let a = first.lent(l, |array, security, _, _| {
         first_happens(p.first.chip, e, array, security)
     });
@@ -468,16 +445,4 @@ fn passed(
         | bit(same_records(a.chip, record), Comparison::EventRecord)
         | odd_memories(plant, first, second);
     Went { pair, odd }
-}
-
-pub fn happened(
-    p: Pair,
-    l: Lengths,
-    e: Event,
-    plant: Option<Comparison>,
-    sides: &mut Sides,
-) -> Went {
-    let first = &mut sides.first;
-    let second = &mut sides.second;
-    passed(p, l, e, plant, first, second)
 }

@@ -69,7 +69,3 @@ impl fmt::Display for Comparison {
 pub fn bit(holds: bool, c: Comparison) -> u64 {
     if holds { 0 } else { 1 << (c as u64) }
 }
-
-pub fn is_odd(odd: u64, c: Comparison) -> bool {
-    odd >> (c as u64) & 1 != 0
-}

@@ -1,18 +1,18 @@
 // What a call has to come to by what its read showed (document 02, W-206).
-use crate::both::Reply;
+use crate::both::Side;
 
 // "live if its mark is 53 54", and of that number, high byte first.
-pub fn live_slots(shown: &Reply, station: u16) -> usize {
+pub fn live_slots(side: &Side, station: u16) -> usize {
     let [high, low] = station.to_be_bytes();
-    shown
+    side.reply
         .chunks_exact(32)
         .filter(|slot| slot.starts_with(&[0x53, 0x54, high, low]))
         .count()
 }
 
 // "empty if all FF"
-pub fn has_empty(shown: &Reply) -> bool {
-    shown
+pub fn has_empty(side: &Side) -> bool {
+    side.reply
         .chunks_exact(32)
         .any(|slot| slot.iter().all(|b| *b == 255))
 }

@@ -9,7 +9,7 @@ mod report;
 mod runs;
 mod worked;
 
-use report::{Report, NOTHING};
+use report::{Counts, Report};
 use station_drawing::both::{Side, Sides};
 
 const RUNS: u64 = 1600;
@@ -39,7 +39,7 @@ fn main(rt: HostRuntime) {
     };
     let mut report = Report {
         rt: &rt,
-        counts: NOTHING,
+        counts: Counts::default(),
     };
     worked::both_filled(&mut sides);
     worked::paper_shown(&mut report, &mut sides);

@@ -7,11 +7,27 @@ use crate::deeds::Deed::{
 use station_drawing::both::{Lengths, RIGHT};
 use station_drawing::lists::{CLEARED, LIVE, UNMARKED};
 
+// How WEL and BUSY stand.
+const IDLE: Deed = Stands {
+    wel: false,
+    busy: false,
+};
+
+const ENABLED: Deed = Stands {
+    wel: true,
+    busy: false,
+};
+
+const BUSY: Deed = Stands {
+    wel: true,
+    busy: true,
+};
+
 // "29 down to 0: 64 KB; bit n from (n + 1) × 10000", "At power-up the register is 5555FFFFFFFF": the list of a new chip is locked, and 11 is of the first 02.
 const LOCKED: [Deed; 6] = [
     Fresh,
     Stores(0x1234, 0x10, 3, [1; 5], 11, 0),
-    Stands { wel: true, busy: false },
+    ENABLED,
     IsEmpty(0),
     Misses(0x1234, 17),
     Outside,
@@ -25,7 +41,7 @@ const IN_ORDER: [Deed; 18] = [
     Stores(0x1234, 0x10, 3, [1, 1, 0, 0, 0], 0, 2),
     Holds(0, LIVE, 0x1234, 0x10),
     IsEmpty(1),
-    Stands { wel: false, busy: false },
+    IDLE,
     Finds(0x1234, 0x10),
     Stores(0x1234, 0x40, 9, [2, 3, 4, 0, 0], 0, 9),
     Holds(1, LIVE, 0x1234, 0x40),
@@ -47,7 +63,7 @@ const POLLS_USED_UP: [Deed; 28] = [
     Sends(0x98, 0),
     // "0 or no entry: never"
     Stores(7, 1, 5, [0, 1, 1, 1, 1], 18, 5),
-    Stands { wel: true, busy: true },
+    BUSY,
     // 5: "BUSY, and opcode not 05, 66, 99, B0"
     Misses(7, 5),
     Stores(7, 1, 5, [1; 5], 5, 0),
@@ -61,12 +77,12 @@ const POLLS_USED_UP: [Deed; 28] = [
     Finds(7, 2),
     // an entry beyond the allowance
     Stores(7, 3, 5, [6, 1, 1, 1, 1], 18, 5),
-    Stands { wel: true, busy: true },
+    BUSY,
     Completes,
     Holds(2, UNMARKED, 7, 3),
     // no poll is allowed
     Stores(7, 4, 0, [1; 5], 18, 0),
-    Stands { wel: true, busy: true },
+    BUSY,
     Completes,
     Holds(3, UNMARKED, 7, 4),
     // each entry is the allowance: three writes
@@ -150,7 +166,7 @@ const LENGTHS: [Deed; 30] = [
     MissesWith(ARRAY_SHORT, 1),
     MissesWith(SECURITY_SHORT, 1),
     IsEmpty(0),
-    Stands { wel: false, busy: false },
+    IDLE,
     Stores(7, 1, 3, [1; 5], 0, 2),
     Holds(0, LIVE, 7, 1),
     Broken,
@@ -168,7 +184,7 @@ const IN_SQI: [Deed; 11] = [
     Sends(0x38, 0),
     Stores(7, 1, 3, [1; 5], 3, 0),
     Misses(7, 3),
-    Stands { wel: false, busy: false },
+    IDLE,
     Sends(0xff, 0),
     IsEmpty(0),
     Stores(7, 1, 3, [1; 5], 0, 2),
@@ -183,7 +199,7 @@ const NO_EMPTY_SLOT: [Deed; 20] = [
     Full,
     Stores(5, 0x20, 3, [1; 5], 16, 0),
     Stores(0xabcd, 0x20, 3, [1; 5], 16, 0),
-    Stands { wel: false, busy: false },
+    IDLE,
     Holds(5, LIVE, 5, 7),
     Finds(5, 7),
     Finds(0x07ff, 7),
@@ -266,7 +282,7 @@ const PAGE_SUSPENDED: [Deed; 26] = [
     Sends(0xb0, 0),
     Sends(0x04, 0),
     Stores(7, 2, 3, [1; 5], 8, 0),
-    Stands { wel: true, busy: false },
+    ENABLED,
     IsEmpty(1),
     Finds(7, 1),
     // dropped
@@ -387,11 +403,11 @@ const ENABLED_BEFORE: [Deed; 10] = [
     Sends(0x06, 0),
     Sends(0x98, 0),
     Sends(0x06, 0),
-    Stands { wel: true, busy: false },
+    ENABLED,
     Misses(7, 17),
-    Stands { wel: true, busy: false },
+    ENABLED,
     Stores(7, 1, 2, [2, 2, 0, 0, 0], 0, 4),
-    Stands { wel: false, busy: false },
+    IDLE,
     Finds(7, 1),
 ];
 

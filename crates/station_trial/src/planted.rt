@@ -9,13 +9,7 @@ fn tried(plant: Comparison, sides: &mut Sides) -> u64 {
     let plant = Some(plant);
     lists::fill(sides.first.array, lists::Sort::Empty, 0);
     lists::fill(sides.second.array, lists::Sort::Empty, 0);
-    let a = both::happened(
-        both::new_pair(),
-        RIGHT,
-        Event::Frame(&[0x06]),
-        plant,
-        sides,
-    );
+    let a = both::happened(both::new_pair(), RIGHT, Event::Frame(&[0x06]), plant, sides);
     let b = both::happened(a.pair, RIGHT, Event::Frame(&[0x98]), plant, sides);
     let call = Call {
         station: 7,

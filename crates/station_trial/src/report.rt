@@ -1,7 +1,7 @@
 // What is counted, and what is written.
-use station_drawing::comparisons::{COMPARISONS, Comparison, is_odd};
+use station_drawing::comparisons::{COMPARISONS, Comparison, bit};
 
-#[derive(Clone, Copy)]
+#[derive(Clone, Copy, Default)]
 pub struct Counts {
     // the paper's values, cases with a difference, stores, lookups, power cuts
     pub values: u64,
@@ -18,19 +18,6 @@ pub struct Counts {
     // done stores by the marks that they cleared
     pub cleared: [u64; 4],
 }
-
-pub const NOTHING: Counts = Counts {
-    values: 0,
-    differences: 0,
-    stores: 0,
-    lookups: 0,
-    cuts: 0,
-    store_numbers: [0; 32],
-    lookup_numbers: [0; 32],
-    chips: [0; 23],
-    lists: [0; 10],
-    cleared: [0; 4],
-};
 
 fn bump(n: &mut u64) {
     *n = n.wrapping_add(1);
@@ -88,7 +75,7 @@ impl<P: Print> Report<'_, P> {
 
     fn odd_said(&self, odd: u64) {
         for c in COMPARISONS {
-            if is_odd(odd, c) {
+            if odd & bit(false, c) != 0 {
                 let _ = print!(self.rt; " {c}");
             }
         }

@@ -4,110 +4,74 @@ use drawing::dice::{draw, seed_of};
 use station_drawing::both::{Call, Event, Lengths, Pair, Sides};
 use station_drawing::{both, calls, chips, lists, showing};
 
-// The number of the run, and of the step in it.
+// A step of a run: the numbers of both, what is lent in the run, and the seed of what is drawn.
 #[derive(Clone, Copy)]
 struct At {
     run: u64,
     step: u64,
+    lengths: Lengths,
+    seed: u64,
 }
 
-// ---- steps of a run
+// ---- calls
 
 fn looks(
     p: Pair,
-    l: Lengths,
     t: At,
     station: u16,
     wanted: Option<u8>,
     report: &mut Report<impl Print>,
     sides: &mut Sides,
 ) -> Pair {
-    let w = both::looked_up(p, l, station, wanted, None, sides);
+    let w = both::looked_up(p, t.lengths, station, wanted, None, sides);
     report.lookup_counted(w.pair.first.number);
     report.told("lookup of run", t.run, t.step, w.odd);
     w.pair
 }
 
-// Of a number, as the last read of the first model showed the list.
-fn live_slots(sides: &Sides, station: u16) -> usize {
-    showing::live_slots(sides.first.reply, station)
+fn looks_drawn(p: Pair, t: At, report: &mut Report<impl Print>, sides: &mut Sides) -> Pair {
+    let lengths = calls::lengths(t.lengths, t.seed);
+    let lent = At { lengths, ..t };
+    looks(p, lent, calls::station(t.seed), None, report, sides)
 }
 
-fn stores(
-    p: Pair,
-    l: Lengths,
-    t: At,
-    c: Call,
-    seed: u64,
-    report: &mut Report<impl Print>,
-    sides: &mut Sides,
-) -> Pair {
+fn stores(p: Pair, t: At, c: Call, report: &mut Report<impl Print>, sides: &mut Sides) -> Pair {
     let mut list = [0; 2304];
-    let entries = calls::entries(&mut list, seed, c.allowance);
-    let w = both::stored(p, calls::lengths(l, seed), c, entries, None, sides);
-    report.store_counted(w.pair.first.number, live_slots(sides, c.station));
+    let entries = calls::entries(&mut list, t.seed, c.allowance);
+    let lengths = calls::lengths(t.lengths, t.seed);
+    let w = both::stored(p, lengths, c, entries, None, sides);
+    let live = showing::live_slots(&sides.first, c.station);
+    report.store_counted(w.pair.first.number, live);
     report.told("store of run", t.run, t.step, w.odd);
     w.pair
 }
 
 // What was just stored is looked up.
-fn stores_and_looks(
-    p: Pair,
-    l: Lengths,
-    t: At,
-    seed: u64,
-    report: &mut Report<impl Print>,
-    sides: &mut Sides,
-) -> Pair {
-    let c = calls::call(seed);
-    let next = stores(p, l, t, c, seed, report, sides);
-    let wanted = if next.first.number == 0 {
-        Some(c.from)
-    } else {
-        None
-    };
-    looks(next, l, t, c.station, wanted, report, sides)
+fn stores_and_looks(p: Pair, t: At, report: &mut Report<impl Print>, sides: &mut Sides) -> Pair {
+    let c = calls::call(t.seed);
+    let next = stores(p, t, c, report, sides);
+    let wanted = (next.first.number == 0).then_some(c.from);
+    looks(next, t, c.station, wanted, report, sides)
 }
 
 // ---- events
 
-fn happens(
-    p: Pair,
-    l: Lengths,
-    t: At,
-    e: Event,
-    report: &mut Report<impl Print>,
-    sides: &mut Sides,
-) -> Pair {
-    let w = both::happened(p, l, e, None, sides);
+fn happens(p: Pair, t: At, e: Event, report: &mut Report<impl Print>, sides: &mut Sides) -> Pair {
+    let w = both::happened(p, t.lengths, e, None, sides);
     report.told("event of run", t.run, t.step, w.odd);
     w.pair
 }
 
-fn cuts(
-    p: Pair,
-    l: Lengths,
-    t: At,
-    seed: u64,
-    report: &mut Report<impl Print>,
-    sides: &mut Sides,
-) -> Pair {
+fn cuts(p: Pair, t: At, report: &mut Report<impl Print>, sides: &mut Sides) -> Pair {
     report.cut_counted();
-    happens(p, l, t, calls::cut(seed), report, sides)
+    happens(p, t, calls::cut(t.seed), report, sides)
 }
 
 // A power cut, and 06 and 98, which open the list again.
-fn cuts_and_opens(
-    p: Pair,
-    l: Lengths,
-    t: At,
-    seed: u64,
-    report: &mut Report<impl Print>,
-    sides: &mut Sides,
-) -> Pair {
-    let a = cuts(p, l, t, seed, report, sides);
-    let b = happens(a, l, t, Event::Frame(&[0x06]), report, sides);
-    happens(b, l, t, Event::Frame(&[0x98]), report, sides)
+fn cuts_and_opens(p: Pair, t: At, report: &mut Report<impl Print>, sides: &mut Sides) -> Pair {
+    let a = cuts(p, t, report, sides);
+    let b = happens(a, t, Event::Frame(&[0x06]), report, sides);
+    happens(b, t, Event::Frame(&[0x98]), report, sides)
 }
 
 // The reset enable, suspension, resumption, WEL.
@@ -120,24 +84,14 @@ fn opcode(seed: u64) -> u8 {
     }
 }
 
-fn step(
-    p: Pair,
-    l: Lengths,
-    t: At,
-    seed: u64,
-    report: &mut Report<impl Print>,
-    sides: &mut Sides,
-) -> Pair {
-    match draw(seed, 42, 16) {
-        0..=6 => stores_and_looks(p, l, t, seed, report, sides),
-        7..=10 => {
-            let l = calls::lengths(l, seed);
-            looks(p, l, t, calls::station(seed), None, report, sides)
-        }
-        11 | 12 => cuts_and_opens(p, l, t, seed, report, sides),
-        13 => happens(p, l, t, Event::Completion, report, sides),
-        14 => happens(p, l, t, Event::Frame(&[opcode(seed)]), report, sides),
-        _ => cuts(p, l, t, seed, report, sides),
+fn step(p: Pair, t: At, report: &mut Report<impl Print>, sides: &mut Sides) -> Pair {
+    match draw(t.seed, 42, 16) {
+        0..=6 => stores_and_looks(p, t, report, sides),
+        7..=10 => looks_drawn(p, t, report, sides),
+        11 | 12 => cuts_and_opens(p, t, report, sides),
+        13 => happens(p, t, Event::Completion, report, sides),
+        14 => happens(p, t, Event::Frame(&[opcode(t.seed)]), report, sides),
+        _ => cuts(p, t, report, sides),
     }
 }
 
@@ -161,11 +115,16 @@ fn run(k: u64, report: &mut Report<impl Print>, sides: &mut Sides) {
     let sort = chips::SORTS[n];
     report.chip_counted(n);
     filled(k, report, sides);
-    let l = calls::run_lengths(sort, seed);
+    let lengths = calls::run_lengths(sort, seed);
     let mut p = both::pair_of(chips::start(sort, seed));
     for i in 0..6 {
-        let t = At { run: k, step: i };
-        p = step(p, l, t, seed_of(seed, i), report, sides);
+        let t = At {
+            run: k,
+            step: i,
+            lengths,
+            seed: seed_of(seed, i),
+        };
+        p = step(p, t, report, sides);
     }
 }
 

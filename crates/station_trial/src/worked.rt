@@ -3,9 +3,10 @@ use crate::deeds::Deed;
 use crate::paper::SENTENCES;
 use crate::report::Report;
 use comparing::mapping::flat_of;
+use drawing::at;
 use image_drawing::places::Memory;
 use rules::Tear;
-use station_drawing::both::{Call, Event, Lengths, Pair, RIGHT, Reply, Sides, Went};
+use station_drawing::both::{Call, Event, Lengths, Pair, RIGHT, Side, Sides, Went};
 use station_drawing::lists::{EMPTY, Slot};
 use station_drawing::{both, lists};
 
@@ -55,8 +56,11 @@ pub fn both_filled(sides: &mut Sides) {
     fill_outside(sides.second.array);
 }
 
-fn outside_kept(array: &Memory) -> bool {
-    array
+// ---- claims: on the first model's array and what its last read showed
+
+fn outside_kept(first: &Side) -> bool {
+    first
+        .array
         .iter()
         .enumerate()
         .all(|(i, b)| !is_outside(i) || *b == outside_byte(i))
@@ -67,23 +71,12 @@ fn slot_shown(array: &Memory, slot: usize, s: Slot) -> bool {
     array[place..place + 32] == lists::slot_bytes(s)[..]
 }
 
-// A byte of reply or marks.
-fn at(shown: &Reply, place: usize) -> u8 {
-    drawing::at(shown, place)
+fn holds(first: &Side, slot: usize, s: Slot) -> bool {
+    slot_shown(first.array, slot, s)
 }
 
-// ---- claims: on what the first model did
-
-fn holds(sides: &Sides, slot: usize, s: Slot) -> bool {
-    slot_shown(sides.first.array, slot, s)
-}
-
-fn reads(sides: &Sides, place: usize, value: u8, mark: u8) -> bool {
-    at(sides.first.reply, place) == value && at(sides.first.marks, place) == mark
-}
-
-fn keeps_outside(sides: &Sides) -> bool {
-    outside_kept(sides.first.array)
+fn shows(first: &Side, place: usize, value: u8, mark: u8) -> bool {
+    at(first.reply, place) == value && at(first.marks, place) == mark
 }
 
 fn stands(p: Pair, wel: bool, busy: bool) -> bool {
@@ -199,12 +192,12 @@ fn carried_out(p: Pair, deed: Deed, sides: &mut Sides) -> Done {
                 station,
                 from,
             };
-            claimed(p, holds(sides, slot, s))
+            claimed(p, holds(&sides.first, slot, s))
         }
-        Deed::IsEmpty(slot) => claimed(p, holds(sides, slot, EMPTY)),
+        Deed::IsEmpty(slot) => claimed(p, holds(&sides.first, slot, EMPTY)),
         Deed::Stands { wel, busy } => claimed(p, stands(p, wel, busy)),
-        Deed::Reads(place, value, mark) => claimed(p, reads(sides, place, value, mark)),
-        Deed::Outside => claimed(p, keeps_outside(sides)),
+        Deed::Reads(place, value, mark) => claimed(p, shows(&sides.first, place, value, mark)),
+        Deed::Outside => claimed(p, outside_kept(&sides.first)),
     }
 }
 
