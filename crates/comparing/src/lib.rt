@@ -5,32 +5,30 @@
 pub mod bytes;
 pub mod mapping;
 
-use bytes::{same, same_front, within};
+use bytes::{front, front_mut, same_front};
 use mapping::{flat_of, same_records};
 use script::Line;
 use second::{Extra, Flat, Step};
 use standing::{Deed, Event, Playing, Setting};
+use std::fmt;
 
-fn chip_now(p: Playing) -> Flat {
-    let b = p.bench;
-    let c = b.chip;
-    flat_of(c)
+// The memories and buffers that a model is lent, each with a byte more than it may be.
+#[derive(Drop)]
+pub struct Side<'a> {
+    pub array: &'a mut [u8; 2097153],
+    pub security: &'a mut [u8; 2049],
+    pub reply: &'a mut [u8; 65537],
+    pub marks: &'a mut [u8; 65537],
 }
 
 // Where a line stops what runs. Without m it is document 01's: FF of a program and 00 of an erase, by the second model's own record.
 fn extra_of(f: Flat, slots: [u64; 24]) -> Extra {
-    let k = slots[7];
-    if slots[9] == 0 {
-        let m: u8 = match f.run_kind {
-            1 | 2 | 3 => 0x00,
-            _ => 0xff,
-        };
-        return Extra { k, m };
-    }
-    Extra {
-        k,
-        m: (slots[9] % 256) as u8,
-    }
+    let m = match (slots[9], f.run_kind) {
+        (0, 1 | 2 | 3) => 0x00,
+        (0, _) => 0xff,
+        (m, _) => (m % 256) as u8,
+    };
+    Extra { k: slots[7], m }
 }
 
 // The event on as much of each memory as the first model was lent. Reply and marks hold 5A and 07 before it, as the first model's do.
@@ -44,10 +42,8 @@ fn happened(
     reply: &mut [u8],
     marks: &mut [u8],
 ) -> Step {
-    let r = reply.len();
-    let m = marks.len();
-    memory::set_all(reply, 0, r, 0x5A);
-    memory::set_all(marks, 0, m, 0x07);
+    reply.fill(0x5a);
+    marks.fill(0x07);
     match e {
         Event::Frame => second::frame(f, array, security, sent, reply, marks, x),
         Event::Completion => second::completion(f, array, security),
@@ -56,89 +52,51 @@ fn happened(
 }
 
 // A completion and a power cut want no reply.
-fn event(
-    f: Flat,
-    e: Event,
-    p: Playing,
-    l: Line,
-    array: &mut [u8],
-    security: &mut [u8],
-    sent: &[u8],
-    reply: &mut [u8],
-    marks: &mut [u8],
-) -> Step {
-    let b = p.bench;
-    let slots = l.slots;
-    let a = within(b.array, array);
-    let s = within(b.security, security);
-    let n = within(l.sent, sent);
-    let r = within(slots[1] as usize, reply);
-    let m = within(lending::marks_given(slots), marks);
+fn event(f: Flat, e: Event, p: Playing, l: Line, sent: &[u8], side: &mut Side) -> Step {
+    let array = &mut *side.array;
+    let security = &mut *side.security;
+    let reply = &mut *side.reply;
+    let marks = &mut *side.marks;
     happened(
         f,
         e,
-        extra_of(f, slots),
-        &mut array[..a],
-        &mut security[..s],
-        &sent[..n],
-        &mut reply[..r],
-        &mut marks[..m],
+        extra_of(f, l.slots),
+        front_mut(p.bench.array, array),
+        front_mut(p.bench.security, security),
+        front(l.sent, sent),
+        front_mut(l.slots[1] as usize, reply),
+        front_mut(lending::marks_given(l.slots), marks),
     )
 }
 
 // A new chip is the second model's own, of the part that the line says; any other record is the first model's.
 fn chip_set(s: Setting, slots: [u64; 24], p: Playing) -> Flat {
     match s {
-        Setting::New => {
-            if slots[10] == 0 {
-                return second::fresh();
-            }
-            second::fresh_old()
-        }
-        _ => chip_now(p),
+        Setting::New if slots[10] == 0 => second::fresh(),
+        Setting::New => second::fresh_old(),
+        _ => flat_of(p.bench.chip),
     }
 }
 
 // The line on the second model. What is set is set here too, and a question asks the first one.
-pub fn played(
-    f: Flat,
-    p: Playing,
-    l: Line,
-    array: &mut [u8; 2097153],
-    security: &mut [u8; 2049],
-    sent: &[u8; 65537],
-    reply: &mut [u8; 65537],
-    marks: &mut [u8; 65537],
-) -> Step {
-    let slots = l.slots;
-    let deed = standing::deed_of(l.verb);
-    match deed {
-        Deed::Event(e) => event(f, e, p, l, array, security, sent, reply, marks),
+pub fn played(f: Flat, p: Playing, l: Line, sent: &[u8; 65537], side: &mut Side) -> Step {
+    match standing::deed_of(l.verb) {
+        Deed::Event(e) => event(f, e, p, l, sent, side),
         Deed::Setting(s) => {
-            arranging::arrange(s, slots, array, security);
+            let array = &mut *side.array;
+            let security = &mut *side.security;
+            arranging::arrange(s, l.slots, array, security);
             Step {
                 number: 0,
-                state: chip_set(s, slots, p),
+                state: chip_set(s, l.slots, p),
             }
         }
-        Deed::Nothing => Step {
-            number: p.number,
-            state: f,
-        },
-        Deed::Question(_) => Step {
-            number: p.number,
-            state: f,
-        },
-        Deed::Post(_) => Step {
-            number: p.number,
-            state: f,
-        },
         // Calls of the store are compared by a program of their own; here they are a difference, so that none passes in silence.
         Deed::Call(_) => Step {
             number: 255,
             state: f,
         },
-        Deed::Wrong => Step {
+        Deed::Nothing | Deed::Question(_) | Deed::Post(_) | Deed::Wrong => Step {
             number: p.number,
             state: f,
         },
@@ -147,88 +105,85 @@ pub fn played(
 
 // ---- a planted difference
 
-fn turn(s: &mut [u8]) {
-    if 0 < s.len() {
-        s[0] = s[0] ^ 1;
+// What it is in: what each comparison looks at, in their order, and the record's part.
+#[derive(Clone, Copy, PartialEq, Eq)]
+pub enum Plant {
+    Number,
+    Record,
+    Reply,
+    Marks,
+    Array,
+    SecurityId,
+    Part,
+}
+
+impl Plant {
+    // The one that is planted after it.
+    pub fn next(self) -> Option<Plant> {
+        match self {
+            Plant::Number => Some(Plant::Record),
+            Plant::Record => Some(Plant::Reply),
+            Plant::Reply => Some(Plant::Marks),
+            Plant::Marks => Some(Plant::Array),
+            Plant::Array => Some(Plant::SecurityId),
+            Plant::SecurityId => Some(Plant::Part),
+            Plant::Part => None,
+        }
     }
 }
 
-fn planted_step(kind: u64, s: Step) -> Step {
-    let mut state = s.state;
-    if kind == 2 {
-        state.wel = !state.wel;
+impl fmt::Display for Plant {
+    fn fmt<W: fmt::Write>(&self, f: &mut fmt::Formatter<W>) -> fmt::Result {
+        f.write_str(match self {
+            Plant::Number => "another number",
+            Plant::Record => "another record",
+            Plant::Reply => "another reply",
+            Plant::Marks => "other marks",
+            Plant::Array => "another array",
+            Plant::SecurityId => "another Security ID",
+            Plant::Part => "another part",
+        })
     }
-    if kind == 7 {
-        state.ba = !state.ba;
-    }
-    let number = if kind == 1 { s.number ^ 1 } else { s.number };
-    Step { number, state }
 }
 
-// In the number, the record, the reply, the marks, the array or the Security ID: the comparisons in their order. And in the record's part.
-pub fn planted(
-    kind: u64,
-    s: Step,
-    array: &mut [u8; 2097153],
-    security: &mut [u8; 2049],
-    reply: &mut [u8; 65537],
-    marks: &mut [u8; 65537],
-) -> Step {
-    match kind {
-        3 => turn(reply),
-        4 => turn(marks),
-        5 => turn(array),
-        6 => turn(security),
-        _ => {}
+// The step of the second model and its memories, with the difference.
+pub fn planted(plant: Plant, s: Step, side: &mut Side) -> Step {
+    let mut next = s;
+    match plant {
+        Plant::Number => next.number ^= 1,
+        Plant::Record => next.state.wel = !s.state.wel,
+        Plant::Reply => side.reply[0] ^= 1,
+        Plant::Marks => side.marks[0] ^= 1,
+        Plant::Array => side.array[0] ^= 1,
+        Plant::SecurityId => side.security[0] ^= 1,
+        Plant::Part => next.state.ba = !s.state.ba,
     }
-    planted_step(kind, s)
+    next
 }
 
 // ---- the comparisons
 
-fn bit(same: bool, value: u64) -> u64 {
-    if same {
-        return 0;
+// In what the two differ after a line.
+#[derive(Clone, Copy, PartialEq, Eq, Default)]
+pub struct Odd {
+    pub number: bool,
+    pub record: bool,
+    pub reply: bool,
+    pub marks: bool,
+    pub array: bool,
+    pub security: bool,
+}
+
+// The memories are compared where the whole is.
+pub fn compared(p: Playing, l: Line, s: Step, whole: bool, one: &Side, two: &Side) -> Odd {
+    let replied = l.slots[1] as usize;
+    let marked = lending::marks_given(l.slots);
+    Odd {
+        number: p.number != s.number,
+        record: !same_records(p.bench.chip, s.state),
+        reply: !same_front(replied, one.reply, two.reply),
+        marks: !same_front(marked, one.marks, two.marks),
+        array: whole && *one.array != *two.array,
+        security: whole && *one.security != *two.security,
     }
-    value
-}
-
-fn odd_memory(whole: bool, array: &[u8], security: &[u8], array2: &[u8], security2: &[u8]) -> u64 {
-    if !whole {
-        return 0;
-    }
-    bit(same(array, array2), 16) | bit(same(security, security2), 32)
-}
-
-fn odd_reply(l: Line, reply: &[u8], marks: &[u8], reply2: &[u8], marks2: &[u8]) -> u64 {
-    let slots = l.slots;
-    let r = slots[1] as usize;
-    let m = lending::marks_given(slots);
-    bit(same_front(r, reply, reply2), 4) | bit(same_front(m, marks, marks2), 8)
-}
-
-fn odd_record(p: Playing, s: Step) -> u64 {
-    let b = p.bench;
-    let c = b.chip;
-    bit(p.number == s.number, 1) | bit(same_records(c, s.state), 2)
-}
-
-// In what the two differ after a line: a bit for each comparison.
-pub fn odd(
-    p: Playing,
-    l: Line,
-    s: Step,
-    whole: bool,
-    array: &[u8; 2097153],
-    security: &[u8; 2049],
-    reply: &[u8; 65537],
-    marks: &[u8; 65537],
-    array2: &[u8; 2097153],
-    security2: &[u8; 2049],
-    reply2: &[u8; 65537],
-    marks2: &[u8; 65537],
-) -> u64 {
-    odd_record(p, s)
-        | odd_reply(l, reply, marks, reply2, marks2)
-        | odd_memory(whole, array, security, array2, security2)
 }

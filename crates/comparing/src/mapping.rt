@@ -1,30 +1,23 @@
 // The two models' records, brought to one form: second's, which has numbers only. Its kinds of work are those of crate numbering.
-use crate::bytes::same;
-use rules::Chip;
+use rules::{Chip, Rest};
 use second::Flat;
 
 pub fn flat_of(c: Chip) -> Flat {
-    let rest = c.rest;
-    let works = rest.works;
-    let run = works.running;
-    let aside = works.suspended;
-    let run_kind = (numbering::kind_of(run) % 16) as u8;
-    let run_number = numbering::number_of(run);
-    let sus_kind = (numbering::kind_of(aside) % 16) as u8;
-    let sus_number = numbering::number_of(aside);
-    let locks = rest.locks;
-    let flags = rest.flags;
-    let set = rest.burst;
-    let burst = (numbering::burst_byte(set) % 16) as u8;
+    let Rest {
+        locks,
+        burst,
+        works,
+        flags,
+    } = c.rest;
     let buffer = c.buffer;
     Flat {
         buffer,
         protection: locks.protection,
         permanent: locks.permanent,
-        run_kind,
-        run_number,
-        sus_kind,
-        sus_number,
+        run_kind: (numbering::kind_of(works.running) % 16) as u8,
+        run_number: numbering::number_of(works.running),
+        sus_kind: (numbering::kind_of(works.suspended) % 16) as u8,
+        sus_number: numbering::number_of(works.suspended),
         sqi: flags.sqi,
         wel: flags.wel,
         ioc: flags.ioc,
@@ -32,7 +25,7 @@ pub fn flat_of(c: Chip) -> Flat {
         wpld: flags.wpld,
         sec: flags.sec,
         enable: flags.enable,
-        burst,
+        burst: (numbering::burst_byte(burst) % 16) as u8,
         ba: flags.ba,
     }
 }
@@ -55,16 +48,13 @@ fn same_flags(a: Flat, b: Flat) -> bool {
         & (a.ba == b.ba)
 }
 
-fn same_pages(a: &[u8; 256], b: &[u8; 256]) -> bool {
-    same(a, b)
-}
-
 // The two records are the same.
 pub fn same_records(c: Chip, f: Flat) -> bool {
     let d = flat_of(c);
-    let one = d.buffer;
-    let two = f.buffer;
-    let locks = (d.protection == f.protection) & (d.permanent == f.permanent);
-    let bursts = d.burst == f.burst;
-    locks & bursts & same_works(d, f) & same_flags(d, f) & same_pages(&one, &two)
+    (d.buffer == f.buffer)
+        & (d.protection == f.protection)
+        & (d.permanent == f.permanent)
+        & (d.burst == f.burst)
+        & same_works(d, f)
+        & same_flags(d, f)
 }

@@ -7,8 +7,5 @@ pub mod source;
 
 // The byte at a place, 0 past the end.
 pub fn at(s: &[u8], i: usize) -> u8 {
-    if i < s.len() {
-        return s[i];
-    }
-    0
+    s.get(i).copied().unwrap_or(0)
 }

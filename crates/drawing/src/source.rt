@@ -3,208 +3,184 @@
 use crate::at;
 use crate::dice::{draw, seed_of};
 
-// Where a line is being written, and the seed of what it says.
-#[derive(Clone, Copy)]
-pub struct Pen {
-    pub seed: u64,
-    pub at: usize,
+// Where a line is being written, and the seed of what it says. Past the line's end it goes on, and writes nothing.
+#[derive(Drop)]
+struct Pen<'a> {
+    line: &'a mut [u8],
+    seed: u64,
+    at: usize,
 }
 
-fn store(line: &mut [u8], i: usize, b: u8) {
-    if i < line.len() {
-        line[i] = b;
+impl Pen<'_> {
+    // The seed of what stands at its place.
+    fn seed_here(&self) -> u64 {
+        seed_of(self.seed, self.at as u64)
     }
-}
 
-fn put(line: &mut [u8], pen: Pen, b: u8) -> Pen {
-    store(line, pen.at, b);
-    Pen {
-        seed: pen.seed,
-        at: std::num::wrapping_add_usize(pen.at, 1),
+    fn put(&mut self, b: u8) {
+        if let Some(place) = self.line.get_mut(self.at) {
+            *place = b;
+        }
+        self.at = self.at.wrapping_add(1);
+    }
+
+    // The last k hex digits of a number.
+    fn put_hex(&mut self, k: u32, n: u64) {
+        for i in (0..k).rev() {
+            self.put(digit(n >> (i % 16 * 4)));
+        }
+    }
+
+    // A letter that stands for a number; | for the end of a line; any other stands for itself.
+    fn put_letter(&mut self, letter: u8) {
+        let seed = self.seed_here();
+        match letter {
+            b'H' => self.put_hex(1, seed),
+            b'X' => self.put_hex(2, seed),
+            b'J' => self.put_hex(3, seed % 512),
+            b'G' => self.put_hex(4, seed % 8192),
+            b'|' => self.put(b'\n'),
+            _ => self.put(letter),
+        }
     }
 }
 
 fn digit(n: u64) -> u8 {
-    if n % 16 < 10 {
-        return (48 + n % 16) as u8;
-    }
-    (55 + n % 16) as u8
-}
-
-// The last k hex digits of a number.
-fn put_hex(line: &mut [u8], pen: Pen, k: u64, n: u64) -> Pen {
-    let mut next = pen;
-    let mut i = k;
-    while 0 < i {
-        i -= 1;
-        next = put(line, next, digit(n >> (i % 16 * 4)));
-    }
-    next
-}
-
-// A letter that stands for a number; | for the end of a line; any other stands for itself.
-fn put_letter(line: &mut [u8], pen: Pen, letter: u8) -> Pen {
-    let seed = seed_of(pen.seed, pen.at as u64);
-    match letter {
-        b'H' => put_hex(line, pen, 1, seed),
-        b'X' => put_hex(line, pen, 2, seed),
-        b'J' => put_hex(line, pen, 3, seed % 512),
-        b'G' => put_hex(line, pen, 4, seed % 8192),
-        b'|' => put(line, pen, b'\n'),
-        _ => put(line, pen, letter),
-    }
+    b"0123456789ABCDEF"[(n % 16) as usize]
 }
 
 // ---- forms
 
-// The index of the forms: for each letter where its forms begin and how many there are, each as often as it is drawn; behind them their places.
-// From 4,096 on stands what is counted (report): each array more that a program lends costs it proof.
-pub type Counts = [u64; 5120];
-
-fn entry(index: &Counts, i: u64) -> u64 {
-    if i < 4096 {
-        return index[i as usize];
-    }
-    0
+// Where a letter's forms begin among the places, and how many there are.
+#[derive(Clone, Copy)]
+struct Letter {
+    first: usize,
+    count: u64,
 }
 
-fn enter(index: &mut Counts, i: u64, n: u64) {
-    if i < 4096 {
-        index[i as usize] = n;
-    }
+// The places of all forms, each as often as it is drawn: those of one letter stand together.
+#[derive(Drop)]
+struct Index {
+    letters: [Letter; 256],
+    places: [usize; 3584],
 }
 
-// A form that is drawn so often, behind the n that are there.
-fn form_entered(index: &mut Counts, n: u64, letter: u64, often: u64, place: u64) {
-    let mut i: u64 = 0;
-    while i < often {
-        enter(
-            index,
-            std::num::wrapping_add_u64(512, std::num::wrapping_add_u64(n, i)),
-            place,
-        );
-        i += 1;
-    }
-    let count = entry(index, 256 + letter % 256);
-    if count == 0 {
-        enter(index, letter % 256, n);
-    }
-    enter(
-        index,
-        256 + letter % 256,
-        std::num::wrapping_add_u64(count, often),
-    );
-}
-
-// Every form of the file: a line that begins with a letter, a digit and a blank. Forms of one letter stand together.
-pub fn indexed(forms: &[u8], index: &mut Counts) {
-    let mut n: u64 = 0;
-    let mut i: usize = 0;
-    while i < forms.len() {
-        let before = at(forms, std::num::wrapping_sub_usize(i, 1));
-        let often = (at(forms, std::num::wrapping_add_usize(i, 1)) % 16) as u64;
-        if (before == b'\n') & (at(forms, i) > 64) {
-            let place = std::num::wrapping_add_u64(i as u64, 3);
-            form_entered(index, n, at(forms, i) as u64, often, place);
-            n = std::num::wrapping_add_u64(n, often);
+impl Index {
+    // A form that is drawn so often, behind the n that are there.
+    fn enter(&mut self, n: usize, letter: u8, often: usize, place: usize) {
+        for p in self.places.iter_mut().skip(n).take(often) {
+            *p = place;
         }
-        i += 1;
-    }
-}
-
-// How often forms of a letter are drawn in all.
-pub fn total(index: &Counts, letter: u8) -> u64 {
-    entry(index, 256 + letter as u64)
-}
-
-// Where the k-th form of a letter stands.
-fn form_at(index: &Counts, letter: u8, k: u64) -> usize {
-    let i = std::num::wrapping_add_u64(entry(index, letter as u64), k);
-    entry(index, std::num::wrapping_add_u64(512, i)) as usize
-}
-
-fn drawn(index: &Counts, letter: u8, seed: u64) -> usize {
-    let n = total(index, letter);
-    form_at(index, letter, draw(seed, letter as u64, n))
-}
-
-// The letters of a form that stands in another.
-fn put_part(line: &mut [u8], pen: Pen, forms: &[u8], from: usize) -> Pen {
-    let mut next = pen;
-    let mut i = from;
-    while i < forms.len() {
-        if forms[i] == b'\n' {
-            return next;
+        let of_letter = &mut self.letters[letter as usize];
+        if of_letter.count == 0 {
+            of_letter.first = n;
         }
-        next = put_letter(line, next, forms[i]);
-        i += 1;
+        of_letter.count = of_letter.count.wrapping_add(often as u64);
     }
-    next
+
+    // Where the k-th form of a letter stands.
+    fn place(&self, letter: u8, k: u64) -> usize {
+        let i = self.letters[letter as usize].first.wrapping_add(k as usize);
+        self.places.get(i).copied().unwrap_or(0)
+    }
+}
+
+// A file of forms: its bytes, how many there are, and where the forms stand in it.
+#[derive(Drop)]
+pub struct Forms {
+    pub text: [u8; 65536],
+    length: usize,
+    index: Index,
 }
 
 fn is_part(letter: u8) -> bool {
-    match letter {
-        b'K' | b'N' | b'P' | b'Q' | b'R' | b'S' | b'U' | b'V' | b'W' | b'Y' | b'Z' => true,
-        _ => false,
-    }
+    matches!(
+        letter,
+        b'K' | b'N' | b'P' | b'Q' | b'R' | b'S' | b'U' | b'V' | b'W' | b'Y' | b'Z'
+    )
 }
 
 // In SQI a letter's forms may be others: Z is then z.
 fn part_of(letter: u8, sqi: bool) -> u8 {
-    if sqi & (letter == b'Z') {
-        return b'z';
+    match letter {
+        b'Z' if sqi => b'z',
+        _ => letter,
     }
-    letter
 }
 
-// The form at a place as lines, and how many bytes they have.
-fn put_form(
-    line: &mut [u8],
-    seed: u64,
-    forms: &[u8],
-    index: &Counts,
-    sqi: bool,
-    from: usize,
-) -> usize {
-    let mut pen = Pen { seed, at: 0 };
-    let mut i = from;
-    while i < forms.len() {
-        let letter = forms[i];
-        if letter == b'\n' {
-            i = forms.len();
-        } else {
-            i += 1;
-            if is_part(letter) {
-                let part = drawn(
-                    index,
-                    part_of(letter, sqi),
-                    seed_of(pen.seed, pen.at as u64),
-                );
-                pen = put_part(line, pen, forms, part);
-            } else {
-                pen = put_letter(line, pen, letter);
-            }
+impl Forms {
+    // No file yet.
+    pub fn new() -> Forms {
+        let none = Letter { first: 0, count: 0 };
+        let index = Index {
+            letters: [none; 256],
+            places: [0; 3584],
+        };
+        Forms {
+            text: [0; 65536],
+            length: 0,
+            index,
         }
     }
-    pen = put(line, pen, b'\n');
-    pen.at
-}
 
-// A form of a letter as lines, drawn.
-pub fn any_form(
-    line: &mut [u8],
-    seed: u64,
-    forms: &[u8],
-    index: &Counts,
-    sqi: bool,
-    letter: u8,
-) -> usize {
-    let from = drawn(index, letter, seed);
-    put_form(line, seed, forms, index, sqi, from)
-}
+    // Every form of the file, of which so many bytes came: a line that begins with a letter, a digit and a blank.
+    pub fn enter(&mut self, length: usize) {
+        self.length = length.min(self.text.len());
+        let text = &self.text[..self.length];
+        let mut n: usize = 0;
+        let mut before = 0;
+        for (i, letter) in text.iter().enumerate() {
+            if before == b'\n' && *letter > 64 {
+                let often = (at(text, i.wrapping_add(1)) % 16) as usize;
+                self.index.enter(n, *letter, often, i.wrapping_add(3));
+                n = n.wrapping_add(often);
+            }
+            before = *letter;
+        }
+    }
 
-// The k-th form of a letter.
-pub fn form(line: &mut [u8], seed: u64, forms: &[u8], index: &Counts, letter: u8, k: u64) -> usize {
-    let from = form_at(index, letter, k);
-    put_form(line, seed, forms, index, false, from)
+    // How often forms of a letter are drawn in all.
+    pub fn total(&self, letter: u8) -> u64 {
+        self.index.letters[letter as usize].count
+    }
+
+    // Where a form of a letter stands, drawn.
+    fn drawn(&self, letter: u8, seed: u64) -> usize {
+        let k = draw(seed, letter as u64, self.total(letter));
+        self.index.place(letter, k)
+    }
+
+    // The letters of the form at a place.
+    fn letters(&self, from: usize) -> &[u8] {
+        let rest = self.text.get(from..self.length).unwrap_or(&[]);
+        let end = rest.iter().position(|b| *b == b'\n');
+        &rest[..end.unwrap_or(rest.len())]
+    }
+
+    // The form at a place as lines, and how many bytes they have.
+    fn put(&self, line: &mut [u8], seed: u64, sqi: bool, from: usize) -> usize {
+        let mut pen = Pen { line, seed, at: 0 };
+        for letter in self.letters(from) {
+            if is_part(*letter) {
+                let part = self.drawn(part_of(*letter, sqi), pen.seed_here());
+                for inner in self.letters(part) {
+                    pen.put_letter(*inner);
+                }
+            } else {
+                pen.put_letter(*letter);
+            }
+        }
+        pen.put(b'\n');
+        pen.at
+    }
+
+    // A form of a letter as lines, drawn.
+    pub fn put_any(&self, line: &mut [u8], seed: u64, sqi: bool, letter: u8) -> usize {
+        self.put(line, seed, sqi, self.drawn(letter, seed))
+    }
+
+    // The k-th form of a letter.
+    pub fn put_nth(&self, line: &mut [u8], seed: u64, letter: u8, k: u64) -> usize {
+        self.put(line, seed, false, self.index.place(letter, k))
+    }
 }

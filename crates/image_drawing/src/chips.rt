@@ -1,5 +1,4 @@
 // Chips that are drawn: their records, and the bytes of their memories.
-use crate::places::{put, set};
 use drawing::dice::{draw, once_in, seed_of};
 use rules::{Chip, Locks, Rest, Work, Works};
 
@@ -9,23 +8,19 @@ const WRITE_LOCKS: u64 = 0x5555_ffff_ffff;
 
 const READ_LOCKS: u64 = 0xaaaa_0000_0000;
 
+const NO_WORKS: Works = Works {
+    running: Work::Nothing,
+    suspended: Work::Nothing,
+};
+
 fn assembled(locks: Locks, works: Works, flags: u8, burst: u64, buffer: [u8; 256]) -> Chip {
-    let flags = numbering::flags_of(flags);
-    let burst = numbering::burst_of(burst);
     let rest = Rest {
         locks,
-        burst,
+        burst: numbering::burst_of(burst),
         works,
-        flags,
+        flags: numbering::flags_of(flags),
     };
     Chip { buffer, rest }
-}
-
-fn no_works() -> Works {
-    Works {
-        running: Work::Nothing,
-        suspended: Work::Nothing,
-    }
 }
 
 // ---- idle chips
@@ -50,22 +45,16 @@ fn some_permanent(seed: u64, protection: u64) -> u64 {
 
 fn right_locks(seed: u64) -> Locks {
     let protection = any_protection(seed);
-    let permanent = some_permanent(seed, protection);
     Locks {
         protection,
-        permanent,
+        permanent: some_permanent(seed, protection),
     }
 }
 
 // A well-formed one with these flags.
 pub fn idle(seed: u64, flags: u8) -> Chip {
-    assembled(
-        right_locks(seed),
-        no_works(),
-        flags,
-        draw(seed, 5, 4),
-        [255u8; 256],
-    )
+    let burst = draw(seed, 5, 4);
+    assembled(right_locks(seed), NO_WORKS, flags, burst, [255; 256])
 }
 
 // A new chip's registers with these flags and this burst.
@@ -74,7 +63,7 @@ pub fn flagged(flags: u8, burst: u64) -> Chip {
         protection: WRITE_LOCKS,
         permanent: 0,
     };
-    assembled(locks, no_works(), flags, burst, [255u8; 256])
+    assembled(locks, NO_WORKS, flags, burst, [255; 256])
 }
 
 // These registers, all flags, and the longest burst.
@@ -83,82 +72,135 @@ pub fn with_registers(protection: u64, permanent: u64) -> Chip {
         protection,
         permanent,
     };
-    assembled(locks, no_works(), 255, 3, [255u8; 256])
+    assembled(locks, NO_WORKS, 255, 3, [255; 256])
 }
 
 // ---- chips at work
 
-// One number in range for each kind of work: pages in the upper half of the array, sectors and blocks in the lower one, so that they do not overlap.
-fn number_in_range(kind: u64, seed: u64) -> u64 {
+#[derive(Clone, Copy)]
+enum Kind {
+    Nothing,
+    EraseSector,
+    EraseBlock,
+    EraseArray,
+    ProgramPage,
+    ProgramSecurity,
+    LockSecurity,
+    WriteConfiguration,
+    AddPermanent,
+}
+
+const RUNNING: [Kind; 9] = [
+    Kind::Nothing,
+    Kind::EraseSector,
+    Kind::EraseBlock,
+    Kind::EraseArray,
+    Kind::ProgramPage,
+    Kind::ProgramSecurity,
+    Kind::LockSecurity,
+    Kind::WriteConfiguration,
+    Kind::AddPermanent,
+];
+
+const SUSPENDED: [Kind; 4] = [
+    Kind::Nothing,
+    Kind::EraseSector,
+    Kind::EraseBlock,
+    Kind::ProgramPage,
+];
+
+// The numbers that work is drawn with: how many, from the first block and page on, and the bits that are added.
+#[derive(Clone, Copy)]
+struct Reach {
+    sectors: u64,
+    block: u64,
+    blocks: u64,
+    page: u64,
+    pages: u64,
+    security: u64,
+    bits: u64,
+}
+
+// In range, pages in the upper half of the array, sectors and blocks in the lower one, so that they do not overlap.
+const APART: Reach = Reach {
+    sectors: 256,
+    block: 30,
+    blocks: 10,
+    page: 4096,
+    pages: 4096,
+    security: 8,
+    bits: REGISTER - 1,
+};
+
+// Up to a little beyond its range.
+const BEYOND: Reach = Reach {
+    sectors: 520,
+    block: 0,
+    blocks: 42,
+    page: 0,
+    pages: 8300,
+    security: 9,
+    bits: u64::MAX,
+};
+
+fn drawn_work(kind: Kind, seed: u64, reach: Reach) -> Work {
     match kind {
-        1 => draw(seed, 6, 256),
-        2 => 30 + draw(seed, 7, 10) % 10,
-        4 => 4096 + draw(seed, 8, 4096) % 4096,
-        5 => draw(seed, 9, 8),
-        7 => draw(seed, 10, 4),
-        8 => seed_of(seed, 11) % REGISTER,
-        _ => 0,
+        Kind::Nothing => Work::Nothing,
+        Kind::EraseSector => Work::EraseSector(draw(seed, 6, reach.sectors) as usize),
+        Kind::EraseBlock => {
+            Work::EraseBlock(reach.block.wrapping_add(draw(seed, 7, reach.blocks)) as usize)
+        }
+        Kind::EraseArray => Work::EraseArray,
+        Kind::ProgramPage => {
+            Work::ProgramPage(reach.page.wrapping_add(draw(seed, 8, reach.pages)) as usize)
+        }
+        Kind::ProgramSecurity => Work::ProgramSecurity(draw(seed, 9, reach.security) as usize),
+        Kind::LockSecurity => Work::LockSecurity,
+        Kind::WriteConfiguration => {
+            let n = draw(seed, 10, 4);
+            Work::WriteConfiguration(n % 2 == 1, n / 2 == 1)
+        }
+        Kind::AddPermanent => Work::AddPermanent(seed_of(seed, 11) & reach.bits),
     }
 }
 
-fn suspended_kind(k: u64) -> u64 {
-    match k % 4 {
-        0 => 0,
-        1 => 1,
-        2 => 2,
-        _ => 4,
-    }
+fn is_page_program(w: Work) -> bool {
+    matches!(w, Work::ProgramPage(_))
 }
 
-// All FF but for one byte.
-fn touched_buffer(seed: u64) -> [u8; 256] {
-    let mut buffer = [255u8; 256];
-    let i = (seed_of(seed, 17) % 256) as usize;
-    buffer[i] = (seed_of(seed, 18) % 255) as u8;
-    buffer
-}
-
-// All FF, or not.
+// All FF, or all but for one byte.
 fn buffer_of(touched: bool, seed: u64) -> [u8; 256] {
+    let mut buffer = [255; 256];
     if touched {
-        return touched_buffer(seed);
+        buffer[(seed_of(seed, 17) % 256) as usize] = (seed_of(seed, 18) % 255) as u8;
     }
-    [255u8; 256]
+    buffer
 }
 
 // Each kind of running work beside each kind of suspended work; no write locks, SEC 0.
 pub fn at_work(k: u64, seed: u64) -> Chip {
-    let kind = k % 9;
-    let aside = suspended_kind(k / 9);
-    let running = numbering::work_of(kind, number_in_range(kind, seed));
-    let suspended = numbering::work_of(aside, number_in_range(aside, seed));
+    let running = drawn_work(RUNNING[(k % 9) as usize], seed, APART);
+    let suspended = drawn_work(SUSPENDED[(k / 9 % 4) as usize], seed, APART);
     let locks = Locks {
         protection: READ_LOCKS & seed_of(seed, 12),
         permanent: 0,
     };
     let works = Works { running, suspended };
     let flags = (seed_of(seed, 13) % 256) as u8 & 0xdf;
-    let buffer = buffer_of((kind == 4) | (aside == 4), seed);
+    let buffer = buffer_of(is_page_program(running) || is_page_program(suspended), seed);
     assembled(locks, works, flags, draw(seed, 5, 4), buffer)
 }
 
 // What W-203 says of it: 0 with nothing running or suspended. Beside suspended work only an erase runs with a program, or a program with an erase.
-pub fn at_work_number(k: u64) -> u8 {
-    let kind = k % 9;
-    let aside = suspended_kind(k / 9);
-    if (kind == 0) & (aside == 0) {
-        return 0;
+pub fn at_work_number(works: Works) -> u8 {
+    match (works.running, works.suspended) {
+        (Work::Nothing, Work::Nothing) => 0,
+        (Work::Nothing, _) | (_, Work::Nothing) => 14,
+        (Work::EraseSector(_) | Work::EraseBlock(_), Work::ProgramPage(_)) => 14,
+        (_, Work::ProgramPage(_)) => 1,
+        (Work::ProgramPage(_) | Work::ProgramSecurity(_), _) => 14,
+        _ => 1,
     }
-    if (kind == 0) | (aside == 0) {
-        return 14;
-    }
-    if (aside == 4) & ((kind == 1) | (kind == 2)) {
-        return 14;
-    }
-    if (aside != 4) & ((kind == 4) | (kind == 5)) {
-        return 14;
-    }
-    1
 }
 
 // ---- broken records
@@ -166,10 +208,7 @@ pub fn at_work_number(k: u64) -> u8 {
 // The n-th of the forty write locks, and of the eight read locks.
 fn write_lock(n: u64) -> u64 {
     let k = n % 40;
-    if k < 32 {
-        return 1 << k;
-    }
-    1 << (k * 2 - 32)
+    if k < 32 { 1 << k } else { 1 << (k * 2 - 32) }
 }
 
 fn read_lock(n: u64) -> u64 {
@@ -183,11 +222,11 @@ fn broken_locks(k: u64, seed: u64) -> Locks {
         // a register of more than 48 bits
         0 => Locks {
             protection: l.protection | REGISTER << (n % 16),
-            permanent: l.permanent,
+            ..l
         },
         1 => Locks {
-            protection: l.protection,
             permanent: l.permanent | REGISTER << (n % 16),
+            ..l
         },
         // a permanent read lock
         2 => Locks {
@@ -207,35 +246,17 @@ fn broken_locks(k: u64, seed: u64) -> Locks {
 pub fn broken(k: u64, seed: u64) -> Chip {
     let buffer = buffer_of(k % 5 == 4, seed);
     let flags = (seed_of(seed, 13) % 256) as u8;
-    assembled(
-        broken_locks(k, seed),
-        no_works(),
-        flags,
-        draw(seed, 5, 4),
-        buffer,
-    )
+    let burst = draw(seed, 5, 4);
+    assembled(broken_locks(k, seed), NO_WORKS, flags, burst, buffer)
 }
 
 // ---- any record
 
-// Up to a little beyond its range.
-fn any_number(kind: u64, seed: u64) -> u64 {
-    match kind {
-        1 => draw(seed, 6, 520),
-        2 => draw(seed, 7, 42),
-        4 => draw(seed, 8, 8300),
-        5 => draw(seed, 9, 9),
-        7 => draw(seed, 10, 4),
-        8 => seed_of(seed, 11),
-        _ => 0,
-    }
-}
-
-fn any_kind(seed: u64, question: u64) -> u64 {
+fn any_kind(seed: u64, question: u64) -> Kind {
     if once_in(seed, question, 2) {
-        return 0;
+        return Kind::Nothing;
     }
-    seed_of(seed, question) / 2 % 9
+    RUNNING[(seed_of(seed, question) / 2 % 9) as usize]
 }
 
 fn any_locks(seed: u64) -> Locks {
@@ -249,19 +270,13 @@ fn any_locks(seed: u64) -> Locks {
 }
 
 pub fn any(seed: u64) -> Chip {
-    let kind = any_kind(seed, 24);
-    let aside = any_kind(seed, 25);
-    let running = numbering::work_of(kind, any_number(kind, seed));
-    let suspended = numbering::work_of(aside, any_number(aside, seed_of(seed, 26)));
-    let works = Works { running, suspended };
+    let works = Works {
+        running: drawn_work(any_kind(seed, 24), seed, BEYOND),
+        suspended: drawn_work(any_kind(seed, 25), seed_of(seed, 26), BEYOND),
+    };
     let flags = (seed_of(seed, 13) % 256) as u8;
-    assembled(
-        any_locks(seed),
-        works,
-        flags,
-        draw(seed, 5, 4),
-        buffer_of(once_in(seed, 23, 3), seed),
-    )
+    let buffer = buffer_of(once_in(seed, 23, 3), seed);
+    assembled(any_locks(seed), works, flags, draw(seed, 5, 4), buffer)
 }
 
 // ---- memories
@@ -273,44 +288,37 @@ fn next(x: u64) -> u64 {
 }
 
 // Random bytes.
-fn drawn_bytes(s: &mut [u8], seed: u64) {
+fn fill_drawn(s: &mut [u8], seed: u64) {
     let mut x = seed | 1;
-    let mut i: usize = 0;
-    while i < s.len() {
+    for b in s.iter_mut() {
         x = next(x);
-        put(s, i, (x / 0x1_0000_0000 % 256) as u8);
-        i += 1;
+        *b = (x / 0x1_0000_0000 % 256) as u8;
     }
 }
 
-// A byte by its place, its page and a number.
-fn pattern(i: usize, by: u8) -> u8 {
-    ((i ^ i / 256) % 256) as u8 ^ by
-}
-
-fn patterned_bytes(s: &mut [u8], by: u8) {
-    let mut i: usize = 0;
-    while i < s.len() {
-        put(s, i, pattern(i, by));
-        i += 1;
+// Each byte by its place.
+fn fill_by<F: Fn(usize) -> u8>(s: &mut [u8], byte: F)
+    requires { F.IsAlwaysCallable byte }
+{
+    for (i, b) in s.iter_mut().enumerate() {
+        *b = byte(i);
     }
 }
 
-// The bytes of a memory with this seed: one byte everywhere, a pattern, or drawn ones.
+// The bytes of a memory with this seed: one byte everywhere, a pattern by the place, its page and a number, or drawn ones.
 pub fn fill(s: &mut [u8], seed: u64) {
     match seed % 8 {
-        0 => set(s, 255),
-        1 => set(s, 0),
-        2 | 3 | 4 => patterned_bytes(s, (seed / 8 % 256) as u8),
-        _ => drawn_bytes(s, seed),
+        0 => s.fill(255),
+        1 => s.fill(0),
+        2 | 3 | 4 => {
+            let by = (seed / 8 % 256) as u8;
+            fill_by(s, |i| ((i ^ i / 256) % 256) as u8 ^ by);
+        }
+        _ => fill_drawn(s, seed),
     }
 }
 
 // Each byte is its place's: 0 to 255, again and again.
 pub fn fill_counting(s: &mut [u8]) {
-    let mut i: usize = 0;
-    while i < s.len() {
-        put(s, i, (i % 256) as u8);
-        i += 1;
-    }
+    fill_by(s, |i| (i % 256) as u8);
 }

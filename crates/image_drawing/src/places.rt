@@ -10,35 +10,28 @@ pub type File = [u8; 2148375];
 pub const BEFORE: u8 = 0x5a;
 
 pub fn plus(a: usize, b: usize) -> usize {
-    std::num::wrapping_add_usize(a, b)
+    a.wrapping_add(b)
 }
 
 // A byte at a place; past the end nothing happens.
 pub fn put(s: &mut [u8], i: usize, b: u8) {
-    if i < s.len() {
-        s[i] = b;
+    if let Some(place) = s.get_mut(i) {
+        *place = b;
     }
 }
 
 pub fn set(s: &mut [u8], v: u8) {
-    let n = s.len();
-    memory::set_all(s, 0, n, v);
+    s.fill(v);
 }
 
 // Every byte is this one. No early end: the machine then compares many bytes at once.
 pub fn all_are(s: &[u8], v: u8) -> bool {
-    let mut odd: u8 = 0;
-    let mut i: usize = 0;
-    while i < s.len() {
-        odd = odd | s[i] ^ v;
-        i += 1;
-    }
-    odd == 0
+    s.iter().fold(0, |odd, b| odd | (*b ^ v)) == 0
 }
 
 // The first byte is another one.
 pub fn turn(s: &mut [u8]) {
-    if 0 < s.len() {
-        s[0] = s[0] ^ 1;
+    if let Some(first) = s.first_mut() {
+        *first ^= 1;
     }
 }

@@ -1,190 +1,113 @@
 // What is counted, and what is written.
-use drawing::at;
+use crate::comparisons::{COMPARISONS, Comparison, is_odd};
 
-// Places of what is counted: writings, readings, cases with a difference, the paper's values; numbers of writing and of reading; the sorts of chips, each of both
-// parts; bursts, running and suspended work, flags of the chips.
-pub type Counts = [u64; 512];
+// Writings, readings, cases with a difference, the paper's values; numbers of writing and of reading; the sorts of chips, each of both parts; bursts, running and
+// suspended work, flags of the chips.
+#[derive(Drop)]
+pub struct Counts {
+    pub writes: u64,
+    pub reads: u64,
+    differences: u64,
+    worked: u64,
+    pub write_numbers: [u64; 16],
+    pub read_numbers: [u64; 16],
+    pub sorts: [u64; 12],
+    pub bursts: [u64; 4],
+    pub running: [u64; 9],
+    pub suspended: [u64; 9],
+    pub flags: [u64; 256],
+}
 
-pub const WRITES: usize = 0;
-
-pub const READS: usize = 1;
-
-pub const DIFFERENCES: usize = 2;
-
-pub const WORKED: usize = 3;
-
-pub const WRITE_NUMBERS: usize = 16;
-
-pub const READ_NUMBERS: usize = 32;
-
-pub const SORTS: usize = 64;
-
-pub const BURSTS: usize = 192;
-
-pub const RUNNING: usize = 200;
-
-pub const SUSPENDED: usize = 216;
-
-pub const FLAGS: usize = 256;
-
-pub fn bump(counts: &mut Counts, i: usize) {
-    if i < 512 {
-        let n = counts[i];
-        counts[i] = std::num::wrapping_add_u64(n, 1);
+pub fn no_counts() -> Counts {
+    Counts {
+        writes: 0,
+        reads: 0,
+        differences: 0,
+        worked: 0,
+        write_numbers: [0; 16],
+        read_numbers: [0; 16],
+        sorts: [0; 12],
+        bursts: [0; 4],
+        running: [0; 9],
+        suspended: [0; 9],
+        flags: [0; 256],
     }
 }
 
-pub fn count(counts: &Counts, i: usize) -> u64 {
-    if i < 512 {
-        return counts[i];
+// One more of this kind.
+pub fn bump(kinds: &mut [u64], kind: usize) {
+    if let Some(n) = kinds.get_mut(kind) {
+        *n = n.wrapping_add(1);
     }
-    0
+}
+
+// How many kinds came up.
+fn came_up(kinds: &[u64]) -> usize {
+    kinds.iter().filter(|n| **n != 0).count()
 }
 
 // What cannot be written is lost.
-pub fn say(rt: &impl Print, text: &[u8]) {
-    let _ = rt.write_all(text);
+#[derive(Drop)]
+pub struct Report<'a, P: Print> {
+    pub rt: &'a P,
+    pub counts: Counts,
 }
 
-pub fn say_number(rt: &impl Print, text: &[u8], n: u64) {
-    say(rt, text);
-    let _ = rt.print(n);
-}
-
-// ---- comparisons
-
-// Each comparison has a bit, and a planted difference of its number.
-fn comparison_said(rt: &impl Print, n: u64) {
-    match n {
-        1 => say(rt, b" writing's number"),
-        2 => say(rt, b" file"),
-        3 => say(rt, b" buffer left"),
-        4 => say(rt, b" reading's number"),
-        5 => say(rt, b" record"),
-        6 => say(rt, b" array"),
-        7 => say(rt, b" Security ID"),
-        8 => say(rt, b" array left"),
-        9 => say(rt, b" Security ID left"),
-        10 => say(rt, b" record left"),
-        11 => say(rt, b" number that is due"),
-        12 => say(rt, b" array given back"),
-        13 => say(rt, b" Security ID given back"),
-        14 => say(rt, b" record given back"),
-        15 => say(rt, b" written again"),
-        16 => say(rt, b" written again by the second"),
-        17 => say(rt, b" part"),
-        _ => {}
-    }
-}
-
-// The bit of a comparison that does not hold.
-pub fn bit(holds: bool, n: u64) -> u64 {
-    if holds {
-        return 0;
-    }
-    1 << (n % 64)
-}
-
-fn odd_said(rt: &impl Print, odd: u64) {
-    let mut n: u64 = 1;
-    while n < 18 {
-        if odd >> n & 1 != 0 {
-            comparison_said(rt, n);
+impl<P: Print> Report<'_, P> {
+    fn say_odd(&self, odd: u64) {
+        for c in COMPARISONS {
+            if is_odd(odd, c) {
+                let _ = print!(self.rt; " {c}");
+            }
         }
-        n += 1;
+        let _ = println!(self.rt);
     }
-}
 
-// A case with a difference is told, and counted.
-pub fn told(rt: &impl Print, counts: &mut Counts, name: &[u8], k: u64, odd: u64) {
-    if odd != 0 {
-        bump(counts, DIFFERENCES);
-        say(rt, name);
-        say_number(rt, b" ", k);
-        say(rt, b", not the same:");
-        odd_said(rt, odd);
-        say(rt, b"\n");
-    }
-}
-
-// With a planted difference.
-pub fn planted_said(rt: &impl Print, plant: u64, odd: u64) {
-    say(rt, b"planted,");
-    comparison_said(rt, plant);
-    say(rt, b": not the same:");
-    odd_said(rt, odd);
-    say(rt, b"\n");
-}
-
-// ---- rows
-
-// How many of n kinds came up.
-fn kinds(counts: &Counts, from: usize, n: usize) -> u64 {
-    let mut found: u64 = 0;
-    let mut i: usize = 0;
-    while i < n {
-        if count(counts, std::num::wrapping_add_usize(from, i)) != 0 {
-            found = std::num::wrapping_add_u64(found, 1);
+    // A case with a difference is told, and counted.
+    pub fn tell(&mut self, name: &str, k: u64, odd: u64) {
+        if odd != 0 {
+            self.counts.differences = self.counts.differences.wrapping_add(1);
+            let _ = print!(self.rt; "{name} {k}, not the same:");
+            self.say_odd(odd);
         }
-        i += 1;
     }
-    found
-}
 
-fn number_said(rt: &impl Print, counts: &Counts, from: usize, number: u8) {
-    let n = count(counts, std::num::wrapping_add_usize(from, number as usize));
-    if n != 0 {
-        say_number(rt, b", ", n);
-        say_number(rt, b" times ", number as u64);
+    // With a planted difference.
+    pub fn tell_planted(&self, plant: Comparison, odd: u64) {
+        let _ = print!(self.rt; "planted, {plant}: not the same:");
+        self.say_odd(odd);
     }
-}
 
-fn numbers_said(rt: &impl Print, counts: &Counts, from: usize) {
-    let mut i: u8 = 0;
-    while i < 16 {
-        number_said(rt, counts, from, i);
-        i += 1;
+    fn say_numbers(&self, numbers: &[u64]) {
+        for (number, n) in numbers.iter().enumerate() {
+            if *n != 0 {
+                let _ = print!(self.rt; ", {n} times {number}");
+            }
+        }
+        let _ = println!(self.rt);
     }
-    say(rt, b"\n");
-}
 
-pub fn counts_said(rt: &impl Print, counts: &Counts) {
-    say_number(rt, b"the paper's values: ", count(counts, WORKED));
-    say_number(rt, b"\nwritten by both: ", count(counts, WRITES));
-    numbers_said(rt, counts, WRITE_NUMBERS);
-    say_number(rt, b"read by both: ", count(counts, READS));
-    numbers_said(rt, counts, READ_NUMBERS);
-    say_number(
-        rt,
-        b"of the chips written: sorts by part ",
-        kinds(counts, SORTS, 12),
-    );
-    say_number(rt, b" kinds, flags ", kinds(counts, FLAGS, 256));
-    say_number(rt, b" kinds, bursts ", kinds(counts, BURSTS, 4));
-    say_number(rt, b" kinds, running work ", kinds(counts, RUNNING, 9));
-    say_number(rt, b" kinds, suspended work ", kinds(counts, SUSPENDED, 9));
-    say_number(rt, b" kinds\n", count(counts, DIFFERENCES));
-    say(rt, b" differences\n");
-}
-
-// ---- the paper's values
-
-fn shown(file: &[u8], place: usize, text: &[u8]) -> bool {
-    let mut odd: u8 = 0;
-    let mut i: usize = 0;
-    while i < text.len() {
-        odd = odd | at(file, std::num::wrapping_add_usize(place, i)) ^ at(text, i);
-        i += 1;
+    pub fn say_counts(&self) {
+        let counts = &self.counts;
+        let _ = println!(self.rt; "the paper's values: {}", counts.worked);
+        let _ = print!(self.rt; "written by both: {}", counts.writes);
+        self.say_numbers(&counts.write_numbers);
+        let _ = print!(self.rt; "read by both: {}", counts.reads);
+        self.say_numbers(&counts.read_numbers);
+        let _ = print!(self.rt; "of the chips written: sorts by part {} kinds", came_up(&counts.sorts));
+        let _ = print!(self.rt; ", flags {} kinds", came_up(&counts.flags));
+        let _ = print!(self.rt; ", bursts {} kinds", came_up(&counts.bursts));
+        let _ = print!(self.rt; ", running work {} kinds", came_up(&counts.running));
+        let _ = println!(self.rt; ", suspended work {} kinds", came_up(&counts.suspended));
+        let _ = println!(self.rt; "{} differences", counts.differences);
     }
-    odd == 0
-}
 
-// The file has these bytes at this place.
-pub fn shows(rt: &impl Print, counts: &mut Counts, file: &[u8], place: usize, text: &[u8]) {
-    bump(counts, WORKED);
-    if !shown(file, place, text) {
-        bump(counts, DIFFERENCES);
-        say_number(rt, b"not the paper's: the bytes at ", place as u64);
-        say(rt, b"\n");
+    // The file has these bytes at this place: a value of the paper.
+    pub fn show(&mut self, file: &[u8], place: usize, text: &[u8]) {
+        self.counts.worked = self.counts.worked.wrapping_add(1);
+        if !file.get(place..).unwrap_or(&[]).starts_with(text) {
+            self.counts.differences = self.counts.differences.wrapping_add(1);
+            let _ = println!(self.rt; "not the paper's: the bytes at {place}");
+        }
     }
 }

@@ -1,112 +1,97 @@
 // What came up in the random lines: a kind that came up less than a hundred times is named, and so the output differs from the expected one.
+use comparing::Odd;
+use comparing::bytes::front;
 use drawing::at;
-use drawing::source::Counts;
 use script::Line;
 use second::Flat;
 use standing::Playing;
-use std::rt::Env;
+use std::env::Env;
 
-// Places of what is counted: frames by opcode; done ones, of the old part and of BA; events by number, by what runs, by what is suspended; burst reads by
-// their length; runs by how they begin and by the part; the checklist's lines; resets and power cuts by what they stop.
-const SENT: usize = 4096;
-
-const DONE: usize = 4352;
-
-const DONE_BA: usize = 4608;
-
-const NUMBERS: usize = 4864;
-
-const NUMBERS_BA: usize = 4880;
-
-const RUNNING: usize = 4896;
-
-const SUSPENDED: usize = 4906;
-
-const BESIDE: usize = 4916;
-
-const BURSTS: usize = 4930;
-
-const RUNS: usize = 4946;
-
-const LINES: usize = 4960;
-
-const RESETS: usize = 5050;
-
-const CUTS: usize = 5060;
-
-fn plus(base: usize, n: usize) -> usize {
-    std::num::wrapping_add_usize(base, n)
+// What is counted, where it is of each part first the old one, then BA: frames by opcode; done ones; events by number, by what runs, by what is suspended, by what
+// runs beside that; burst reads by their length; runs by how they begin; the checklist's lines; resets and power cuts by what they stop.
+#[derive(Drop)]
+pub struct Tally {
+    sent: [u64; 256],
+    done: [[u64; 256]; 2],
+    numbers: [[u64; 14]; 2],
+    running: [u64; 9],
+    suspended: [u64; 9],
+    beside: [u64; 9],
+    bursts: [u64; 4],
+    runs: [[u64; 2]; 4],
+    lines: [u64; 82],
+    resets: [u64; 9],
+    cuts: [u64; 9],
 }
 
-fn bump(tally: &mut Counts, i: usize) {
-    if i < 5120 {
-        let n = tally[i];
-        tally[i] = std::num::wrapping_add_u64(n, 1);
+pub fn no_counts() -> Tally {
+    Tally {
+        sent: [0; 256],
+        done: [[0; 256]; 2],
+        numbers: [[0; 14]; 2],
+        running: [0; 9],
+        suspended: [0; 9],
+        beside: [0; 9],
+        bursts: [0; 4],
+        runs: [[0; 2]; 4],
+        lines: [0; 82],
+        resets: [0; 9],
+        cuts: [0; 9],
     }
 }
 
-fn count(tally: &Counts, i: usize) -> u64 {
-    if i < 5120 {
-        return tally[i];
+// One more of this kind.
+fn bump(kinds: &mut [u64], kind: usize) {
+    if let Some(n) = kinds.get_mut(kind) {
+        *n = n.wrapping_add(1);
     }
-    0
 }
 
-// The place of the part.
-fn by_part(ba: bool, old_part: usize, ba_part: usize) -> usize {
-    if ba {
-        return ba_part;
+impl Tally {
+    // A random run, by its series and the part of the chip that it begins with.
+    pub fn count_run(&mut self, series: usize, ba: bool) {
+        if let Some(parts) = self.runs.get_mut(series) {
+            bump(parts, usize::from(ba));
+        }
     }
-    old_part
-}
 
-// A random run, by its series and the part of the chip that it begins with.
-pub fn run_counted(tally: &mut Counts, series: u64, ba: bool) {
-    let n = (series % 4 * 2) as usize;
-    bump(tally, plus(by_part(ba, RUNS, RUNS + 1), n));
-}
-
-// An event of a random run, with the record before it.
-pub fn event_counted(tally: &mut Counts, before: Flat, l: Line, frame: &[u8], number: u8) {
-    bump(
-        tally,
-        plus(by_part(before.ba, NUMBERS, NUMBERS_BA), number as usize),
-    );
-    bump(tally, plus(RUNNING, before.run_kind as usize));
-    bump(tally, plus(SUSPENDED, before.sus_kind as usize));
-    if before.sus_kind != 0 {
-        bump(tally, plus(BESIDE, before.run_kind as usize));
-    }
-    if (l.verb == 3) & (number == 0) {
-        bump(tally, plus(CUTS, before.run_kind as usize));
-    }
-    if l.sent != 0 {
-        let opcode = at(frame, 0) as usize;
-        bump(tally, plus(SENT, opcode));
-        if number == 0 {
-            if opcode == 0x99 {
-                bump(tally, plus(RESETS, before.run_kind as usize));
-            }
-            bump(tally, plus(by_part(before.ba, DONE, DONE_BA), opcode));
-            if (opcode == 0x0c) | (opcode == 0xec) {
-                bump(tally, plus(BURSTS, before.burst as usize));
+    // An event of a random run, with the record before it.
+    pub fn count_event(&mut self, before: Flat, l: Line, frame: &[u8], number: u8) {
+        let part = usize::from(before.ba);
+        let run_kind = before.run_kind as usize;
+        bump(&mut self.numbers[part], number as usize);
+        bump(&mut self.running, run_kind);
+        bump(&mut self.suspended, before.sus_kind as usize);
+        if before.sus_kind != 0 {
+            bump(&mut self.beside, run_kind);
+        }
+        if l.verb == 3 && number == 0 {
+            bump(&mut self.cuts, run_kind);
+        }
+        if l.sent != 0 {
+            let opcode = at(frame, 0);
+            bump(&mut self.sent, opcode as usize);
+            if number == 0 {
+                bump(&mut self.done[part], opcode as usize);
+                match opcode {
+                    0x99 => bump(&mut self.resets, run_kind),
+                    0x0c | 0xec => bump(&mut self.bursts, before.burst as usize),
+                    _ => {}
+                }
             }
         }
     }
-}
 
-// The checklist's line that a case names, in front of its remark.
-pub fn case_counted(tally: &mut Counts, l: Line, remark: &[u8]) {
-    let mut number: usize = 0;
-    let mut i: usize = 1;
-    while i < l.remark {
-        let b = at(remark, i);
-        if (b < 48) | (57 < b) {
-            bump(tally, plus(LINES, number));
-            return;
+    // The checklist's line that a case names, in front of its remark.
+    pub fn count_case(&mut self, l: Line, remark: &[u8]) {
+        let mut number: usize = 0;
+        for b in front(l.remark, remark).iter().skip(1) {
+            if !b.is_ascii_digit() {
+                bump(&mut self.lines, number);
+                return;
+            }
+            number = number % 1000 * 10 + (*b % 16) as usize;
         }
-        number = plus(number % 1000 * 10, (b % 16) as usize);
-        i += 1;
     }
 }
 
@@ -117,168 +102,113 @@ pub fn say(rt: &impl Print, text: &[u8]) {
     let _ = rt.write_all(text);
 }
 
-pub fn say_number(rt: &impl Print, text: &[u8], n: u64) {
-    say(rt, text);
-    let _ = rt.print(n);
-}
-
-fn seldom_said(rt: &impl Print, name: &[u8], kind: u8, n: u64) {
-    say(rt, name);
-    say_number(rt, b", too seldom: ", kind as u64);
-    say_number(rt, b" came ", n);
-    say(rt, b" times\n");
-}
-
 // How many of the kinds came up too seldom; these are named.
-fn seldom(rt: &impl Print, tally: &Counts, base: usize, kinds: &[u8], name: &[u8]) -> u64 {
+fn say_kinds(rt: &impl Print, tally: &[u64], kinds: &[u8], name: &str) {
     let mut seldom: u64 = 0;
-    let mut i: usize = 0;
-    while i < kinds.len() {
-        let n = count(tally, plus(base, at(kinds, i) as usize));
+    for kind in kinds {
+        let n = tally.get(*kind as usize).copied().unwrap_or(0);
         if n < 100 {
-            seldom_said(rt, name, at(kinds, i), n);
-            seldom = std::num::wrapping_add_u64(seldom, 1);
+            let _ = println!(rt; "{name}, too seldom: {kind} came {n} times");
+            seldom = seldom.wrapping_add(1);
         }
-        i += 1;
     }
-    seldom
-}
-
-fn kinds_said(rt: &impl Print, tally: &Counts, base: usize, kinds: &[u8], name: &[u8]) {
-    let n = seldom(rt, tally, base, kinds, name);
-    say(rt, name);
-    say_number(rt, b": ", kinds.len() as u64);
-    say_number(rt, b" kinds, too seldom ", n);
-    say(rt, b"\n");
-}
-
-fn untried_said(rt: &impl Print, i: usize) {
-    say_number(rt, b"the checklist's line without a case: ", i as u64);
-    say(rt, b"\n");
+    let _ = println!(rt; "{name}: {} kinds, too seldom {seldom}", kinds.len());
 }
 
 // How many lines of the checklist have no case; these are named.
-fn untried(rt: &impl Print, tally: &Counts) -> u64 {
-    let mut n: u64 = 0;
-    let mut i: usize = 1;
-    while i < 82 {
-        if count(tally, plus(LINES, i)) == 0 {
-            untried_said(rt, i);
-            n = std::num::wrapping_add_u64(n, 1);
+fn say_untried(rt: &impl Print, lines: &[u64]) {
+    let mut untried: u64 = 0;
+    for (i, n) in lines.iter().enumerate().skip(1) {
+        if *n == 0 {
+            let _ = println!(rt; "the checklist's line without a case: {i}");
+            untried = untried.wrapping_add(1);
         }
-        i += 1;
     }
-    n
+    let _ = println!(rt; "checklist: lines 1 to 81, not tried: {untried}");
 }
 
 // How many runs of a series began with each part.
-fn runs_said(rt: &impl Print, tally: &Counts, series: usize, name: &[u8]) {
-    let n = plus(RUNS, plus(series, series));
-    say(rt, name);
-    say_number(rt, b": old part ", count(tally, n));
-    say_number(rt, b", BA ", count(tally, plus(n, 1)));
-    say(rt, b"\n");
+fn say_runs(rt: &impl Print, runs: &[u64; 2], name: &str) {
+    let [old_part, ba] = runs;
+    let _ = println!(rt; "{name}: old part {old_part}, BA {ba}");
 }
 
-pub fn counts_said(rt: &impl Print, tally: &Counts) {
-    let listed =
+pub fn say_counts(rt: &impl Print, tally: &Tally) {
+    let opcodes =
         b"\x00\x66\x99\x38\xff\x05\x35\x72\x9f\xaf\x03\x0b\x6b\x88\x06\x04\x20\xd8\xc7\x02\x32\xa5\x85\x01\x42\xe8\x8d\x98\xb0\x30\xc0\x0c\xec";
-    let n = untried(rt, tally);
-    say_number(rt, b"checklist: lines 1 to 81, not tried: ", n);
-    say(rt, b"\n");
-    kinds_said(rt, tally, SENT, listed, b"opcodes sent");
-    kinds_said(rt, tally, DONE, listed, b"opcodes done, old part");
-    kinds_said(rt, tally, DONE_BA, listed, b"opcodes done, BA");
-    let numbers = b"\x00\x01\x02\x03\x04\x05\x06\x07\x08\x09\x0a\x0b\x0c\x0d";
-    kinds_said(rt, tally, NUMBERS, numbers, b"numbers, old part");
-    kinds_said(rt, tally, NUMBERS_BA, numbers, b"numbers, BA");
-    kinds_said(
-        rt,
-        tally,
-        RUNNING,
-        b"\x00\x01\x02\x03\x04\x05\x06\x07\x08",
-        b"running work",
-    );
-    kinds_said(rt, tally, SUSPENDED, b"\x00\x01\x02\x04", b"suspended work");
-    kinds_said(
-        rt,
-        tally,
-        BESIDE,
-        b"\x00\x01\x02\x04\x05",
-        b"work beside a suspension",
-    );
-    kinds_said(rt, tally, BURSTS, b"\x00\x01\x02\x03", b"burst reads");
-    let kinds = b"\x01\x02\x03\x04\x05\x06\x07\x08";
-    kinds_said(rt, tally, RESETS, kinds, b"work stopped by a reset");
-    kinds_said(rt, tally, CUTS, kinds, b"work stopped by a power cut");
-    runs_said(rt, tally, 0, b"runs from new chips");
-    runs_said(rt, tally, 1, b"runs from records");
-    runs_said(rt, tally, 2, b"runs from broken records");
-    kinds_said(
-        rt,
-        tally,
-        RUNS,
-        b"\x00\x01\x02\x03\x04\x05",
-        b"runs by part",
-    );
+    let numbers = &[0, 1, 2, 3, 4, 5, 6, 7, 8, 9, 10, 11, 12, 13];
+    let stopped = &[1, 2, 3, 4, 5, 6, 7, 8];
+    say_untried(rt, &tally.lines);
+    say_kinds(rt, &tally.sent, opcodes, "opcodes sent");
+    say_kinds(rt, &tally.done[0], opcodes, "opcodes done, old part");
+    say_kinds(rt, &tally.done[1], opcodes, "opcodes done, BA");
+    say_kinds(rt, &tally.numbers[0], numbers, "numbers, old part");
+    say_kinds(rt, &tally.numbers[1], numbers, "numbers, BA");
+    say_kinds(rt, &tally.running, &[0, 1, 2, 3, 4, 5, 6, 7, 8], "running work");
+    say_kinds(rt, &tally.suspended, &[0, 1, 2, 4], "suspended work");
+    say_kinds(rt, &tally.beside, &[0, 1, 2, 4, 5], "work beside a suspension");
+    say_kinds(rt, &tally.bursts, &[0, 1, 2, 3], "burst reads");
+    say_kinds(rt, &tally.resets, stopped, "work stopped by a reset");
+    say_kinds(rt, &tally.cuts, stopped, "work stopped by a power cut");
+    say_runs(rt, &tally.runs[0], "runs from new chips");
+    say_runs(rt, &tally.runs[1], "runs from records");
+    say_runs(rt, &tally.runs[2], "runs from broken records");
+    say_kinds(rt, tally.runs.as_flattened(), &[0, 1, 2, 3, 4, 5], "runs by part");
 }
 
 // ---- a line
 
 // What of a script is not as it should be: expectations that are not met, wrong lines.
 pub fn unmet(p: Playing) -> u64 {
-    let b = p.bench;
-    let t = b.tally;
-    std::num::wrapping_add_u64(t.differences, t.wrong)
+    let t = p.bench.tally;
+    t.differences.wrapping_add(t.wrong)
 }
 
 pub fn events(p: Playing) -> u64 {
-    let b = p.bench;
-    let t = b.tally;
-    t.events
-}
-
-fn named(rt: &impl Print, odd: u64, bit: u64, name: &[u8]) {
-    if odd & bit != 0 {
-        say(rt, name);
-    }
+    p.bench.tally.events
 }
 
 // In what the models differ.
-fn odd_said(rt: &impl Print, odd: u64) {
+fn say_odd(rt: &impl Print, odd: Odd) {
     say(rt, b"the models differ:");
-    named(rt, odd, 1, b" number");
-    named(rt, odd, 2, b" record");
-    named(rt, odd, 4, b" reply");
-    named(rt, odd, 8, b" marks");
-    named(rt, odd, 16, b" array");
-    named(rt, odd, 32, b" Security ID");
+    let named = [
+        (odd.number, " number"),
+        (odd.record, " record"),
+        (odd.reply, " reply"),
+        (odd.marks, " marks"),
+        (odd.array, " array"),
+        (odd.security, " Security ID"),
+    ];
+    for (differs, name) in named {
+        if differs {
+            say(rt, name.as_bytes());
+        }
+    }
     say(rt, b"\n");
 }
 
 // The argument of this number.
 pub fn say_word(rt: &(impl Env + Print), i: usize) {
-    let mut name = [0u8; 4096];
+    let mut name = [0; 4096];
     if let Ok(n) = rt.arg(i, &mut name) {
         say(rt, &name[..n]);
     }
 }
 
-fn place_said(rt: &(impl Env + Print), word: usize, line: u64) {
+fn say_place(rt: &(impl Env + Print), word: usize, line: u64) {
     say(rt, b"# ");
     say_word(rt, word);
-    say_number(rt, b":", line);
-    say(rt, b": ");
+    let _ = print!(rt; ":{line}: ");
 }
 
 // What is wrong after a line of the script that an argument names.
-pub fn line_said(rt: &(impl Env + Print), word: usize, line: u64, unmet: bool, odd: u64) {
+pub fn say_line(rt: &(impl Env + Print), word: usize, line: u64, unmet: bool, odd: Odd) {
     if unmet {
-        place_said(rt, word, line);
+        say_place(rt, word, line);
         say(rt, b"not what it expects\n");
     }
-    if odd != 0 {
-        place_said(rt, word, line);
-        odd_said(rt, odd);
+    if odd != Odd::default() {
+        say_place(rt, word, line);
+        say_odd(rt, odd);
     }
 }

@@ -1,9 +1,0 @@
--- The line stays as long; what is left of the forms falls.
-use Rattle.std.proofs.Common.{◌≡◌, ◌-◌, length}
-use Rattle.drawing.proofs.source.put_form.Given as goal
-
-abbrev pub invariant-loop-i : goal.invariant-loop-i
-invariant-loop-i l = length l.line ≡ length l.initial.line
-
-abbrev pub decreases-loop-i : goal.decreases-loop-i
-decreases-loop-i l = length l.forms - l.i

@@ -1,6 +1,0 @@
--- What is left of the comparisons falls.
-use Rattle.std.proofs.Common.{◌-◌}
-use Rattle.image_trial.proofs.planted_tried.Given as goal
-
-abbrev pub decreases-loop-plant : goal.decreases-loop-plant
-decreases-loop-plant g l = 18 - l.plant
