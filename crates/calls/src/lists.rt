@@ -47,5 +47,7 @@ pub fn list_of(slots: [u64; 24], high: &[u8], low: &[u8]) -> [u64; 2050]
 pub fn writes_ended(allowance: u64, list: &[u64; 2050]) -> usize
     ensures { result ≡ writes_ended allowance list.now }
 {
-    list.iter().take_while(|e| (1..=allowance).contains(*e)).count()
+    list.iter()
+        .take_while(|e| (1..=allowance).contains(*e))
+        .count()
 }

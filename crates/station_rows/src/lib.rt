@@ -96,17 +96,7 @@ fn cut_row(
         reply: &reply[..65536],
         marks: &marks[..65536],
     };
-    part_row(
-        part,
-        at.row,
-        k,
-        p,
-        a,
-        l,
-        &expected[..x],
-        &known[..y],
-        &read,
-    )
+    part_row(part, at.row, k, p, a, l, &expected[..x], &known[..y], &read)
 }
 
 // A row of what is told of the line that was played, where that line has a call.

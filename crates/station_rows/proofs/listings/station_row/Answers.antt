@@ -1,8 +1,4 @@
 -- As many as are shown. Assumes nothing.
-use mathlib.Core.Bool.{◌&&◌}
-use lib.Dec.{eqb, ltb}
-use borrow.Author.Tests.{ltb-true}
-use Rattle.rules.proofs.Bools.{and_split}
 use Rattle.station_rows.specs.Stations.{station_row}
 use Rattle.station_rows.proofs.listings.station_row.Goals as goal
 
