@@ -11,10 +11,10 @@ ghost use Rattle.byte_rows.specs.Bytes.{byte_row, hint_row, more_row};
 
 use rows::Row;
 use rules::Rest;
-use rules::plain::smaller;
 pub use unhelds::unheld;
 
 // Row i of a line's bytes.
+#[tactic(auto, unfolding(crate::specs::Bytes::byte_row))]
 pub fn row(
     verb: u8,
     i: usize,
@@ -42,6 +42,7 @@ pub fn row(
 }
 
 // What a wrong word may have been meant to be.
+#[tactic(auto, unfolding(crate::specs::Bytes::hint_row))]
 fn hint(place: u8, word: [u8; 24], length: usize) -> Row
     ensures { result ≡ hint_row place word length }
 {
@@ -50,10 +51,11 @@ fn hint(place: u8, word: [u8; 24], length: usize) -> Row
         return rows::empty();
     }
     let r = rows::below(178, 0, 0, 0);
-    rows::form(r, 178 + smaller(h as usize, 3), 0, 0, 0)
+    rows::form(r, 178 + (h as usize).min(3), 0, 0, 0)
 }
 
 // What is left out, the lock-down, or a hint.
+#[tactic(auto, unfolding(crate::specs::Bytes::more_row))]
 pub fn more(
     verb: u8,
     full: bool,

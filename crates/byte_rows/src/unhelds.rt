@@ -9,12 +9,13 @@ use rows::Row;
 use rules::Rest;
 
 // The first place that holds another byte, where one of n does.
+#[tactic(auto, unfolding(crate::specs::Unheld::held_row))]
 fn held_row(held: usize, start: usize, n: usize, memory: &[u8], expected: &[u8]) -> Row
     requires { 0 < length expected.now }
     ensures { result ≡ held_row held start n memory.now expected.now }
 {
     if held < n {
-        let place = std::num::wrapping_add_usize(start, held);
+        let place = start.wrapping_add(held);
         let byte = opcodes::sent_byte(memory, place);
         let other = opcodes::sent_byte(expected, held % expected.len());
         return rows::below(191, place as u64, byte, other);
@@ -22,6 +23,7 @@ fn held_row(held: usize, start: usize, n: usize, memory: &[u8], expected: &[u8])
     rows::empty()
 }
 
+#[tactic(auto, unfolding(crate::specs::Unheld::compared_row))]
 fn compared_row(held: usize, start: usize, n: usize, memory: &[u8], expected: &[u8]) -> Row
     ensures { result ≡ compared_row held start n memory.now expected.now }
 {
@@ -39,29 +41,31 @@ fn compared_row(held: usize, start: usize, n: usize, memory: &[u8], expected: &[
     held_row(held, start, n, memory, expected)
 }
 
+#[tactic(auto, unfolding(crate::specs::Unheld::status_row))]
 fn status_row(held: usize, rest: Rest, expected: &[u8]) -> Row
     ensures { result ≡ status_row held rest expected.now }
 {
-    let mut registers = [0u8; 2];
-    registers[0] = registers::status_of(rest);
-    registers[1] = registers::configuration_of(rest);
+    let registers = [
+        registers::status_of(rest),
+        registers::configuration_of(rest),
+    ];
     if 2 < expected.len() {
         return rows::below(203, 0, 0, 0);
     }
     compared_row(held, 0, expected.len(), &registers, expected)
 }
 
+#[tactic(auto, unfolding(crate::specs::Bytes::memory_of))]
 fn dump_row(held: usize, slots: [u64; 24], array: &[u8], security: &[u8], expected: &[u8]) -> Row
     ensures { result ≡ compared_row held (slot slots from) (slot slots size) (memory_of slots array.now security.now) expected.now }
 {
     let from = slots[7] as usize;
     let n = slots[8] as usize;
-    if slots[10] == 0 {
-        return compared_row(held, from, n, array, expected);
-    }
-    compared_row(held, from, n, security, expected)
+    let memory = if slots[10] == 0 { array } else { security };
+    compared_row(held, from, n, memory, expected)
 }
 
+#[tactic(auto, unfolding(crate::specs::Unheld::unheld_row))]
 pub fn unheld(
     verb: u8,
     held: usize,

@@ -1,44 +1,44 @@
 // Bytes as text behind a row. specs/Bytes.antt.
 #![tactic(auto)]
 
-ghost use Rattle.std.specs.Prelude.{◌≡◌, min, length};
+ghost use Rattle.std.specs.Prelude.{◌≡◌, min, length, take, drop};
 ghost use Rattle.writing.specs.Rows.{put, hex};
 ghost use Rattle.byte_text.specs.Bytes.{within, bytes, known, marked, printed, letters};
 
-use rules::plain::smaller;
 use writing::{Row, add, hexadecimal, text};
 
 // A byte as two digits.
 pub fn byte(r: Row, b: u8) -> Row
     ensures { result ≡ put r (hex 2 b) }
 {
-    hexadecimal(r, 2, b as u64)
+    hexadecimal(r, 2, u64::from(b))
 }
 
 pub fn count_within(n: usize, from: usize, most: usize) -> usize
     ensures { result ≡ within n from most }
 {
-    if n <= from {
-        return 0;
-    }
-    smaller(n - from, most)
+    n.saturating_sub(from).min(most)
+}
+
+// At most `most` bytes from a place on: none past the end.
+fn piece(l: &[u8], from: usize, most: usize) -> &[u8]
+    ensures { result.now ≡ take most (drop from l.now) }
+{
+    let rest = &l[from.min(l.len())..];
+    &rest[..most.min(rest.len())]
 }
 
 // At most `most` bytes from a place on; a place past the end shows nothing.
 pub fn plain_bytes(r: Row, l: &[u8], from: usize, most: usize) -> Row
     ensures { result ≡ put r (bytes l.now from (within (length l.now) from most)) }
 {
-    let n = count_within(l.len(), from, most);
-    let mut q = r;
-    let mut i: usize = 0;
-    while i < n {
-        q = add(q, 32);
-        q = byte(q, l[from + i]);
-        i += 1;
-    }
-    q
+    piece(l, from, most)
+        .iter()
+        .copied()
+        .fold(r, |q, b| byte(add(q, b' '), b))
 }
 
+#[tactic(auto, unfolding(crate::specs::Bytes::known))]
 pub fn known_byte(r: Row, b: u8, mark: u8) -> Row
     ensures { result ≡ put r (known b mark) }
 {
@@ -51,35 +51,28 @@ pub fn known_byte(r: Row, b: u8, mark: u8) -> Row
 pub fn marked_bytes(r: Row, l: &[u8], marks: &[u8], from: usize, most: usize) -> Row
     ensures { result ≡ put r (marked l.now marks.now from (within (min (length l.now) (length marks.now)) from most)) }
 {
-    let n = count_within(smaller(l.len(), marks.len()), from, most);
     let mut q = r;
-    let mut i: usize = 0;
-    while i < n {
-        q = add(q, 32);
-        q = known_byte(q, l[from + i], marks[from + i]);
-        i += 1;
+    for (b, mark) in piece(l, from, most).iter().zip(piece(marks, from, most)) {
+        q = known_byte(add(q, b' '), *b, *mark);
     }
     q
 }
 
+#[tactic(auto, unfolding(crate::specs::Bytes::printed))]
 fn letter(b: u8) -> u8
     ensures { result ≡ printed b }
 {
-    if b < 32 {
-        return 46;
+    match b {
+        0x20..0x7f => b,
+        _ => b'.',
     }
-    if b < 127 { b } else { 46 }
 }
 
 pub fn printed_bytes(r: Row, l: &[u8], from: usize, most: usize) -> Row
     ensures { result ≡ put r (letters l.now from (within (length l.now) from most)) }
 {
-    let n = count_within(l.len(), from, most);
-    let mut q = r;
-    let mut i: usize = 0;
-    while i < n {
-        q = add(q, letter(l[from + i]));
-        i += 1;
-    }
-    q
+    piece(l, from, most)
+        .iter()
+        .copied()
+        .fold(r, |q, b| add(q, letter(b)))
 }

@@ -1,7 +1,7 @@
 -- No second outcome: whatever meets the guarantee of a public function of this crate at the same input is the same result. Assumes nothing.
 use Rattle.rules.proofs.Promises.{one}
 use Rattle.rules.proofs.Outcomes.{OneResult}
-use Rattle.describing.proofs.works.told.Reads as told
+use Rattle.describing.proofs.works.span_of.Reads as span-of
 use Rattle.describing.proofs.works.work.Reads as work
 use Rattle.describing.proofs.works.work_places.Reads as work-places
 use Rattle.describing.proofs.works.work_cut.Reads as work-cut
@@ -10,8 +10,8 @@ use Rattle.describing.proofs.commands.reply_on_row.Reads as reply-on-row
 use Rattle.describing.proofs.commands.less.Reads as less
 use Rattle.describing.proofs.commands.opcode_of.Reads as opcode-of
 
-pub told_one : OneResult told.Post
-told_one κ a x y r r' p q = one p q
+pub span_of_one : OneResult span-of.Post
+span_of_one κ a x y r r' p q = one p.0 q.0
 
 pub work_one : OneResult work.Post
 work_one κ a x y r r' p q = one p q

@@ -5,8 +5,16 @@ use Rattle.rules.specs.declared.Work.TheVariants.{Nothing, EraseSector, EraseBlo
 use Rattle.rules.specs.Words.{num, pick}
 use Rattle.rules.specs.Blocks.{array_size_lem, block_at}
 use Rattle.writing.specs.declared.Row.{Row}
-use Rattle.describing.specs.declared.Told.{Told}
+use Rattle.describing.specs.declared.Span.{Span}
 use Rattle.page.specs.Page.{form}
+
+pub record Told : Type 0 where
+  pub kind : ℕ
+  pub a : ℕ
+  pub b : ℕ
+  pub start : ℕ
+  pub size : ℕ
+  pub security : ℕ
 
 -- how work is told: its form, 40 and so many; the two numbers in it; its first place and how many (none where that is 0), in the Security ID where
 -- the last is 1
@@ -24,6 +32,10 @@ told (ProgramSecurity n) = row 5 (n % 8) 0 (n % 8 * 256) 256 1
 told LockSecurity = row 6 0 0 0 0 0
 told (WriteConfiguration ioc wpen) = row 7 (num ioc) (num wpen) 0 0 0
 told (AddPermanent bits) = row 8 bits 0 0 0 0
+
+-- the places of it
+abbrev pub span_of : Told → Span
+span_of t = record { start = t.start; size = t.size; security = eqb t.security 1 }
 
 unfoldable pub work : Told → Row → Row
 work t r = form (40 + t.kind) t.a t.b 0 r

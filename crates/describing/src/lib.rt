@@ -5,15 +5,12 @@ mod commands;
 mod works;
 
 pub use commands::{answer, less, opcode_of, reply_on_row};
-pub use works::{told as work_told, work, work_cut, work_places};
+pub use works::{span_of, work, work_cut, work_places};
 
-// How work is told.
+// The places that work is about, none where the size is 0: of the Security ID, or of the array.
 #[derive(Clone, Copy)]
-pub struct Told {
-    pub kind: usize,
-    pub a: u64,
-    pub b: u64,
+pub struct Span {
     pub start: usize,
     pub size: usize,
-    pub security: usize,
+    pub security: bool,
 }

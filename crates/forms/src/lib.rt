@@ -23,24 +23,20 @@ pub struct Filling {
     pub c: u64,
 }
 
+#[tactic(auto, using(writing::proofs::Laws::nothing_more), unfolding(crate::specs::Forms::lead))]
 fn lead(r: Row, n: u64) -> Row
     ensures { result ≡ put r (lead n) }
 {
-    if n < 10 {
-        return pad(r, 4);
+    match n {
+        0..10 => pad(r, 4),
+        10..100 => pad(r, 3),
+        100..1000 => pad(r, 2),
+        1000..10000 => pad(r, 1),
+        _ => r,
     }
-    if n < 100 {
-        return pad(r, 3);
-    }
-    if n < 1000 {
-        return pad(r, 2);
-    }
-    if n < 10000 {
-        return pad(r, 1);
-    }
-    r
 }
 
+#[tactic(auto, unfolding(crate::specs::Forms::digits_at))]
 fn digits_at(kind: u8) -> usize
     ensures { result ≡ digits_at kind }
 {
@@ -53,120 +49,118 @@ fn digits_at(kind: u8) -> usize
     }
 }
 
+#[tactic(auto, using(writing::proofs::Laws::then), unfolding(crate::specs::Forms::number_text))]
 fn number_text(r: Row, kind: u8, v: u64) -> Row
     ensures { result ≡ put r (number_text kind v) }
 {
-    if kind == b'n' {
-        return number(r, v);
+    match kind {
+        b'n' => number(r, v),
+        b'f' => {
+            let r = lead(r, v);
+            number(r, v)
+        }
+        _ => hexadecimal(r, digits_at(kind), v),
     }
-    if kind == b'f' {
-        let r = lead(r, v);
-        return number(r, v);
-    }
-    hexadecimal(r, digits_at(kind), v)
 }
 
+#[tactic(auto, using(writing::proofs::Laws::nothing_more), unfolding(crate::specs::Forms::plural))]
 fn plural(r: Row, n: u64) -> Row
     ensures { result ≡ put r (plural n) }
 {
-    if n == 1 {
-        return r;
-    }
-    text(r, b"s")
+    if n == 1 { r } else { text(r, b"s") }
 }
 
 fn gap(n: usize) -> usize
     ensures { result ≡ gap n }
 {
-    if n < 29 { 31 - n } else { 2 }
+    31usize.saturating_sub(n).max(2)
 }
 
-fn with_row(f: Filling, r: Row) -> Filling
-    ensures { result ≡ with_row r f }
-{
-    Filling {
-        row: r,
-        skip: f.skip,
-        over: f.over,
-        percent: false,
-        last: f.last,
-        a: f.a,
-        b: f.b,
-        c: f.c,
+impl Filling {
+    fn with_row(self, r: Row) -> Filling
+        ensures { result ≡ with_row r self }
+    {
+        Filling {
+            row: r,
+            percent: false,
+            ..self
+        }
+    }
+
+    // The letter after a %.
+    #[tactic(auto, unfolding(crate::specs::Forms::piece))]
+    fn piece(self, kind: u8) -> Filling
+        ensures { result ≡ piece kind self }
+    {
+        let r = self.row;
+        match kind {
+            b's' => self.with_row(plural(r, self.last)),
+            b'>' => self.with_row(pad(r, gap(r.length))),
+            _ => Filling {
+                row: number_text(r, kind, self.a),
+                percent: false,
+                last: self.a,
+                a: self.b,
+                b: self.c,
+                c: 0,
+                ..self
+            },
+        }
+    }
+
+    fn opened(self) -> Filling
+        ensures { result ≡ opened self }
+    {
+        Filling {
+            percent: true,
+            ..self
+        }
+    }
+
+    #[tactic(auto, unfolding(crate::specs::Forms::ended))]
+    fn ended(self) -> Filling
+        ensures { result ≡ ended self }
+    {
+        if self.skip == 0 {
+            Filling { over: true, ..self }
+        } else {
+            Filling {
+                skip: self.skip - 1,
+                ..self
+            }
+        }
+    }
+
+    #[tactic(auto, unfolding(crate::specs::Forms::formed))]
+    fn formed(self, x: u8) -> Filling
+        ensures { result ≡ formed self x }
+    {
+        if self.percent {
+            self.piece(x)
+        } else if x == b'%' {
+            self.opened()
+        } else {
+            self.with_row(add(self.row, x))
+        }
+    }
+
+    #[tactic(auto, unfolding(crate::specs::Forms::taken))]
+    fn taken(self, x: u8) -> Filling
+        ensures { result ≡ taken self x }
+    {
+        if self.over {
+            self
+        } else if x == b'\n' {
+            self.ended()
+        } else if self.skip == 0 {
+            self.formed(x)
+        } else {
+            self
+        }
     }
 }
 
-// The letter after a %.
-fn piece(f: Filling, kind: u8) -> Filling
-    ensures { result ≡ piece kind f }
-{
-    let r = f.row;
-    if kind == b's' {
-        return with_row(f, plural(r, f.last));
-    }
-    if kind == b'>' {
-        return with_row(f, pad(r, gap(r.length)));
-    }
-    Filling {
-        row: number_text(r, kind, f.a),
-        skip: f.skip,
-        over: f.over,
-        percent: false,
-        last: f.a,
-        a: f.b,
-        b: f.c,
-        c: 0,
-    }
-}
-
-fn opened(f: Filling) -> Filling
-    ensures { result ≡ opened f }
-{
-    let mut q = f;
-    q.percent = true;
-    q
-}
-
-fn ended(f: Filling) -> Filling
-    ensures { result ≡ ended f }
-{
-    let mut q = f;
-    if f.skip == 0 {
-        q.over = true;
-        return q;
-    }
-    q.skip = f.skip - 1;
-    q
-}
-
-fn formed(f: Filling, x: u8) -> Filling
-    ensures { result ≡ formed f x }
-{
-    if f.percent {
-        return piece(f, x);
-    }
-    if x == b'%' {
-        return opened(f);
-    }
-    let r = f.row;
-    with_row(f, add(r, x))
-}
-
-fn taken(f: Filling, x: u8) -> Filling
-    ensures { result ≡ taken f x }
-{
-    if f.over {
-        return f;
-    }
-    if x == b'\n' {
-        return ended(f);
-    }
-    if f.skip == 0 {
-        return formed(f, x);
-    }
-    f
-}
-
+#[tactic(auto, using(crate::proofs::Fills::fills_over, crate::proofs::Fills::fills_next, crate::proofs::Fills::fills_none), unfolding(crate::specs::Forms::filled))]
 pub fn fill(page: &[u8], r: Row, n: usize, a: u64, b: u64, c: u64) -> Row
     ensures { result ≡ filled page.now r n a b c }
 {
@@ -180,13 +174,11 @@ pub fn fill(page: &[u8], r: Row, n: usize, a: u64, b: u64, c: u64) -> Row
         b,
         c,
     };
-    let mut i: usize = 0;
-    while i < page.len() {
+    for x in page {
         if f.over {
-            return f.row;
+            break;
         }
-        f = taken(f, page[i]);
-        i += 1;
+        f = f.taken(*x);
     }
     f.row
 }

@@ -7,6 +7,7 @@ use rules::Work;
 use standing::Event;
 
 // The row of an event without a frame, up to its answer.
+#[tactic(auto, unfolding(crate::specs::Heads::headed))]
 pub fn headed(line: u64, n: usize, a: u64) -> Row
     ensures { result ≡ headed line n a }
 {
@@ -15,6 +16,7 @@ pub fn headed(line: u64, n: usize, a: u64) -> Row
 }
 
 // The frame, and beside it, where there is room, the command and the answer.
+#[tactic(auto, unfolding(crate::specs::Heads::frame_row))]
 fn frame(line: u64, wanted: usize, number: u8, sent: &[u8], reply: &[u8], marks: &[u8]) -> Row
     ensures { result ≡ frame_row line wanted number sent.now reply.now marks.now }
 {

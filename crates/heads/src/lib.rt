@@ -35,12 +35,10 @@ pub fn first(
     let word = l.word;
     let deed = standing::deed_of(l.verb);
     match deed {
-        Deed::Nothing => rows::empty(),
         Deed::Event(e) => events::row(line, e, slots, number, ran, sent, reply, marks),
         Deed::Setting(s) => settings::row(line, s, slots),
         Deed::Question(q) => questions::row(line, q, slots, number, rest),
-        Deed::Post(_) => rows::empty(),
-        Deed::Call(_) => rows::empty(),
+        Deed::Nothing | Deed::Post(_) | Deed::Call(_) => rows::empty(),
         Deed::Wrong => rows::wrong(line, &word, l.length, l.column),
     }
 }

@@ -4,8 +4,8 @@ ghost use Rattle.heads.specs.Heads.{answer_below, suspended_row, allowed_row, se
 
 use rows::Row;
 use rules::Work;
-use rules::plain::smaller;
 
+#[tactic(auto, unfolding(crate::specs::Heads::answer_below))]
 fn answer_below(
     line: u64,
     wanted: usize,
@@ -24,6 +24,7 @@ fn answer_below(
     rows::answer(r, sent, number, reply, marks)
 }
 
+#[tactic(auto, unfolding(crate::specs::Heads::suspended_row))]
 fn suspended_row(aside: Work) -> Row
     ensures { result ≡ suspended_row aside }
 {
@@ -32,19 +33,20 @@ fn suspended_row(aside: Work) -> Row
 }
 
 // What is allowed at a place of the grammar.
+#[tactic(auto, unfolding(crate::specs::Heads::allowed_row))]
 fn allowed_row(place: u8) -> Row
     ensures { result ≡ allowed_row place }
 {
     let r = rows::below(177, 0, 0, 0);
-    if place < 54 {
-        return rows::form(r, 222 + place as usize, 0, 0, 0);
-    }
-    if place < 58 {
-        return rows::form(r, 257 + place as usize, 0, 0, 0);
-    }
-    rows::form(r, 264 + smaller(place as usize, 73), 0, 0, 0)
+    let n = match place {
+        0..54 => 222 + place as usize,
+        54..58 => 257 + place as usize,
+        _ => 264 + (place as usize).min(73),
+    };
+    rows::form(r, n, 0, 0, 0)
 }
 
+#[tactic(auto, unfolding(crate::specs::Heads::second_row))]
 pub fn second(
     line: u64,
     verb: u8,

@@ -3,7 +3,6 @@ ghost use Rattle.std.specs.Prelude.{◌≡◌};
 ghost use Rattle.heads.specs.Heads.{setting_row};
 
 use rows::Row;
-use rules::plain::smaller;
 use standing::Setting;
 
 pub fn row(line: u64, s: Setting, slots: [u64; 24]) -> Row
@@ -14,8 +13,8 @@ pub fn row(line: u64, s: Setting, slots: [u64; 24]) -> Row
     let v = slots[9];
     let id = slots[10] as usize;
     match s {
-        Setting::New => rows::numbered(line, 14 + smaller(id, 1), 0, 0, 0),
-        Setting::Fill => rows::numbered(line, 208 + smaller(id, 1), from, n, v),
+        Setting::New => rows::numbered(line, 14 + id.min(1), 0, 0, 0),
+        Setting::Fill => rows::numbered(line, 208 + id.min(1), from, n, v),
         Setting::Pattern => rows::numbered(line, 213, 0, 0, 0),
         Setting::Buffer => rows::numbered(line, 210, from, n, v),
         Setting::Lend => rows::numbered(line, 211, from, n, 0),

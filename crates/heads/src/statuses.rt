@@ -3,20 +3,21 @@ ghost use Rattle.std.specs.Prelude.{◌≡◌, ◌≤◌};
 ghost use Rattle.heads.specs.Statuses.{status_bit, configuration_row, bit_of, bit_row, protocol_name, enable_row, protocol_row, protocol_told};
 
 use rows::Row;
-use rules::plain::smaller;
 use rules::{Burst, Rest};
 
 // A bit of the status by its name, where it is set.
+#[tactic(auto, unfolding(crate::specs::Statuses::status_bit))]
 pub fn status_bit(rest: Rest, i: usize) -> Row
     ensures { result ≡ status_bit rest i }
 {
-    let k = smaller(i, 5);
+    let k = i.min(5);
     if blocks::bit_at(registers::status_of(rest) as u64, k as u32) {
         return rows::below(141 + k, 0, 0, 0);
     }
     rows::empty()
 }
 
+#[tactic(auto, unfolding(crate::specs::Statuses::configuration_row))]
 pub fn configuration(verb: u8, rest: Rest) -> Row
     ensures { result ≡ configuration_row verb rest }
 {
@@ -27,6 +28,7 @@ pub fn configuration(verb: u8, rest: Rest) -> Row
 }
 
 // Which bit of the configuration a row is of: IOC, BPNV, WPEN.
+#[tactic(auto, unfolding(crate::specs::Statuses::bit_of))]
 fn bit_of(i: usize) -> u32
     ensures value { result ≡ bit_of i }
     ensures small { result ≤ 7 }
@@ -39,35 +41,33 @@ fn bit_of(i: usize) -> u32
 }
 
 // A bit of the configuration by its name, where it is set.
+#[tactic(auto, unfolding(crate::specs::Statuses::bit_row))]
 pub fn bit(verb: u8, rest: Rest, i: usize) -> Row
     ensures { result ≡ bit_row verb rest i }
 {
     let set = blocks::bit_at(registers::configuration_of(rest) as u64, bit_of(i));
-    if (verb == 5) & set {
-        return rows::below(148 + smaller(i, 2), 0, 0, 0);
+    if verb == 5 && set {
+        return rows::below(148 + i.min(2), 0, 0, 0);
     }
     rows::empty()
 }
 
+#[tactic(auto, unfolding(crate::specs::Statuses::protocol_name))]
 fn protocol_name(sqi: bool) -> Row
     ensures { result ≡ protocol_name sqi }
 {
-    if sqi {
-        return rows::below(152, 0, 0, 0);
-    }
-    rows::below(151, 0, 0, 0)
+    rows::below(if sqi { 152 } else { 151 }, 0, 0, 0)
 }
 
+#[tactic(auto, unfolding(crate::specs::Statuses::enable_row))]
 fn enable_row(sqi: bool, enable: bool) -> Row
     ensures { result ≡ enable_row sqi enable }
 {
     let r = protocol_name(sqi);
-    if enable {
-        return rows::form(r, 153, 0, 0, 0);
-    }
-    rows::form(r, 154, 0, 0, 0)
+    rows::form(r, if enable { 153 } else { 154 }, 0, 0, 0)
 }
 
+#[tactic(auto, unfolding(crate::specs::Statuses::protocol_row))]
 fn protocol_row(sqi: bool, enable: bool, ba: bool, b: Burst) -> Row
     ensures { result ≡ protocol_row sqi enable ba b }
 {
@@ -77,6 +77,7 @@ fn protocol_row(sqi: bool, enable: bool, ba: bool, b: Burst) -> Row
     rows::part(r, ba)
 }
 
+#[tactic(auto, unfolding(crate::specs::Statuses::protocol_told))]
 pub fn protocol(verb: u8, sqi: bool, enable: bool, ba: bool, b: Burst) -> Row
     ensures { result ≡ protocol_told verb sqi enable ba b }
 {

@@ -4,7 +4,6 @@
 ghost use Rattle.std.specs.Prelude.{◌≡◌};
 ghost use Rattle.ordering.specs.Order.{nothing, begun, is_over, part_after, remark_rows, rows_of, after};
 
-use rules::plain::smaller;
 use standing::Playing;
 
 // The parts, in their order. A part has one row or more; a row of no bytes is none.
@@ -48,38 +47,20 @@ pub fn nothing() -> Place
 pub fn begun(p: Playing) -> Place
     ensures { result ≡ begun p.reading.ended }
 {
-    let reading = p.reading;
-    if reading.ended {
-        return Place {
+    if p.reading.ended {
+        Place {
             part: Part::Remark,
             row: 0,
-        };
+        }
+    } else {
+        nothing()
     }
-    nothing()
 }
 
 pub fn is_over(at: Place) -> bool
     ensures { result ≡ is_over at.part }
 {
-    let part = at.part;
-    match part {
-        Part::Remark => false,
-        Part::Head => false,
-        Part::Second => false,
-        Part::Bytes => false,
-        Part::More => false,
-        Part::Configuration => false,
-        Part::Bits => false,
-        Part::Protocol => false,
-        Part::Number => false,
-        Part::Why => false,
-        Part::Torn => false,
-        Part::Unmet => false,
-        Part::Expected => false,
-        Part::Came => false,
-        Part::Memory => false,
-        Part::Over => true,
-    }
+    matches!(at.part, Part::Over)
 }
 
 fn part_after(part: Part) -> Part
@@ -106,13 +87,11 @@ fn part_after(part: Part) -> Part
 }
 
 // How many rows of 79 bytes a remark of n bytes has.
+#[tactic(auto, unfolding(crate::specs::Order::remark_rows))]
 fn remark_rows(n: usize) -> usize
     ensures { result ≡ remark_rows n }
 {
-    if n % 79 == 0 {
-        return n / 79;
-    }
-    n / 79 + 1
+    n.div_ceil(79)
 }
 
 // How many rows a part has.
@@ -120,22 +99,12 @@ fn rows_of(part: Part, remark: usize, verb: u8, full: bool, slots: [u64; 24]) ->
     ensures { result ≡ rows_of part remark verb full slots }
 {
     match part {
-        Part::Remark => remark_rows(smaller(remark, 65537)),
-        Part::Head => 1,
-        Part::Second => 1,
+        Part::Remark => remark_rows(remark.min(65537)),
         Part::Bytes => showing::count(verb, full, slots),
-        Part::More => 1,
-        Part::Configuration => 1,
         Part::Bits => 3,
-        Part::Protocol => 1,
-        Part::Number => 1,
-        Part::Why => 1,
         Part::Torn => 2,
         Part::Unmet => 4,
-        Part::Expected => 1,
-        Part::Came => 1,
-        Part::Memory => 1,
-        Part::Over => 1,
+        _ => 1,
     }
 }
 
@@ -148,14 +117,13 @@ pub fn next(p: Playing, at: Place) -> Place
     let l = script::line_of(reading);
     let slots = l.slots;
     let part = at.part;
-    let row = std::num::wrapping_add_usize(at.row, 1);
+    let row = at.row.wrapping_add(1);
     let n = rows_of(part, l.remark, l.verb, bench.full, slots);
     if row < n {
         return Place { part, row };
     }
-    let following = part_after(part);
     Place {
-        part: following,
+        part: part_after(part),
         row: 0,
     }
 }

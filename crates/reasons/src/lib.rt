@@ -7,26 +7,28 @@ ghost use Rattle.reasons.specs.Reasons.{refused, number_row, why_row, number_unm
 use expecting::Verdict;
 use rows::Row;
 use rules::Chip;
-use rules::plain::smaller;
 
 // A frame, a completion or a power cut that was refused.
+#[tactic(auto, unfolding(crate::specs::Reasons::refused))]
 fn is_refused(verb: u8, number: u8) -> bool
     ensures { result ≡ refused verb number }
 {
-    ((verb == 1) | (verb == 2) | (verb == 3)) & (number != 0)
+    matches!(verb, 1..=3) && number != 0
 }
 
 // The number's line in document 01.
+#[tactic(auto, unfolding(crate::specs::Reasons::number_row))]
 pub fn number(verb: u8, number: u8) -> Row
     ensures { result ≡ number_row verb number }
 {
     if is_refused(verb, number) {
-        return rows::below(24 + smaller(number as usize, 13), 0, 0, 0);
+        return rows::below(24 + (number as usize).min(13), 0, 0, 0);
     }
     rows::empty()
 }
 
 // And what of it holds here, by the record before the event.
+#[tactic(auto, unfolding(crate::specs::Reasons::why_row))]
 pub fn why(
     verb: u8,
     number: u8,
@@ -50,6 +52,7 @@ pub fn why(
     rows::empty()
 }
 
+#[tactic(auto, unfolding(crate::specs::Reasons::number_unmet))]
 fn number_unmet(number: u64) -> Row
     ensures { result ≡ number_unmet number }
 {
@@ -60,25 +63,21 @@ fn number_unmet(number: u64) -> Row
 }
 
 // The number, that no refusal comes, the reply's length, that it is kept.
+#[tactic(auto, unfolding(crate::specs::Reasons::unmet_row))]
 pub fn unmet(i: usize, v: Verdict, number: u64, count: usize, wanted: u64) -> Row
     ensures { result ≡ unmet_row i v number count wanted }
 {
-    if (i == 0) & v.number {
-        return number_unmet(number);
+    match i {
+        0 if v.number => number_unmet(number),
+        1 if v.strict => rows::below(189, 0, 0, 0),
+        2 if v.length => rows::below(185, count as u64, wanted, 0),
+        3 if v.kept => rows::below(188, 0, 0, 0),
+        _ => rows::empty(),
     }
-    if (i == 1) & v.strict {
-        return rows::below(189, 0, 0, 0);
-    }
-    if (i == 2) & v.length {
-        return rows::below(185, count as u64, wanted, 0);
-    }
-    if (i == 3) & v.kept {
-        return rows::below(188, 0, 0, 0);
-    }
-    rows::empty()
 }
 
 // The bytes expected from the first one that differs on.
+#[tactic(auto, unfolding(crate::specs::Reasons::expected_from))]
 pub fn expected(place: usize, compared: usize, expected: &[u8], known: &[u8]) -> Row
     ensures { result ≡ expected_from place compared expected.now known.now }
 {
@@ -92,22 +91,21 @@ pub fn expected(place: usize, compared: usize, expected: &[u8], known: &[u8]) ->
 fn byte_at(s: &[u8], i: usize) -> u8
     ensures { result ≡ get_or s.now i 0 }
 {
-    if i < s.len() {
-        return s[i];
-    }
-    0
+    s.get(i).copied().unwrap_or(0)
 }
 
+#[tactic(auto, unfolding(crate::specs::Reasons::came_at))]
 fn came_at(place: usize, came: u8, mark: u8, byte: u8, kind: u8) -> Row
     ensures { result ≡ came_at place came mark byte kind }
 {
     let r = rows::below(183, place as u64, 0, 0);
     let r = rows::known_byte(r, came, mark);
     let r = rows::form(r, 184, 0, 0, 0);
-    rows::form(r, 199 + smaller(kind as usize, 2), byte as u64, 0, 0)
+    rows::form(r, 199 + (kind as usize).min(2), byte as u64, 0, 0)
 }
 
 // And the byte that came there.
+#[tactic(auto, unfolding(crate::specs::Reasons::came_row))]
 pub fn came(
     place: usize,
     compared: usize,

@@ -1,5 +1,5 @@
 // The rows of a script. specs/Events.antt.
-ghost use Rattle.std.specs.Prelude.{◌≡◌};
+ghost use Rattle.std.specs.Prelude.{◌≡◌, ◌≤◌};
 ghost use Rattle.page.specs.Page.{form};
 ghost use Rattle.writing.specs.Rows.{blank};
 ghost use Rattle.rows.specs.Events.{numbered, below, part_on, count_on, bytes_on, sent_row, fits, ended_on, cut_on, reply_row, expected_row, remark_row, dump_row, quoted, word_on};
@@ -8,7 +8,6 @@ use byte_text::{count_within, marked_bytes, plain_bytes, printed_bytes};
 use describing::{work, work_cut};
 use page::form;
 use rules::Work;
-use rules::plain::smaller;
 use writing::{Row, empty, pad};
 
 // A form on a row of its own.
@@ -35,35 +34,28 @@ pub fn below(n: usize, a: u64, b: u64, c: u64) -> Row
 }
 
 // The part of a chip.
+#[tactic(auto, unfolding(crate::specs::Events::part_on))]
 pub fn part(r: Row, ba: bool) -> Row
     ensures { result ≡ part_on ba r }
 {
-    if ba {
-        return form(r, 98, 0, 0, 0);
-    }
-    form(r, 97, 0, 0, 0)
+    form(r, if ba { 98 } else { 97 }, 0, 0, 0)
 }
 
 // ---- a frame
 
-fn frame_count(r: Row, n: usize) -> Row
-    ensures { result ≡ count_on 8 n r }
+// How many bytes: form k, or the one behind it where they are more than a frame and a reply can have.
+#[tactic(auto, unfolding(crate::specs::Events::count_on))]
+fn count(r: Row, k: usize, n: usize) -> Row
+    requires { k ≤ 10 }
+    ensures { result ≡ count_on k n r }
 {
     if 65536 < n {
-        return form(r, 9, 0, 0, 0);
+        return form(r, k + 1, 0, 0, 0);
     }
-    form(r, 8, n as u64, 0, 0)
+    form(r, k, n as u64, 0, 0)
 }
 
-fn reply_count(r: Row, n: usize) -> Row
-    ensures { result ≡ count_on 10 n r }
-{
-    if 65536 < n {
-        return form(r, 11, 0, 0, 0);
-    }
-    form(r, 10, n as u64, 0, 0)
-}
-
+#[tactic(auto, unfolding(crate::specs::Events::bytes_on))]
 fn frame_bytes(r: Row, sent: &[u8]) -> Row
     ensures { result ≡ bytes_on sent.now r }
 {
@@ -72,22 +64,24 @@ fn frame_bytes(r: Row, sent: &[u8]) -> Row
         return plain_bytes(r, sent, 0, 8);
     }
     let r = plain_bytes(r, sent, 0, 4);
-    frame_count(r, n)
+    count(r, 8, n)
 }
 
 // The frame that a line sends, and the reply bytes that it wants.
+#[tactic(auto, unfolding(crate::specs::Events::sent_row))]
 pub fn sent(line: u64, sent: &[u8], wanted: usize) -> Row
     ensures { result ≡ sent_row line sent.now wanted }
 {
     let r = plain(206, line, 0, 0);
     let r = frame_bytes(r, sent);
-    if (wanted == 0) & (0 < sent.len()) {
+    if wanted == 0 && !sent.is_empty() {
         return r;
     }
-    reply_count(r, wanted)
+    count(r, 10, wanted)
 }
 
 // The answer has room beside it.
+#[tactic(auto, unfolding(crate::specs::Events::fits))]
 pub fn fits(r: Row) -> bool
     ensures { result ≡ fits r }
 {
@@ -97,27 +91,29 @@ pub fn fits(r: Row) -> bool
 // ---- work that ends
 
 // A completion.
+#[tactic(auto, unfolding(crate::specs::Events::ended_on))]
 pub fn ended(r: Row, w: Work, number: u8) -> Row
     ensures { result ≡ ended_on w number r }
 {
-    if number == 0 {
-        let r = work(r, w);
-        return form(r, 16, 0, 0, 0);
+    if number != 0 {
+        return form(r, 21, u64::from(number), 0, 0);
     }
-    form(r, 21, number as u64, 0, 0)
+    let r = work(r, w);
+    form(r, 16, 0, 0, 0)
 }
 
 // A power cut after k bytes.
+#[tactic(auto, unfolding(crate::specs::Events::cut_on))]
 pub fn cut(r: Row, w: Work, k: u64, number: u8) -> Row
     ensures { result ≡ cut_on w k number r }
 {
-    if number == 0 {
-        if blocks::is_nothing(w) {
-            return form(r, 20, 0, 0, 0);
-        }
-        return work_cut(r, w, k);
+    if number != 0 {
+        form(r, 21, u64::from(number), 0, 0)
+    } else if blocks::is_nothing(w) {
+        form(r, 20, 0, 0, 0)
+    } else {
+        work_cut(r, w, k)
     }
-    form(r, 21, number as u64, 0, 0)
 }
 
 // ---- bytes
@@ -143,10 +139,11 @@ pub fn remark(text: &[u8], from: usize) -> Row
     printed_bytes(r, text, from, 79)
 }
 
+#[tactic(auto, using(crate::proofs::Dumps::dumped), unfolding(crate::specs::Events::dump_row, crate::proofs::Dumps::dumped))]
 pub fn dump(place: usize, memory: &[u8], n: usize) -> Row
     ensures { result ≡ dump_row place memory.now n }
 {
-    let m = smaller(n, 16);
+    let m = n.min(16);
     let shown = count_within(memory.len(), place, m);
     let r = plain(197, place as u64, 0, 0);
     let r = plain_bytes(r, memory, place, m);
@@ -165,17 +162,17 @@ fn quoted(r: Row, word: &[u8], n: usize) -> Row
     printed_bytes(r, word, 0, n)
 }
 
+#[tactic(auto, unfolding(crate::specs::Events::word_on))]
 fn word(r: Row, w: &[u8], n: usize, column: usize) -> Row
     ensures { result ≡ word_on w.now n column r }
 {
     if n == 0 {
         return form(r, 173, 0, 0, 0);
     }
-    let r = quoted(r, w, n);
-    if n <= 24 {
-        return form(r, 176, column as u64, 0, 0);
+    let mut r = quoted(r, w, n);
+    if 24 < n {
+        r = form(r, 175, 0, 0, 0);
     }
-    let r = form(r, 175, 0, 0, 0);
     form(r, 176, column as u64, 0, 0)
 }
 

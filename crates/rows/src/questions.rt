@@ -1,36 +1,29 @@
 // The locks by address. specs/Questions.antt.
 ghost use Rattle.std.specs.Prelude.{◌≡◌, ◌+◌, ◌-◌, ◌%◌, ◌≤◌, ◌<◌, min};
-ghost use Rattle.rules.specs.Words.{num};
 ghost use Rattle.rows.specs.Questions.{locks, lock_state, run_end, run_row};
 
 use crate::events::below;
 use describing::less;
 use page::form;
 use rules::Block;
-use rules::plain::smaller;
 use writing::Row;
 
-fn one(b: bool) -> usize
-    ensures value { result ≡ num b }
-    ensures small { result ≤ 1 }
-{
-    if b { 1 } else { 0 }
-}
-
 // The locks of a block as bits: 1 write, 2 read, 4 permanent.
+#[tactic(auto, unfolding(crate::specs::Questions::locks))]
 fn locks(b: Block, protection: u64, permanent: u64) -> usize
     requires { b.write < 47 }
     ensures value { result ≡ locks b protection permanent }
     ensures small { result ≤ 7 }
 {
     let write = b.write;
-    let w = one(blocks::bit_at(protection, write));
-    let o = one(b.paired & blocks::bit_at(protection, write + 1));
-    let p = one(blocks::bit_at(permanent, write));
+    let w = usize::from(blocks::bit_at(protection, write));
+    let o = usize::from(b.paired && blocks::bit_at(protection, write + 1));
+    let p = usize::from(blocks::bit_at(permanent, write));
     w + 2 * o + 4 * p
 }
 
 // Of a group of 8 KB.
+#[tactic(auto, using(rules::proofs::Blocks::block_placed, rules::proofs::Blocks::block_of_lt), unfolding(crate::specs::Questions::lock_state))]
 pub fn lock_state(g: usize, protection: u64, permanent: u64) -> usize
     ensures value { result ≡ lock_state g protection permanent }
     ensures small { result ≤ 7 }
@@ -40,20 +33,19 @@ pub fn lock_state(g: usize, protection: u64, permanent: u64) -> usize
 }
 
 // The first group from g on whose locks are not those of s, at most 256.
+#[tactic(auto, using(crate::proofs::Runs::run_on, crate::proofs::Runs::run_over, crate::proofs::Runs::run_whole))]
 fn run_end(g: usize, s: usize, protection: u64, permanent: u64) -> usize
     requires { g ≤ 256 }
     ensures value { result ≡ run_end (256 - g) s protection permanent g }
     ensures inside { result ≤ 256 }
     ensures after { g ≤ result }
 {
-    let mut h = g;
-    while h < 256 {
+    for h in g..256 {
         if lock_state(h, protection, permanent) != s {
             return h;
         }
-        h += 1;
     }
-    h
+    256
 }
 
 // Where the run that begins with the group g ends: the group after its last one.
@@ -68,10 +60,8 @@ pub fn lock_run(g: usize, protection: u64, permanent: u64) -> usize
 pub fn run(g: usize, h: usize, s: usize) -> Row
     ensures { result ≡ run_row (min g 256) (min h 256) (min s 7) }
 {
-    let from = smaller(g, 256);
-    let to = smaller(h, 256);
-    let first = from * 8192;
-    let last = less(to * 8192, 1);
+    let first = g.min(256) * 8192;
+    let last = less(h.min(256) * 8192, 1);
     let r = below(159, first as u64, last, 0);
-    form(r, 160 + smaller(s, 7), 0, 0, 0)
+    form(r, 160 + s.min(7), 0, 0, 0)
 }

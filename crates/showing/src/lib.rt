@@ -5,58 +5,52 @@ ghost use Rattle.std.specs.Prelude.{◌≡◌};
 ghost use Rattle.showing.specs.Counts.{dumped, shown, rows_of, reply_shown, dump_shown, count_of};
 
 use byte_text::count_within;
-use rules::plain::smaller;
 
 // How many bytes a dump is of: none past the memory's end.
+#[tactic(auto, unfolding(crate::specs::Counts::dumped))]
 pub fn dumped(slots: [u64; 24]) -> usize
     ensures { result ≡ dumped slots }
 {
     let from = slots[7] as usize;
     let n = slots[8] as usize;
-    if slots[10] == 0 {
-        return count_within(2097152, from, n);
-    }
-    count_within(2048, from, n)
+    let memory = if slots[10] == 0 { 2097152 } else { 2048 };
+    count_within(memory, from, n)
 }
 
 // How many of n bytes are shown: all, or so many at most.
+#[tactic(auto, unfolding(crate::specs::Counts::shown))]
 fn shown(full: bool, n: usize, most: usize) -> usize
     ensures { result ≡ shown full n most }
 {
-    if full {
-        return n;
-    }
-    smaller(n, most)
+    if full { n } else { n.min(most) }
 }
 
+#[tactic(auto, unfolding(crate::specs::Counts::rows_of))]
 fn rows_of(n: usize) -> usize
     ensures { result ≡ rows_of n }
 {
-    if n % 16 == 0 {
-        return n / 16;
-    }
-    n / 16 + 1
+    n.div_ceil(16)
 }
 
 // Of a reply 64 bytes.
+#[tactic(auto, unfolding(crate::specs::Counts::reply_shown))]
 pub fn reply_shown(full: bool, wanted: usize) -> usize
     ensures { result ≡ reply_shown full wanted }
 {
-    shown(full, smaller(wanted, 65537), 64)
+    shown(full, wanted.min(65537), 64)
 }
 
 // Of a dump 64 where its bytes are compared, else 4,096.
+#[tactic(auto, unfolding(crate::specs::Counts::dump_shown))]
 pub fn dump_shown(full: bool, slots: [u64; 24]) -> usize
     ensures { result ≡ dump_shown full slots }
 {
-    let n = dumped(slots);
-    if slots[4] == 0 {
-        return shown(full, n, 4096);
-    }
-    shown(full, n, 64)
+    let most = if slots[4] == 0 { 4096 } else { 64 };
+    shown(full, dumped(slots), most)
 }
 
 // How many rows of bytes a line has at most.
+#[tactic(auto, unfolding(crate::specs::Counts::count_of))]
 pub fn count(verb: u8, full: bool, slots: [u64; 24]) -> usize
     ensures { result ≡ count_of verb full slots }
 {

@@ -9,6 +9,7 @@ use page::form;
 use rules::Work;
 use writing::Row;
 
+#[tactic(auto, unfolding(crate::specs::Suspension::suspend_why))]
 fn cannot_suspend(r: Row, running: Work, suspended: Work) -> Row
     ensures { result ≡ suspend_why running suspended r }
 {
@@ -23,6 +24,7 @@ fn cannot_suspend(r: Row, running: Work, suspended: Work) -> Row
     form(r, 65, 0, 0, 0)
 }
 
+#[tactic(auto, unfolding(crate::specs::Suspension::clause))]
 fn clause(suspended: Work, op: u8) -> usize
     ensures { result ≡ clause suspended op }
 {
@@ -30,14 +32,15 @@ fn clause(suspended: Work, op: u8) -> usize
         return 67;
     }
     if blocks::is_erase(suspended) {
-        if named::erases(op) {
-            return 68;
-        }
-        return 69;
+        if named::erases(op) { 68 } else { 69 }
+    } else if named::programs(op) {
+        70
+    } else {
+        71
     }
-    if named::programs(op) { 70 } else { 71 }
 }
 
+#[tactic(auto, unfolding(crate::specs::Suspension::suspension_why))]
 pub fn suspension(r: Row, running: Work, suspended: Work, op: u8) -> Row
     ensures { result ≡ suspension_why running suspended op r }
 {

@@ -11,8 +11,7 @@ use Rattle.fields.specs.Records.{slot}
 use Rattle.writing.specs.declared.Row.{Row}
 use Rattle.writing.specs.Rows.{blank}
 use Rattle.page.specs.Page.{form}
-use Rattle.describing.specs.declared.Told.{Told}
-use Rattle.describing.specs.Works.{told, work, cut_after}
+use Rattle.describing.specs.Works.{Told, told, work, cut_after}
 use Rattle.rows.specs.Events.{below}
 
 -- a power cut or a 99 that came to 0, where something ran before it

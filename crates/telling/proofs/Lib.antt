@@ -1,2 +1,3 @@
 -- Laws of what is told.
 pub mod Unique
+pub mod Words

@@ -1,37 +1,21 @@
 // The words of the command line. specs/Arguments.antt.
 ghost use Rattle.std.specs.Prelude.{◌≡◌};
 ghost use Rattle.rules.specs.Texts.{ascii};
-ghost use Rattle.telling.specs.Arguments.{same, argument_of};
+ghost use Rattle.telling.specs.Arguments.{argument_of};
 
 use crate::Argument;
 
-// Both are the same bytes.
-fn same(a: &[u8], b: &[u8]) -> bool
-    ensures { result ≡ same a.now b.now }
-{
-    if a.len() != b.len() {
-        return false;
-    }
-    let mut all = true;
-    let mut i: usize = 0;
-    while i < a.len() {
-        all = all & (a[i] == b[i]);
-        i += 1;
-    }
-    all
-}
-
+#[tactic(auto, using(crate::proofs::Words::same_is), unfolding(crate::specs::Arguments::argument_of))]
 pub fn argument_of(word: &[u8]) -> Argument
     ensures { result ≡ argument_of word.now }
 {
-    if same(word, b"--strict") {
-        return Argument::Strict;
+    if word == b"--strict".as_slice() {
+        Argument::Strict
+    } else if word == b"--prompt".as_slice() {
+        Argument::Prompt
+    } else if word == b"-".as_slice() {
+        Argument::Input
+    } else {
+        Argument::Script
     }
-    if same(word, b"--prompt") {
-        return Argument::Prompt;
-    }
-    if same(word, b"-") {
-        return Argument::Input;
-    }
-    Argument::Script
 }

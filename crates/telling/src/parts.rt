@@ -1,19 +1,20 @@
 // A row of what is told. specs/Parts.antt.
 ghost use Rattle.std.specs.Prelude.{◌≡◌};
+ghost use Rattle.standing.specs.Benches.{front};
 ghost use Rattle.telling.specs.Parts.{remark_part, torn_part, part_row, row_of};
 
 use lending::marks_given;
 use ordering::{Part, Place};
 use rows::Row;
 use rules::Work;
-use rules::plain::smaller;
 use script::Line;
 use standing::Playing;
 
+#[tactic(auto, unfolding(crate::specs::Parts::remark_part))]
 fn remark_row(remark: &[u8], i: usize) -> Row
     ensures { result ≡ remark_part remark.now i }
 {
-    let from = smaller(i, 65537) * 79;
+    let from = i.min(65537) * 79;
     if from < remark.len() {
         return rows::remark(remark, from);
     }
@@ -21,6 +22,7 @@ fn remark_row(remark: &[u8], i: usize) -> Row
 }
 
 // What the line stopped, and what it tore.
+#[tactic(auto, unfolding(crate::specs::Parts::torn_part))]
 fn torn_row(
     i: usize,
     verb: u8,
@@ -114,6 +116,13 @@ fn part_row(
     }
 }
 
+// The first n bytes, where there are as many.
+fn front(s: &[u8], n: usize) -> &[u8]
+    ensures { result.now ≡ front n s.now }
+{
+    &s[..n.min(s.len())]
+}
+
 // A row of what is told of the line that was played.
 pub fn row(
     p: Playing,
@@ -134,27 +143,18 @@ pub fn row(
     let slots = l.slots;
     let part = at.part;
     let i = at.row;
-    let n = smaller(l.sent, frame.len());
-    let x = smaller(l.expected, expected.len());
-    let k = smaller(l.expected, known.len());
-    let z = smaller(l.remark, remark.len());
-    let r = smaller(slots[1] as usize, reply.len());
-    let given = marks_given(slots);
-    let m = smaller(given, marks.len());
-    let a = smaller(2097152, array.len());
-    let s = smaller(2048, security.len());
     part_row(
         part,
         i,
         p,
         l,
-        &frame[..n],
-        &expected[..x],
-        &known[..k],
-        &remark[..z],
-        &reply[..r],
-        &marks[..m],
-        &array[..a],
-        &security[..s],
+        front(frame, l.sent),
+        front(expected, l.expected),
+        front(known, l.expected),
+        front(remark, l.remark),
+        front(reply, slots[1] as usize),
+        front(marks, marks_given(slots)),
+        front(array, 2097152),
+        front(security, 2048),
     )
 }

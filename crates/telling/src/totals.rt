@@ -11,6 +11,7 @@ pub fn heading() -> Row
     rows::plain(22, 0, 0, 0)
 }
 
+#[tactic(auto, unfolding(crate::specs::Totals::total_on))]
 fn total_on(r: Row, t: Tally) -> Row
     ensures { result ≡ total_on t r }
 {

@@ -1,8 +1,7 @@
 // Why a number was given. specs/Why.antt.
 #![tactic(auto)]
 
-ghost use Rattle.std.specs.Prelude.{◌≡◌, true, ◌+◌, ◌^◌, ◌≤◌, ◌<◌, length};
-ghost use Rattle.rules.specs.Words.{pick};
+ghost use Rattle.std.specs.Prelude.{◌≡◌, true, ◌^◌, ◌<◌, length, MatchOption};
 ghost use Rattle.why.specs.Why.{not_listed_why, length_why, closed_why, why, locks_sentence, numbers_sentence, works_sentence, sentence, malformed_why};
 ghost use Rattle.suspension.specs.Suspension.{suspend_why, clause, suspension_why};
 ghost use Rattle.locked.specs.Locked.{locked_from, block_why, locked_block, locked_why};
@@ -18,53 +17,48 @@ use rules::{Chip, Locks, Rest, Work, Works};
 use suspension::suspension;
 use writing::Row;
 
+#[tactic(auto, unfolding(crate::specs::Why::not_listed_why))]
 fn not_listed(r: Row, op: u8) -> Row
     ensures { result ≡ not_listed_why op r }
 {
     let f = opcodes::form_of(op);
-    if f.spi == 0 {
-        if f.sqi == 0 {
-            return form(r, 53, op as u64, 0, 0);
-        }
-        return form(r, 55, op as u64, 0, 0);
-    }
-    form(r, 54, op as u64, 0, 0)
+    let n = if f.spi != 0 {
+        54
+    } else if f.sqi != 0 {
+        55
+    } else {
+        53
+    };
+    form(r, n, u64::from(op), 0, 0)
 }
 
-fn least(sqi: bool, in_spi: usize, in_sqi: usize) -> usize
-    ensures { result ≡ pick sqi in_sqi in_spi }
-{
-    if sqi { in_sqi } else { in_spi }
-}
-
-fn takes(sqi: bool, more: bool) -> usize
-    ensures { result ≡ pick more (pick sqi 59 58) (pick sqi 57 56) }
-{
-    if more {
-        return if sqi { 59 } else { 58 };
-    }
-    if sqi { 57 } else { 56 }
-}
-
+#[tactic(auto, using(crate::proofs::Reasons::least_length_lem), unfolding(crate::specs::Why::length_why))]
 fn wrong_length(r: Row, sqi: bool, op: u8, n: usize) -> Row
     ensures { result ≡ length_why sqi op n r }
 {
     let f = opcodes::form_of(op);
-    let k = takes(sqi, f.more);
-    let m = least(sqi, f.spi, f.sqi);
-    form(r, k, n as u64, op as u64, m as u64)
+    let k = match (f.more, sqi) {
+        (false, false) => 56,
+        (false, true) => 57,
+        (true, false) => 58,
+        (true, true) => 59,
+    };
+    let least = if sqi { f.sqi } else { f.spi };
+    form(r, k, n as u64, u64::from(op), least as u64)
 }
 
+#[tactic(auto, unfolding(crate::specs::Why::closed_why))]
 fn closed(r: Row, sec: bool, op: u8) -> Row
     ensures { result ≡ closed_why sec op r }
 {
-    if named::changes_locks(op) {
-        return form(r, 73, 0, 0, 0);
-    }
-    if sec {
-        return form(r, 74, 0, 0, 0);
-    }
-    form(r, 75, 0, 0, 0)
+    let n = if named::changes_locks(op) {
+        73
+    } else if sec {
+        74
+    } else {
+        75
+    };
+    form(r, n, 0, 0, 0)
 }
 
 // The work that runs.
@@ -76,6 +70,7 @@ fn busy(r: Row, running: Work) -> Row
 }
 
 // Of the numbers from 2 on, by the record before the event.
+#[tactic(auto, unfolding(crate::specs::Why::why))]
 pub fn reason(r: Row, number: u8, c: Rest, sent: &[u8]) -> Row
     ensures { result ≡ why number c sent.now r }
 {
@@ -101,45 +96,47 @@ pub fn reason(r: Row, number: u8, c: Rest, sent: &[u8]) -> Row
 
 // ---- refusal 1
 
-fn locks_sentence(l: Locks) -> usize
-    ensures { result ≡ locks_sentence l }
+// The form of the first sentence of the registers that does not hold.
+#[tactic(auto, unfolding(crate::specs::Why::locks_sentence))]
+fn locks_sentence(l: Locks) -> Option<usize>
+    ensures { MatchOption result (locks_sentence l ≡ 89) (λ n. (n ≡ locks_sentence l) × (n < 89)) }
 {
     if l.protection >= 0x1_0000_0000_0000 {
-        return 85;
+        return Some(85);
     }
     if l.permanent >= 0x1_0000_0000_0000 {
-        return 86;
+        return Some(86);
     }
     if l.permanent & 0xaaaa_0000_0000 != 0 {
-        return 87;
+        return Some(87);
     }
     if l.permanent & l.protection != l.permanent {
-        return 88;
+        return Some(88);
     }
-    89
+    None
 }
 
-fn numbers_sentence(w: Works) -> usize
-    ensures { result ≡ numbers_sentence w }
+#[tactic(auto, unfolding(crate::specs::Why::numbers_sentence))]
+fn numbers_sentence(w: Works) -> Option<usize>
+    ensures { MatchOption result (numbers_sentence w ≡ 91) (λ n. (n ≡ numbers_sentence w) × (n < 91)) }
 {
-    let run = w.running;
-    let aside = w.suspended;
-    if !records::numbers_right(run) {
-        return 89;
+    if !records::numbers_right(w.running) {
+        return Some(89);
     }
-    if !records::numbers_right(aside) {
-        return 90;
+    if !records::numbers_right(w.suspended) {
+        return Some(90);
     }
-    91
+    None
 }
 
+#[tactic(auto, using(crate::proofs::Sentences::either), unfolding(crate::specs::Why::works_sentence))]
 fn works_sentence(p: u64, sec: bool, page: &[u8], w: Works) -> usize
     requires { (numbers_right w.running ≡ true) × ((numbers_right w.suspended ≡ true) × ((p < 2 ^ 48) × (length page.now ≡ 256))) }
     ensures { result ≡ works_sentence p sec page.now w }
 {
     let run = w.running;
     let aside = w.suspended;
-    if !(blocks::is_nothing(aside) | blocks::can_suspend(aside)) {
+    if !(blocks::is_nothing(aside) || blocks::can_suspend(aside)) {
         return 91;
     }
     if !records::beside_right(run, aside) {
@@ -157,6 +154,7 @@ fn works_sentence(p: u64, sec: bool, page: &[u8], w: Works) -> usize
     96
 }
 
+#[tactic(auto, using(crate::proofs::Sentences::locks_hold, crate::proofs::Sentences::running_holds, crate::proofs::Sentences::suspended_holds), unfolding(crate::specs::Why::sentence))]
 fn sentence(c: Chip) -> usize
     ensures { result ≡ sentence c }
 {
@@ -164,18 +162,17 @@ fn sentence(c: Chip) -> usize
     let page = c.buffer;
     let l = rest.locks;
     let w = rest.works;
-    let of_locks = locks_sentence(l);
-    if of_locks < 89 {
-        return of_locks;
+    if let Some(n) = locks_sentence(l) {
+        return n;
     }
-    let of_numbers = numbers_sentence(w);
-    if of_numbers < 91 {
-        return of_numbers;
+    if let Some(n) = numbers_sentence(w) {
+        return n;
     }
     works_sentence(l.protection, rest.flags.sec, &page, w)
 }
 
 // Refusal 1: the lengths lent, and the record.
+#[tactic(auto, unfolding(crate::specs::Why::malformed_why))]
 pub fn malformed(
     r: Row,
     array: usize,

@@ -1,16 +1,18 @@
 -- What is put behind a row in two steps is put there in one. Assumes nothing.
-use Prim.Native.Nat.{ℕ, zero, suc, ◌+◌, ◌-◌, ◌/◌, ◌%◌, ◌≤◌, ◌<◌, min}
+use Prim.Native.Nat.{ℕ, zero, suc, ◌+◌, ◌-◌, ◌/◌, ◌%◌, ◌*◌, ◌^◌, ◌≤◌, ◌<◌, min}
 use mathlib.Core.Path.{◌≡◌, refl, sym, ap, ◌∙◌}
 use mathlib.Core.Bool.{Bool, true, false}
 use mathlib.Core.List.{List, [], ◌∷◌, ◌++◌}
 use native.Mathlib.Omega.{arith}
 use native.Mathlib.Numerals.{add-one}
+use native.Mathlib.Nat.{div-lt_iff_lt-mul, pow-suc}
 use lib.Dec.{ltb}
 use lib.ListN.{length, get_or, take, replicate-append-replicate}
 use lib.Seq.{take-suc}
 use borrow.Author.Tests.{lt-ltb, le-ltb, ltb-true, ltb-false}
+use Rattle.rules.specs.Words.{pick}
 use Rattle.writing.specs.declared.Row.{Row}
-use Rattle.writing.specs.Rows.{blank, push, put, row, blanks, digits, hex_digit, hex}
+use Rattle.writing.specs.Rows.{blank, push, put, row, blanks, digits, decimal, hex_digit, hex}
 
 pub put_append : (r : Row) (a b : List ℕ) → put (put r a) b ≡ put r (a ++ b)
 unfolding put
@@ -52,21 +54,26 @@ hex_step r q s (suc k) n d h e f g =
     let p : suc k - 1 ≡ k = omega arith in
     then_one r q s (hex k (n / 16)) (hex_digit (n % 16)) (e ∙ ap (λ (j : ℕ). put r (hex j (n / 16))) p) (g ∙ ap (λ (x : ℕ). push q x) f)
 
-pub digits_none : (r : Row) (k n : ℕ) → k ≡ 0 → r ≡ put r (digits k n)
+-- one digit more is none where the number has room in those before it
+digits_room : (k n : ℕ) → n < 10 ^ suc k → digits (suc k) n ≡ digits (suc (suc k)) n
 unfolding digits
-digits_none r k n e = nothing_more r ∙ ap (λ (j : ℕ). put r (digits j n)) (sym e)
+digits_room zero n l = rw (lt-ltb n 10 (omega arith)) refl
+digits_room (suc k) n l =
+    let q : n < 10 ^ suc k * 10 = rw pow-suc at l in
+    let e = digits_room k (n / 10) ((div-lt_iff_lt-mul {k = 10} {x = n} {y = 10 ^ suc k} (omega arith)).1 q) in
+    ap (λ (x : List ℕ). pick (ltb n 10) ((0x30 + n) ∷ []) (x ++ ((0x30 + n % 10) ∷ []))) e
 
-pub digits_low : (r s : Row) (k n : ℕ) → (k ≡ 0 → ⊥) → n < 10 → s ≡ push r (0x30 + n) → s ≡ put r (digits k n)
+-- digits without a bound on how many: a number below 10 ^ 20, as every one of 64 bits is
+
+pub decimal_low : (r s : Row) (n : ℕ) → n < 10 → s ≡ push r (0x30 + n) → s ≡ put r (decimal n)
 unfolding digits put
-digits_low r s zero n h l g = absurd (h refl)
-digits_low r s (suc k) n h l g = rw (lt-ltb n 10 l) g
+decimal_low r s n l g = rw (lt-ltb n 10 l) g
 
-pub digits_step : (r q s : Row) (k n : ℕ) → (k ≡ 0 → ⊥) → 10 ≤ n → q ≡ put r (digits (k - 1) (n / 10)) → s ≡ push q (0x30 + n % 10) → s ≡ put r (digits k n)
+pub decimal_step : (r q s : Row) (n : ℕ) → 10 ≤ n → n < 2 ^ 64 → q ≡ put r (decimal (n / 10)) → s ≡ push q (0x30 + n % 10) → s ≡ put r (decimal n)
 unfolding digits
-digits_step r q s zero n h l e g = absurd (h refl)
-digits_step r q s (suc k) n h l e g =
-    let p : suc k - 1 ≡ k = omega arith in
-    rw (le-ltb n 10 l) (then_one r q s (digits k (n / 10)) (0x30 + n % 10) (e ∙ ap (λ (j : ℕ). put r (digits j (n / 10))) p) g)
+decimal_step r q s n l h e g =
+    let room : digits 19 (n / 10) ≡ digits 20 (n / 10) = digits_room 18 (n / 10) (omega arith) in
+    rw (le-ltb n 10 l) (then_one r q s (digits 19 (n / 10)) (0x30 + n % 10) (e ∙ ap (λ (x : List ℕ). put r x) (sym room)) g)
 
 -- ---- how long a row is
 

@@ -11,6 +11,7 @@ pub struct Row {
     pub length: usize,
 }
 
+#[tactic(auto, unfolding(crate::specs::Rows::blank))]
 pub fn empty() -> Row
     ensures { result ≡ blank }
 {
@@ -20,69 +21,62 @@ pub fn empty() -> Row
     }
 }
 
+#[tactic(auto, unfolding(crate::specs::Rows::push))]
 pub fn add(r: Row, b: u8) -> Row
     ensures { result ≡ push r b }
 {
-    let at = r.length;
-    if at < 80 {
-        let mut q = r;
-        q.text[at] = b;
-        q.length = at + 1;
-        return q;
+    let mut q = r;
+    if r.length < 80 {
+        q.text[r.length] = b;
+        q.length += 1;
     }
-    r
+    q
 }
 
+#[tactic(auto, using(crate::proofs::Laws::nothing_more, crate::proofs::Laws::text_next))]
 pub fn text(r: Row, t: &[u8]) -> Row
     ensures { result ≡ put r t.now }
 {
     let mut q = r;
-    let mut i: usize = 0;
-    while i < t.len() {
-        q = add(q, t[i]);
-        i += 1;
+    for b in t {
+        q = add(q, *b);
     }
     q
 }
 
+#[tactic(auto, using(crate::proofs::Laws::nothing_more, crate::proofs::Laws::blanks_next), unfolding(crate::specs::Rows::blanks))]
 pub fn pad(r: Row, n: usize) -> Row
     ensures { result ≡ put r (blanks n) }
 {
     let mut q = r;
-    let mut i: usize = 0;
-    while i < n {
-        q = add(q, 32);
-        i += 1;
+    for _ in 0..n {
+        q = add(q, b' ');
     }
     q
 }
 
-fn digits_of(r: Row, k: usize, n: u64) -> Row
-    ensures { result ≡ put r (digits k n) }
-{
-    if k == 0 {
-        return r;
-    }
-    if n < 10 {
-        return add(r, 48 + n as u8);
-    }
-    let q = digits_of(r, k - 1, n / 10);
-    add(q, 48 + (n % 10) as u8)
-}
-
+// A number below ten is its digit; of another the higher digits come first, and then the lowest.
+#[tactic(auto, using(crate::proofs::Laws::decimal_low, crate::proofs::Laws::decimal_step))]
 pub fn number(r: Row, n: u64) -> Row
     ensures { result ≡ put r (decimal n) }
 {
-    digits_of(r, 20, n)
+    if n < 10 {
+        return add(r, b'0' + n as u8);
+    }
+    let q = number(r, n / 10);
+    add(q, b'0' + (n % 10) as u8)
 }
 
+#[tactic(auto, unfolding(crate::specs::Rows::hex_digit))]
 fn hex_digit(d: u8) -> u8
     requires { d ≤ 15 }
     ensures { result ≡ hex_digit d }
 {
-    if d < 10 { 48 + d } else { 55 + d }
+    if d < 10 { b'0' + d } else { b'A' - 10 + d }
 }
 
+// The highest digit comes first: no plainer as a loop, as k has no bound, and a shift by the digits that are to come would need one.
+#[tactic(auto, using(crate::proofs::Laws::hex_none, crate::proofs::Laws::hex_step))]
 pub fn hexadecimal(r: Row, k: usize, n: u64) -> Row
     ensures { result ≡ put r (hex k n) }
 {

@@ -1,23 +1,10 @@
-use Prim.Native.Nat.{ℕ}
-use mathlib.Core.Path.{◌≡◌, ap, ◌∙◌}
-use Rattle.writing.specs.Rows.{put}
-use Rattle.byte_text.specs.Bytes.{letters}
-use Rattle.writing.proofs.Laws.{nothing_more}
-use Rattle.byte_text.proofs.Laws.{letters_next}
-use native.Mathlib.Omega.{arith}
+-- Each byte of the piece in turn. Assumes nothing.
+use Rattle.std.proofs.Common.{◌≡◌, rules, take, drop}
+use Rattle.std.specs.List.{fold}
+use Rattle.byte_text.proofs.Laws.{printed_step, printed_is}
 use Rattle.byte_text.proofs.printed_bytes.Goals as goal
 
-pub loop-i-init : goal.loop-i-init
-unfolding letters
-loop-i-init c = record { low = omega arith; is = nothing_more _ }
-
-pub loop-i-preserved : goal.loop-i-preserved
-loop-i-preserved c = let l = c.loop-i in
-    let a = c.args in
-    record { low = omega arith; is = letters_next a.r l.q _ a.l.now a.from l.i _ l.invariant.is c.letter.ensures c.add-q.ensures }
-
 pub returns : goal.returns
-returns c = let l = c.loop-i in
-    let a = c.args in
-    let e : l.i ≡ c.count_within-n.result = omega arith in
-    l.invariant.is ∙ ap (λ (k : ℕ). put a.r (letters a.l.now a.from k)) (e ∙ c.count_within-n.ensures)
+returns c = let a = c.args in
+    let e : c.fold.result ≡ fold printed_step a.r (take a.most (drop a.from a.l.now)) = search rules in
+    printed_is _ _ _ _ _ e
