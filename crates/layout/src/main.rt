@@ -17,9 +17,9 @@ fn times(text: &[u8], r: Row) -> usize {
 fn begun(rust: bool) -> Row {
     let r = writing::empty();
     if rust {
-        return writing::text(r, b"pub const ");
+        return r.text(b"pub const ");
     }
-    writing::text(r, b"#define FULKIBONO_")
+    r.text(b"#define FULKIBONO_")
 }
 
 // The line that gives number i its name.
@@ -27,10 +27,10 @@ fn line(i: usize, rust: bool) -> Row {
     let r = numbers::named(begun(rust), i);
     if rust {
         let r = numbers::typed(r, i);
-        return writing::text(writing::size(r, numbers::number(i)), b";");
+        return r.size(numbers::number(i)).text(b";");
     }
-    let r = writing::size(writing::pad(r, 1), numbers::number(i));
-    writing::pad(r, 1)
+    let r = r.pad(1).size(numbers::number(i));
+    r.pad(1)
 }
 
 fn say<P: Print>(to: &P, text: &[u8]) {
@@ -66,7 +66,7 @@ fn lines_wrong<P: Print>(to: &P, text: &[u8], rust: bool) -> bool {
 
 // How many names of a sort there are.
 fn names(text: &[u8], rust: bool, sort: &[u8]) -> usize {
-    times(text, writing::text(begun(rust), sort))
+    times(text, begun(rust).text(sort))
 }
 
 // A name that is none of the layout's.

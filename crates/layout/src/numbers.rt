@@ -36,57 +36,57 @@ pub fn all(places: usize, kinds: usize, flags: usize, stations: usize) -> bool {
 
 fn place_named(r: Row, i: usize) -> Row {
     match i {
-        0 => writing::text(r, b"RECORD_SIZE"),
-        1 => writing::text(r, b"PLACE_PAGE"),
-        2 => writing::text(r, b"PLACE_PROTECTION"),
-        3 => writing::text(r, b"PLACE_PERMANENT"),
-        4 => writing::text(r, b"PLACE_RUNNING_NUMBER"),
-        5 => writing::text(r, b"PLACE_SUSPENDED_NUMBER"),
-        6 => writing::text(r, b"PLACE_RUNNING_KIND"),
-        7 => writing::text(r, b"PLACE_SUSPENDED_KIND"),
-        8 => writing::text(r, b"PLACE_FLAGS"),
-        9 => writing::text(r, b"PLACE_BURST"),
-        _ => writing::text(r, b"PLACE_RESERVED"),
+        0 => r.text(b"RECORD_SIZE"),
+        1 => r.text(b"PLACE_PAGE"),
+        2 => r.text(b"PLACE_PROTECTION"),
+        3 => r.text(b"PLACE_PERMANENT"),
+        4 => r.text(b"PLACE_RUNNING_NUMBER"),
+        5 => r.text(b"PLACE_SUSPENDED_NUMBER"),
+        6 => r.text(b"PLACE_RUNNING_KIND"),
+        7 => r.text(b"PLACE_SUSPENDED_KIND"),
+        8 => r.text(b"PLACE_FLAGS"),
+        9 => r.text(b"PLACE_BURST"),
+        _ => r.text(b"PLACE_RESERVED"),
     }
 }
 
 fn kind_named(r: Row, i: usize) -> Row {
     match i {
-        11 => writing::text(r, b"KIND_NOTHING"),
-        12 => writing::text(r, b"KIND_SECTOR_ERASE"),
-        13 => writing::text(r, b"KIND_BLOCK_ERASE"),
-        14 => writing::text(r, b"KIND_ARRAY_ERASE"),
-        15 => writing::text(r, b"KIND_PAGE_PROGRAM"),
-        16 => writing::text(r, b"KIND_SECURITY_PROGRAM"),
-        17 => writing::text(r, b"KIND_SECURITY_LOCK"),
-        18 => writing::text(r, b"KIND_CONFIGURATION"),
-        _ => writing::text(r, b"KIND_PERMANENT_BITS"),
+        11 => r.text(b"KIND_NOTHING"),
+        12 => r.text(b"KIND_SECTOR_ERASE"),
+        13 => r.text(b"KIND_BLOCK_ERASE"),
+        14 => r.text(b"KIND_ARRAY_ERASE"),
+        15 => r.text(b"KIND_PAGE_PROGRAM"),
+        16 => r.text(b"KIND_SECURITY_PROGRAM"),
+        17 => r.text(b"KIND_SECURITY_LOCK"),
+        18 => r.text(b"KIND_CONFIGURATION"),
+        _ => r.text(b"KIND_PERMANENT_BITS"),
     }
 }
 
 fn flag_named(r: Row, i: usize) -> Row {
     match i {
-        20 => writing::text(r, b"FLAG_SQI"),
-        21 => writing::text(r, b"FLAG_WEL"),
-        22 => writing::text(r, b"FLAG_IOC"),
-        23 => writing::text(r, b"FLAG_WPEN"),
-        24 => writing::text(r, b"FLAG_WPLD"),
-        25 => writing::text(r, b"FLAG_SEC"),
-        26 => writing::text(r, b"FLAG_RESET_ENABLE"),
-        27 => writing::text(r, b"FLAG_BA"),
-        _ => writing::text(r, b"IMAGE"),
+        20 => r.text(b"FLAG_SQI"),
+        21 => r.text(b"FLAG_WEL"),
+        22 => r.text(b"FLAG_IOC"),
+        23 => r.text(b"FLAG_WPEN"),
+        24 => r.text(b"FLAG_WPLD"),
+        25 => r.text(b"FLAG_SEC"),
+        26 => r.text(b"FLAG_RESET_ENABLE"),
+        27 => r.text(b"FLAG_BA"),
+        _ => r.text(b"IMAGE"),
     }
 }
 
 fn station_named(r: Row, i: usize) -> Row {
     match i {
-        29 => writing::text(r, b"STATION_START"),
-        30 => writing::text(r, b"STATION_LIST"),
-        31 => writing::text(r, b"STATION_SLOTS"),
-        32 => writing::text(r, b"STATION_SLOT"),
-        33 => writing::text(r, b"STATION_DATA"),
-        34 => writing::text(r, b"STATION_POLLS_MOST"),
-        _ => writing::text(r, b"STATION_WRITES_MOST"),
+        29 => r.text(b"STATION_START"),
+        30 => r.text(b"STATION_LIST"),
+        31 => r.text(b"STATION_SLOTS"),
+        32 => r.text(b"STATION_SLOT"),
+        33 => r.text(b"STATION_DATA"),
+        34 => r.text(b"STATION_POLLS_MOST"),
+        _ => r.text(b"STATION_WRITES_MOST"),
     }
 }
 
@@ -106,10 +106,10 @@ pub fn named(r: Row, i: usize) -> Row {
 // In Rust a place or a length is a usize, an allowance a u64, a kind or a flag one byte.
 pub fn typed(r: Row, i: usize) -> Row {
     if i == 34 {
-        return writing::text(r, b": u64 = ");
+        return r.text(b": u64 = ");
     }
     if (i < 11) | (i > 27) {
-        return writing::text(r, b": usize = ");
+        return r.text(b": usize = ");
     }
-    writing::text(r, b": u8 = ")
+    r.text(b": u8 = ")
 }
