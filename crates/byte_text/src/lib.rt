@@ -5,13 +5,13 @@ ghost use Rattle.std.specs.Prelude.{◌≡◌, min, length, take, drop};
 ghost use Rattle.writing.specs.Rows.{put, hex};
 ghost use Rattle.byte_text.specs.Bytes.{within, bytes, known, marked, printed, letters};
 
-use writing::{Row, add, hexadecimal, text};
+use writing::Row;
 
 // A byte as two digits.
 pub fn byte(r: Row, b: u8) -> Row
     ensures { result ≡ put r (hex 2 b) }
 {
-    hexadecimal(r, 2, u64::from(b))
+    r.hexadecimal(2, u64::from(b))
 }
 
 pub fn count_within(n: usize, from: usize, most: usize) -> usize
@@ -35,7 +35,7 @@ pub fn plain_bytes(r: Row, l: &[u8], from: usize, most: usize) -> Row
     piece(l, from, most)
         .iter()
         .copied()
-        .fold(r, |q, b| byte(add(q, b' '), b))
+        .fold(r, |q, b| byte(q.add(b' '), b))
 }
 
 #[tactic(auto, unfolding(crate::specs::Bytes::known))]
@@ -43,7 +43,7 @@ pub fn known_byte(r: Row, b: u8, mark: u8) -> Row
     ensures { result ≡ put r (known b mark) }
 {
     if mark == 0 {
-        return text(r, b"??");
+        return r.text(b"??");
     }
     byte(r, b)
 }
@@ -53,7 +53,7 @@ pub fn marked_bytes(r: Row, l: &[u8], marks: &[u8], from: usize, most: usize) ->
 {
     let mut q = r;
     for (b, mark) in piece(l, from, most).iter().zip(piece(marks, from, most)) {
-        q = known_byte(add(q, b' '), *b, *mark);
+        q = known_byte(q.add(b' '), *b, *mark);
     }
     q
 }
@@ -74,5 +74,5 @@ pub fn printed_bytes(r: Row, l: &[u8], from: usize, most: usize) -> Row
     piece(l, from, most)
         .iter()
         .copied()
-        .fold(r, |q, b| add(q, letter(b)))
+        .fold(r, |q, b| q.add(letter(b)))
 }

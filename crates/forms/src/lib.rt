@@ -5,7 +5,7 @@ ghost use Rattle.std.specs.Prelude.{◌≡◌};
 ghost use Rattle.writing.specs.Rows.{put};
 ghost use Rattle.forms.specs.Forms.{lead, digits_at, number_text, plural, gap, piece, with_row, opened, ended, formed, taken, begun, filled};
 
-use writing::{Row, add, hexadecimal, number, pad, text};
+use writing::Row;
 
 // A form half filled.
 #[derive(Clone, Copy)]
@@ -28,10 +28,10 @@ fn lead(r: Row, n: u64) -> Row
     ensures { result ≡ put r (lead n) }
 {
     match n {
-        0..10 => pad(r, 4),
-        10..100 => pad(r, 3),
-        100..1000 => pad(r, 2),
-        1000..10000 => pad(r, 1),
+        0..10 => r.pad(4),
+        10..100 => r.pad(3),
+        100..1000 => r.pad(2),
+        1000..10000 => r.pad(1),
         _ => r,
     }
 }
@@ -54,12 +54,12 @@ fn number_text(r: Row, kind: u8, v: u64) -> Row
     ensures { result ≡ put r (number_text kind v) }
 {
     match kind {
-        b'n' => number(r, v),
+        b'n' => r.number(v),
         b'f' => {
             let r = lead(r, v);
-            number(r, v)
+            r.number(v)
         }
-        _ => hexadecimal(r, digits_at(kind), v),
+        _ => r.hexadecimal(digits_at(kind), v),
     }
 }
 
@@ -67,7 +67,7 @@ fn number_text(r: Row, kind: u8, v: u64) -> Row
 fn plural(r: Row, n: u64) -> Row
     ensures { result ≡ put r (plural n) }
 {
-    if n == 1 { r } else { text(r, b"s") }
+    if n == 1 { r } else { r.text(b"s") }
 }
 
 fn gap(n: usize) -> usize
@@ -95,7 +95,7 @@ impl Filling {
         let r = self.row;
         match kind {
             b's' => self.with_row(plural(r, self.last)),
-            b'>' => self.with_row(pad(r, gap(r.length))),
+            b'>' => self.with_row(r.pad(gap(r.length))),
             _ => Filling {
                 row: number_text(r, kind, self.a),
                 percent: false,
@@ -140,7 +140,7 @@ impl Filling {
         } else if x == b'%' {
             self.opened()
         } else {
-            self.with_row(add(self.row, x))
+            self.with_row(self.row.add(x))
         }
     }
 

@@ -25,8 +25,8 @@ fn times(text: &[u8], r: Row) -> usize {
 fn begun(language: Language) -> Row {
     let r = writing::empty();
     match language {
-        Language::C => writing::text(r, b"#define FULKIBONO_"),
-        Language::Rust => writing::text(r, b"pub const "),
+        Language::C => r.text(b"#define FULKIBONO_"),
+        Language::Rust => r.text(b"pub const "),
     }
 }
 
@@ -34,14 +34,8 @@ fn begun(language: Language) -> Row {
 fn line(i: usize, language: Language) -> Row {
     let r = numbers::named(begun(language), i);
     match language {
-        Language::C => {
-            let r = writing::size(writing::pad(r, 1), numbers::number(i));
-            writing::pad(r, 1)
-        }
-        Language::Rust => {
-            let r = numbers::typed(r, i);
-            writing::text(writing::size(r, numbers::number(i)), b";")
-        }
+        Language::C => r.pad(1).size(numbers::number(i)).pad(1),
+        Language::Rust => numbers::typed(r, i).size(numbers::number(i)).text(b";"),
     }
 }
 
@@ -76,7 +70,7 @@ fn lines_wrong<P: Print>(to: &P, text: &[u8], language: Language) -> bool {
 
 // There is a name of the sort that is none of the layout's.
 fn names_wrong(text: &[u8], language: Language, sort: &str) -> bool {
-    let found = times(text, writing::text(begun(language), sort.as_bytes()));
+    let found = times(text, begun(language).text(sort.as_bytes()));
     found != numbers::names(sort)
 }
 

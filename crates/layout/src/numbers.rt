@@ -77,7 +77,7 @@ pub fn names(sort: &str) -> usize {
 
 pub fn named(r: Row, i: usize) -> Row {
     if i < COUNT {
-        return writing::text(r, NAMES[i].0.as_bytes());
+        return r.text(NAMES[i].0.as_bytes());
     }
     r
 }
@@ -85,9 +85,9 @@ pub fn named(r: Row, i: usize) -> Row {
 pub fn typed(r: Row, i: usize) -> Row {
     if i < COUNT {
         return match NAMES[i].1 {
-            Type::Usize => writing::text(r, b": usize = "),
-            Type::U64 => writing::text(r, b": u64 = "),
-            Type::U8 => writing::text(r, b": u8 = "),
+            Type::Usize => r.text(b": usize = "),
+            Type::U64 => r.text(b": u64 = "),
+            Type::U8 => r.text(b": u8 = "),
         };
     }
     r

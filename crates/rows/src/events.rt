@@ -8,7 +8,7 @@ use byte_text::{count_within, marked_bytes, plain_bytes, printed_bytes};
 use describing::{work, work_cut};
 use page::form;
 use rules::Work;
-use writing::{Row, empty, pad};
+use writing::{Row, empty};
 
 // A form on a row of its own.
 pub fn plain(n: usize, a: u64, b: u64, c: u64) -> Row
@@ -147,7 +147,7 @@ pub fn dump(place: usize, memory: &[u8], n: usize) -> Row
     let shown = count_within(memory.len(), place, m);
     let r = plain(197, place as u64, 0, 0);
     let r = plain_bytes(r, memory, place, m);
-    let r = pad(r, 3 * (16 - shown));
+    let r = r.pad(3 * (16 - shown));
     let r = form(r, 198, 0, 0, 0);
     let r = printed_bytes(r, memory, place, m);
     form(r, 199, 0, 0, 0)

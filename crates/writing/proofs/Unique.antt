@@ -2,12 +2,12 @@
 use Rattle.rules.proofs.Promises.{one}
 use Rattle.rules.proofs.Outcomes.{OneResult}
 use Rattle.writing.proofs.empty.Reads as empty
-use Rattle.writing.proofs.add.Reads as add
-use Rattle.writing.proofs.text.Reads as text
-use Rattle.writing.proofs.pad.Reads as pad
-use Rattle.writing.proofs.number.Reads as number
-use Rattle.writing.proofs.hexadecimal.Reads as hexadecimal
-use Rattle.writing.proofs.size.Reads as size
+use Rattle.writing.proofs.Row.add.Reads as add
+use Rattle.writing.proofs.Row.text.Reads as text
+use Rattle.writing.proofs.Row.pad.Reads as pad
+use Rattle.writing.proofs.Row.number.Reads as number
+use Rattle.writing.proofs.Row.hexadecimal.Reads as hexadecimal
+use Rattle.writing.proofs.Row.size.Reads as size
 
 pub empty_one : OneResult empty.Post
 empty_one κ a x y r r' p q = one p q

@@ -21,52 +21,6 @@ pub fn empty() -> Row
     }
 }
 
-#[tactic(auto, unfolding(crate::specs::Rows::push))]
-pub fn add(r: Row, b: u8) -> Row
-    ensures { result ≡ push r b }
-{
-    let mut q = r;
-    if r.length < 80 {
-        q.text[r.length] = b;
-        q.length += 1;
-    }
-    q
-}
-
-#[tactic(auto, using(crate::proofs::Laws::nothing_more, crate::proofs::Laws::text_next))]
-pub fn text(r: Row, t: &[u8]) -> Row
-    ensures { result ≡ put r t.now }
-{
-    let mut q = r;
-    for b in t {
-        q = add(q, *b);
-    }
-    q
-}
-
-#[tactic(auto, using(crate::proofs::Laws::nothing_more, crate::proofs::Laws::blanks_next), unfolding(crate::specs::Rows::blanks))]
-pub fn pad(r: Row, n: usize) -> Row
-    ensures { result ≡ put r (blanks n) }
-{
-    let mut q = r;
-    for _ in 0..n {
-        q = add(q, b' ');
-    }
-    q
-}
-
-// A number below ten is its digit; of another the higher digits come first, and then the lowest.
-#[tactic(auto, using(crate::proofs::Laws::decimal_low, crate::proofs::Laws::decimal_step))]
-pub fn number(r: Row, n: u64) -> Row
-    ensures { result ≡ put r (decimal n) }
-{
-    if n < 10 {
-        return add(r, b'0' + n as u8);
-    }
-    let q = number(r, n / 10);
-    add(q, b'0' + (n % 10) as u8)
-}
-
 #[tactic(auto, unfolding(crate::specs::Rows::hex_digit))]
 fn hex_digit(d: u8) -> u8
     requires { d ≤ 15 }
@@ -75,21 +29,69 @@ fn hex_digit(d: u8) -> u8
     if d < 10 { b'0' + d } else { b'A' - 10 + d }
 }
 
-// The highest digit comes first: no plainer as a loop, as k has no bound, and a shift by the digits that are to come would need one.
-#[tactic(auto, using(crate::proofs::Laws::hex_none, crate::proofs::Laws::hex_step))]
-pub fn hexadecimal(r: Row, k: usize, n: u64) -> Row
-    ensures { result ≡ put r (hex k n) }
-{
-    if k == 0 {
-        return r;
+impl Row {
+    #[tactic(auto, unfolding(crate::specs::Rows::push))]
+    pub fn add(self, b: u8) -> Row
+        ensures { result ≡ push self b }
+    {
+        let mut q = self;
+        if self.length < 80 {
+            q.text[self.length] = b;
+            q.length += 1;
+        }
+        q
     }
-    let q = hexadecimal(r, k - 1, n / 16);
-    add(q, hex_digit((n % 16) as u8))
-}
 
-// A number of places.
-pub fn size(r: Row, n: usize) -> Row
-    ensures { result ≡ put r (decimal n) }
-{
-    number(r, n as u64)
+    #[tactic(auto, using(crate::proofs::Laws::nothing_more, crate::proofs::Laws::text_next))]
+    pub fn text(self, t: &[u8]) -> Row
+        ensures { result ≡ put self t.now }
+    {
+        let mut q = self;
+        for b in t {
+            q = q.add(*b);
+        }
+        q
+    }
+
+    #[tactic(auto, using(crate::proofs::Laws::nothing_more, crate::proofs::Laws::blanks_next), unfolding(crate::specs::Rows::blanks))]
+    pub fn pad(self, n: usize) -> Row
+        ensures { result ≡ put self (blanks n) }
+    {
+        let mut q = self;
+        for _ in 0..n {
+            q = q.add(b' ');
+        }
+        q
+    }
+
+    // A number below ten is its digit; of another the higher digits come first, and then the lowest.
+    #[tactic(auto, using(crate::proofs::Laws::decimal_low, crate::proofs::Laws::decimal_step))]
+    pub fn number(self, n: u64) -> Row
+        ensures { result ≡ put self (decimal n) }
+    {
+        if n < 10 {
+            return self.add(b'0' + n as u8);
+        }
+        let q = self.number(n / 10);
+        q.add(b'0' + (n % 10) as u8)
+    }
+
+    // The highest digit comes first: no plainer as a loop, as k has no bound, and a shift by the digits that are to come would need one.
+    #[tactic(auto, using(crate::proofs::Laws::hex_none, crate::proofs::Laws::hex_step))]
+    pub fn hexadecimal(self, k: usize, n: u64) -> Row
+        ensures { result ≡ put self (hex k n) }
+    {
+        if k == 0 {
+            return self;
+        }
+        let q = self.hexadecimal(k - 1, n / 16);
+        q.add(hex_digit((n % 16) as u8))
+    }
+
+    // A number of places.
+    pub fn size(self, n: usize) -> Row
+        ensures { result ≡ put self (decimal n) }
+    {
+        self.number(n as u64)
+    }
 }

@@ -1,5 +1,5 @@
 -- The higher digits come first, by the same function, and then the lowest. Assumes nothing.
-use Rattle.writing.proofs.+hexadecimal.Given as goal
+use Rattle.writing.proofs.Row.+hexadecimal.Given as goal
 
 abbrev pub decreases-hexadecimal : goal.decreases-hexadecimal
 decreases-hexadecimal l = l.k
