@@ -14,14 +14,10 @@ pub fn front(n: usize, s: &[u8]) -> &[u8] {
     &s[..within(n, s)]
 }
 
+// The same of bytes that are to be written.
 pub fn front_mut(n: usize, s: &mut [u8]) -> &mut [u8] {
     let n = within(n, s);
     &mut s[..n]
-}
-
-// Whether two slices hold the same.
-pub fn same(a: &[u8], b: &[u8]) -> bool {
-    a == b
 }
 
 // Whether the first n bytes are the same.

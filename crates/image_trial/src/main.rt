@@ -2,12 +2,13 @@
 // files. Differences planted on one side show that each comparison is made. All numbers come from fixed seeds.
 #![tactic(auto)]
 
+mod bench;
 mod cases;
 mod comparisons;
 mod report;
 mod worked;
 
-use cases::Bench;
+use bench::Bench;
 use comparisons::{COMPARISONS, Comparison};
 use report::{Counts, Report};
 
@@ -23,11 +24,11 @@ const FILES: u64 = 144;
 // A case in which the comparison is made: what a refusal leaves, of a broken record and of a wrong mark; else an idle chip.
 fn planted_case(plant: Comparison, counts: &mut Counts, bench: &mut Bench) -> u64 {
     match plant {
-        Comparison::BufferLeft => bench.refused_case(1, Some(plant), counts),
+        Comparison::BufferLeft => cases::refused_case(bench, 1, Some(plant), counts),
         Comparison::ArrayLeft | Comparison::SecurityIdLeft | Comparison::RecordLeft => {
-            bench.file_case(1, Some(plant), counts)
+            cases::file_case(bench, 1, Some(plant), counts)
         }
-        _ => bench.chip_case(3, Some(plant), counts),
+        _ => cases::chip_case(bench, 3, Some(plant), counts),
     }
 }
 
@@ -50,15 +51,15 @@ fn main(rt: HostRuntime) {
     };
     worked::show_paper(&mut report, &mut bench);
     for k in 0..CHIPS {
-        let odd = bench.chip_case(k, None, &mut report.counts);
+        let odd = cases::chip_case(&mut bench, k, None, &mut report.counts);
         report.tell("chip", k, odd);
     }
     for k in 0..REFUSED {
-        let odd = bench.refused_case(k, None, &mut report.counts);
+        let odd = cases::refused_case(&mut bench, k, None, &mut report.counts);
         report.tell("refused chip", k, odd);
     }
     for k in 0..FILES {
-        let odd = bench.file_case(k, None, &mut report.counts);
+        let odd = cases::file_case(&mut bench, k, None, &mut report.counts);
         report.tell("file", k, odd);
     }
     report.say_counts();

@@ -94,7 +94,10 @@ impl<P: Print> Report<'_, P> {
         self.say_numbers(&counts.write_numbers);
         let _ = print!(self.rt; "read by both: {}", counts.reads);
         self.say_numbers(&counts.read_numbers);
-        let _ = print!(self.rt; "of the chips written: sorts by part {} kinds", came_up(&counts.sorts));
+        let _ = print!(self.rt;
+            "of the chips written: sorts by part {} kinds",
+            came_up(&counts.sorts)
+        );
         let _ = print!(self.rt; ", flags {} kinds", came_up(&counts.flags));
         let _ = print!(self.rt; ", bursts {} kinds", came_up(&counts.bursts));
         let _ = print!(self.rt; ", running work {} kinds", came_up(&counts.running));

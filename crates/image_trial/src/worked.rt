@@ -1,5 +1,5 @@
 // The paper's values (document 02, W-203 and W-204): bytes of files, each reckoned by hand. Both models write the file; the first one's is shown, and the two are the same.
-use crate::cases::{Bench, RIGHT};
+use crate::bench::{Bench, RIGHT};
 use crate::report::Report;
 use comparing::bytes::front_mut;
 use image_drawing::chips;
@@ -73,7 +73,13 @@ fn show_flags<P: Print>(report: &mut Report<P>, bench: &mut Bench) {
         (Flags { wpen: true, ..none }, b"\x08\x00\x04\xaeSI"),
         (Flags { wpld: true, ..none }, b"\x10\x00\x04\xb6SI"),
         (Flags { sec: true, ..none }, b"\x20\x00\x04\xc6SI"),
-        (Flags { enable: true, ..none }, b"\x40\x00\x04\xe6SI"),
+        (
+            Flags {
+                enable: true,
+                ..none
+            },
+            b"\x40\x00\x04\xe6SI",
+        ),
         (Flags { ba: true, ..none }, b"\x80\x00\x05\x26SI"),
     ];
     for (flags, text) in alone {
