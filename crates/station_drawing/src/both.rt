@@ -385,7 +385,7 @@ pub enum Event<'a> {
     PowerCut(Tear),
 }
 
-// A frame between calls is no reset of work, and has room for one reply byte.
+// A frame between calls is no reset of work, and has room for one reply byte. One function for each model: they have no type and no function in common.
 fn first_happens(c: Chip, e: Event, array: &mut [u8], security: &mut [u8]) -> rules::After {
     match e {
         Event::Frame(sent) => {

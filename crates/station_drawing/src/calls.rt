@@ -10,7 +10,7 @@ use rules::Tear;
 // More entries than a call has writes.
 pub type Entries = [u64; 2304];
 
-// The part of n that lies in the list.
+// The part of n that lies in the list. Its own name and clauses stay beside comparing's `within`, which is of bytes: docs/PORT.md has them.
 pub fn entries_within(n: usize, s: &[u64]) -> usize
     ensures within { result ≤ length s.now }
     ensures front { result ≡ length (take result s.now) }
