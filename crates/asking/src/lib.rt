@@ -10,6 +10,7 @@ use script::Line;
 use standing::{Bench, Playing, Question};
 
 const ARRAY_SIZE: usize = 2_097_152;
+
 const SECURITY_SIZE: usize = 2048;
 
 // The remainder; of 0 it is 0.
@@ -89,7 +90,10 @@ fn status(p: Playing, l: Line, expected: &[u8], known: &[u8]) -> Playing
     ensures { ComparedIf (silent l) p 0 (length expected.now) (registers_of p.bench.chip.rest) expected.now known.now result }
 {
     let rest = p.bench.chip.rest;
-    let registers = [registers::status_of(rest), registers::configuration_of(rest)];
+    let registers = [
+        registers::status_of(rest),
+        registers::configuration_of(rest),
+    ];
     compared_if(
         l.slots[4] == 0,
         p,

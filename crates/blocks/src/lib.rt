@@ -116,7 +116,10 @@ pub fn is_nothing(w: Work) -> bool
 pub fn is_erase(w: Work) -> bool
     ensures { result ≡ is_erase w }
 {
-    matches!(w, Work::EraseSector(_) | Work::EraseBlock(_) | Work::EraseArray)
+    matches!(
+        w,
+        Work::EraseSector(_) | Work::EraseBlock(_) | Work::EraseArray
+    )
 }
 
 pub fn is_program(w: Work) -> bool
@@ -136,7 +139,10 @@ pub fn clean_m(w: Work) -> u8
 pub fn can_suspend(w: Work) -> bool
     ensures { result ≡ can_suspend w }
 {
-    matches!(w, Work::EraseSector(_) | Work::EraseBlock(_) | Work::ProgramPage(_))
+    matches!(
+        w,
+        Work::EraseSector(_) | Work::EraseBlock(_) | Work::ProgramPage(_)
+    )
 }
 
 // The range of work in the array.

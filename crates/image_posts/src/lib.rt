@@ -16,12 +16,7 @@ pub fn save(p: Playing, array: &[u8], security: &[u8], file: &mut [u8]) -> u8
     let chip = bench.chip;
     let a = bench.array.min(array.len());
     let s = bench.security.min(security.len());
-    image::number(image_writing::write(
-        chip,
-        &array[..a],
-        &security[..s],
-        file,
-    ))
+    image::number(image_writing::write(chip, &array[..a], &security[..s], file))
 }
 
 fn with_chip(p: Playing, c: Chip) -> Playing

@@ -51,7 +51,12 @@ fn image_taken(
 }
 
 // A new chip with this array.
-fn raw_taken(rt: &HostRuntime, name: &[u8], file: &[u8], array: &mut [u8; 2097152]) -> Result<Option<Chip>, Failure>
+fn raw_taken(
+    rt: &HostRuntime,
+    name: &[u8],
+    file: &[u8],
+    array: &mut [u8; 2097152],
+) -> Result<Option<Chip>, Failure>
     ensures { IfOk result (λ kept. kept ≡ None) }
 {
     if raw_image::load(array, file).is_ok() {

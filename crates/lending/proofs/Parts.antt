@@ -61,12 +61,12 @@ filled_part l p n v fits e =
     record {
       size = omega (arith, length-append {A = ℕ}, length-drop {A = ℕ}, size);
       inside = λ i h. let z : 0 + i ≡ i = omega arith in
-        ap (λ (k : ℕ). get_or (p ++ drop n l) k 0) z ∙ get_or-append p (drop n l) 0 i (omega (arith, size)) ∙ ap (λ (q : List ℕ). get_or q i 0) e ∙ get_or-replicate n i v 0 h;
+          ap (λ (k : ℕ). get_or (p ++ drop n l) k 0) z ∙ get_or-append p (drop n l) 0 i (omega (arith, size)) ∙ ap (λ (q : List ℕ). get_or q i 0) e ∙ get_or-replicate n i v 0 h;
       before = λ a h. absurd (omega arith);
       after = λ a h.
-        let here : length p + (a - n) ≡ a = omega (arith, size) in
-        let there : n + (a - n) ≡ a = omega arith in
-        ap (λ (k : ℕ). get_or (p ++ drop n l) k 0) (sym here) ∙ get_or-append-add p (drop n l) (a - n) 0 ∙ get_or-drop n l (a - n) 0 ∙ ap (λ (k : ℕ). get_or l k 0) there;
+          let here : length p + (a - n) ≡ a = omega (arith, size) in
+          let there : n + (a - n) ≡ a = omega arith in
+          ap (λ (k : ℕ). get_or (p ++ drop n l) k 0) (sym here) ∙ get_or-append-add p (drop n l) (a - n) 0 ∙ get_or-drop n l (a - n) 0 ∙ ap (λ (k : ℕ). get_or l k 0) there;
     }
   where
     size : length p ≡ n

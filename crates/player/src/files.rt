@@ -41,12 +41,7 @@ fn told(rt: &impl Print, r: Row) {
 }
 
 // How many bytes came, after a prompt where that is asked for.
-fn refilled(
-    rt: &impl Print,
-    source: &mut impl Read,
-    prompt: bool,
-    input: &mut [u8; 65536],
-) -> usize
+fn refilled(rt: &impl Print, source: &mut impl Read, prompt: bool, input: &mut [u8; 65536]) -> usize
     ensures { result ≤ length input.new }
 {
     if prompt {

@@ -6,8 +6,8 @@ mod lines;
 ghost use Rattle.std.specs.Prelude.{◌≡◌};
 ghost use Rattle.script.specs.Lines.{fresh, stored, StepPromise, FinishPromise};
 
-pub use lines::line_of;
 use grammar::Verb;
+pub use lines::line_of;
 use spelling::Word;
 
 // ---- what a line says

@@ -76,7 +76,11 @@ fn map() -> Answer
 fn right_or_not(right: bool) -> Answer
     ensures { result ≡ answer_of (right_or_not right) }
 {
-    if right { answer_of(&[0x06]) } else { answer_of(&[0x15]) }
+    if right {
+        answer_of(&[0x06])
+    } else {
+        answer_of(&[0x15])
+    }
 }
 
 fn frequency(a: u8, b: u8, c: u8, d: u8) -> Answer

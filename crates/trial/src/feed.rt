@@ -194,7 +194,10 @@ impl Feed {
     fn say_row(&self, rt: &impl Print, now: Playing) {
         let events = report::events(now);
         let differences = self.differences_now(now);
-        let _ = print!(rt; "{events} events, memories compared {} times", self.compared);
+        let _ = print!(rt;
+            "{events} events, memories compared {} times",
+            self.compared
+        );
         let _ = println!(rt; ", {differences} differences");
     }
 

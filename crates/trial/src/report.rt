@@ -144,16 +144,31 @@ pub fn say_counts(rt: &impl Print, tally: &Tally) {
     say_kinds(rt, &tally.done[1], opcodes, "opcodes done, BA");
     say_kinds(rt, &tally.numbers[0], numbers, "numbers, old part");
     say_kinds(rt, &tally.numbers[1], numbers, "numbers, BA");
-    say_kinds(rt, &tally.running, &[0, 1, 2, 3, 4, 5, 6, 7, 8], "running work");
+    say_kinds(
+        rt,
+        &tally.running,
+        &[0, 1, 2, 3, 4, 5, 6, 7, 8],
+        "running work",
+    );
     say_kinds(rt, &tally.suspended, &[0, 1, 2, 4], "suspended work");
-    say_kinds(rt, &tally.beside, &[0, 1, 2, 4, 5], "work beside a suspension");
+    say_kinds(
+        rt,
+        &tally.beside,
+        &[0, 1, 2, 4, 5],
+        "work beside a suspension",
+    );
     say_kinds(rt, &tally.bursts, &[0, 1, 2, 3], "burst reads");
     say_kinds(rt, &tally.resets, stopped, "work stopped by a reset");
     say_kinds(rt, &tally.cuts, stopped, "work stopped by a power cut");
     say_runs(rt, &tally.runs[0], "runs from new chips");
     say_runs(rt, &tally.runs[1], "runs from records");
     say_runs(rt, &tally.runs[2], "runs from broken records");
-    say_kinds(rt, tally.runs.as_flattened(), &[0, 1, 2, 3, 4, 5], "runs by part");
+    say_kinds(
+        rt,
+        tally.runs.as_flattened(),
+        &[0, 1, 2, 3, 4, 5],
+        "runs by part",
+    );
 }
 
 // ---- a line
