@@ -4,7 +4,6 @@ use crate::report::{Counts, bump};
 use comparing::bytes::{front, front_mut, same_front};
 use comparing::mapping::{flat_of, same_records};
 use drawing::dice::seed_of;
-use image::Posted;
 use image_drawing::chips;
 use image_drawing::places::{BEFORE, File, Identity, Memory, all_are, turn};
 use rules::Chip;
@@ -25,15 +24,6 @@ pub const RIGHT: Lengths = Lengths {
 };
 
 // ---- numbers and records
-
-pub fn number_of(p: Posted) -> u8 {
-    match p {
-        Posted::Done => 0,
-        Posted::Malformed => 1,
-        Posted::AtWork => 14,
-        Posted::WrongFile => 15,
-    }
-}
 
 // The comparison of a number with the one that is due, where one is.
 fn odd_due(number: u8, due: Option<u8>, plant: Option<Comparison>) -> u64 {
@@ -108,7 +98,7 @@ pub fn first_writes(c: Chip, l: Lengths, array: &[u8], security: &[u8], file: &m
         front(l.security, security),
         front_mut(l.file, file),
     );
-    number_of(p)
+    image::number(p)
 }
 
 fn second_writes(f: Flat, l: Lengths, array: &[u8], security: &[u8], file: &mut [u8]) -> u8 {
@@ -197,7 +187,7 @@ impl Bench<'_> {
             front_mut(l.array, other),
             front_mut(l.security, security2),
         );
-        let number = number_of(r.answer);
+        let number = image::number(r.answer);
         counts.reads = counts.reads.wrapping_add(1);
         bump(&mut counts.read_numbers, number as usize);
         Got {
