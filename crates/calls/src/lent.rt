@@ -1,4 +1,4 @@
-// The calls on what the bench lends. specs/Calls.antt.
+// The calls on what the bench lends. specs/Calls.antt. The four buffers are lent apart, as store::store, store::lookup and chip::frame take them.
 ghost use Rattle.std.specs.Prelude.{◌≡◌, ◌%◌};
 ghost use Rattle.calls.specs.Lists.{data_of};
 ghost use Rattle.calls.specs.Calls.{opened, read_line, Stored, Found, Shown};

@@ -1,4 +1,4 @@
-// The writes of a call: 06, the frame, polls.
+// The writes of a call: 06, the frame, polls. The two memories are lent apart, as chip::frame takes them.
 ghost use Rattle.std.specs.Prelude.{◌≡◌, ◌+◌, ◌%◌, ◌<◌, ◌≤◌, eqb, get_or};
 ghost use Rattle.rules.specs.Promises.{zeroed, bench_of, state_of};
 ghost use Rattle.stations.specs.Slots.{slot_count, those_from, live_of};
@@ -42,7 +42,7 @@ fn arrived(c: Chip, array: &mut [u8], security: &mut [u8], arrives: bool) -> Chi
     c
 }
 
-// What a poll tells.
+// What a poll tells. Its answer stands apart from busy: document 01, "Form by location", has the done case taken apart by let .. else.
 #[derive(Clone, Copy)]
 struct Polled {
     answer: Result<(), Refusal>,
