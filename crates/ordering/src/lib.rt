@@ -63,6 +63,7 @@ pub fn is_over(at: Place) -> bool
     matches!(at.part, Part::Over)
 }
 
+// A match of every part, since it is the order itself.
 fn part_after(part: Part) -> Part
     ensures { result ≡ part_after part }
 {

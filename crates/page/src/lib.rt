@@ -7,7 +7,7 @@ ghost use Rattle.page.specs.Page.{form};
 use forms::fill;
 use writing::Row;
 
-// Form n with three numbers, behind the row.
+// Form n with three numbers, behind the row. The number is the line of the page, as the definitions count them, and not a kind that an enum would name.
 pub fn form(r: Row, n: usize, a: u64, b: u64, c: u64) -> Row
     ensures { result ≡ form n a b c r }
 {

@@ -4,7 +4,7 @@
 ghost use Rattle.std.specs.Prelude.{◌≡◌, ◌≤◌};
 ghost use Rattle.writing.specs.Rows.{blank, push, put, blanks, digits, decimal, hex_digit, hex};
 
-// The first `length` bytes of the text are the row.
+// The first `length` bytes of the text are the row: an array with a length, since no heap is used below the programs.
 #[derive(Clone, Copy)]
 pub struct Row {
     pub text: [u8; 80],
