@@ -58,9 +58,7 @@ pub fn work(r: Row, w: Work) -> Row
         Work::ProgramPage(n) => form(r, 44, (n % 8192) as u64, 0, 0),
         Work::ProgramSecurity(n) => form(r, 45, (n % 8) as u64, 0, 0),
         Work::LockSecurity => form(r, 46, 0, 0, 0),
-        Work::WriteConfiguration(ioc, wpen) => {
-            form(r, 47, u64::from(ioc), u64::from(wpen), 0)
-        }
+        Work::WriteConfiguration(ioc, wpen) => { form(r, 47, u64::from(ioc), u64::from(wpen), 0) }
         Work::AddPermanent(bits) => form(r, 48, bits, 0, 0),
     }
 }
@@ -74,7 +72,13 @@ fn places(r: Row, w: Work) -> Row
         return r;
     }
     let last = s.start + s.size - 1;
-    form(r, 49 + usize::from(s.security), s.start as u64, last as u64, 0)
+    form(
+        r,
+        49 + usize::from(s.security),
+        s.start as u64,
+        last as u64,
+        0,
+    )
 }
 
 #[tactic(auto, unfolding(crate::specs::Works::cut_after))]
