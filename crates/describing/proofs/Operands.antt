@@ -1,5 +1,5 @@
 -- What is told of a frame's operands, by its opcode. Assumes nothing.
-use Rattle.std.proofs.Common.{◌≡◌, ℕ, ◌<◌, Bool, true, refl, get_or}
+use Rattle.std.proofs.Common.{◌≡◌, ℕ, ◌<◌, true, refl, get_or}
 use lib.Dec.{eqb}
 use Rattle.std.proofs.lemmas.Bool.{eqb-true}
 use Rattle.rules.specs.Words.{pick}

@@ -1,7 +1,6 @@
 -- How work is told keeps within the page and the memories. Assumes nothing.
 use Prim.Native.Nat.{◌+◌, ◌%◌, ◌≤◌}
 use mathlib.Core.Path.{◌≡◌, refl}
-use mathlib.Core.Bool.{Bool, true, false}
 use native.Mathlib.Omega.{arith}
 use lib.Dec.{eqb}
 use Rattle.rules.specs.Words.{num}
