@@ -14,7 +14,6 @@ pub mod Refusals
 pub mod Effects
 pub mod Promises
 pub mod Outcomes
-pub mod Unique
 pub mod Ranges
 pub mod Runs
 pub mod Keys

@@ -1,8 +1,6 @@
 // The declared types of the bench chip: what every crate of the repository uses. Their meaning is in specs/.
 #![tactic(auto)]
 
-pub mod plain;
-
 // An internal operation that runs or is suspended, with what it needs until it ends.
 // Sectors, blocks and pages are given by number: a block by its place in document 01's table, counted from 0.
 #[derive(Clone, Copy, PartialEq, Eq, Default)]

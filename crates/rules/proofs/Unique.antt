@@ -1,7 +1,0 @@
--- No second outcome: whatever meets the guarantee of a public function of this crate at the same input is the same result. Assumes nothing.
-use Rattle.rules.proofs.Outcomes.{OneResult}
-use Rattle.rules.proofs.Promises.{one}
-use Rattle.rules.proofs.plain.smaller.Reads as smaller
-
-pub smaller_one : OneResult smaller.Post
-smaller_one κ a x y r r' p q = one p q
