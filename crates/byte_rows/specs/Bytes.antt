@@ -1,11 +1,12 @@
 -- Rows of bytes, and what is left out of them. A row that is not told is blank.
-use Rattle.std.specs.Prelude.{ℕ, ◌+◌, ◌-◌, ◌*◌, ◌%◌, min, Bool, false, not, ◌&&◌, List, length, ◌==◌, nat_lt}
+use Rattle.std.specs.Prelude.{ℕ, Option, Some, None, ◌+◌, ◌-◌, ◌*◌, ◌%◌, min, Bool, false, not, ◌&&◌, List, length, ◌==◌, nat_lt}
 use Rattle.rules.specs.declared.Rest.{Rest}
 use Rattle.rules.specs.Words.{pick}
 use Rattle.rules.specs.Frames.{form_of, opcode}
 use Rattle.grammar.specs.Slots as slots
 use Rattle.grammar.specs.Verbs as verbs
 use Rattle.hinting.specs.Hints.{hint_of}
+use Rattle.hinting.specs.declared.Hint.{Hint}
 use Rattle.fields.specs.Records.{slot}
 use Rattle.writing.specs.declared.Row.{Row}
 use Rattle.writing.specs.Rows.{blank}
@@ -79,7 +80,16 @@ byte_row verb i full s number rest sent reply marks array security =
 
 -- "a hint where the word looks like a byte of other than two digits, bytes that do not stand apart or a word that is not in lower case"
 unfoldable pub hint_row : ℕ → List ℕ → ℕ → Row
-hint_row place word n = pick (hint_of place word n == 0) blank (form (178 + min (hint_of place word n) 3) 0 0 0 (below 178 0 0 0))
+hint_row place word n = hint_told (hint_of place word n)
+  where
+    hint_form : Hint → ℕ
+    hint_form Hint.TwoDigits = 179
+    hint_form Hint.Apart = 180
+    hint_form Hint.LowerCase = 181
+
+    hint_told : Option Hint → Row
+    hint_told None = blank
+    hint_told (Some h) = form (hint_form h) 0 0 0 (below 178 0 0 0)
 
 -- what is left out, the lock-down, or a hint
 unfoldable pub more_row : ℕ → Bool → List ℕ → ℕ → Bool → ℕ → List ℕ → ℕ → List ℕ → Row

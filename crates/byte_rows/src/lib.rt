@@ -46,12 +46,10 @@ pub fn row(
 fn hint(place: u8, word: [u8; 24], length: usize) -> Row
     ensures { result ≡ hint_row place word length }
 {
-    let h = hinting::hint_of(place, &word, length);
-    if h == 0 {
-        return rows::empty();
+    match hinting::hint_of(place, &word, length) {
+        None => rows::empty(),
+        Some(h) => rows::form(rows::below(178, 0, 0, 0), 179 + h as usize, 0, 0, 0),
     }
-    let r = rows::below(178, 0, 0, 0);
-    rows::form(r, 178 + (h as usize).min(3), 0, 0, 0)
 }
 
 // What is left out, the lock-down, or a hint.

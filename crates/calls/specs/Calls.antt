@@ -6,7 +6,7 @@ use Rattle.stations.specs.Calls.{list_size}
 use Rattle.stations.specs.Promises.{Desk, desk_of, StorePromise, LookupPromise}
 use Rattle.script.specs.declared.Line.{Line}
 use Rattle.grammar.specs.Slots as slots
-use Rattle.grammar.specs.Verbs as verbs
+use Rattle.grammar.specs.declared.Verb.{Verb}
 use Rattle.standing.specs.declared.Bench.{Bench}
 use Rattle.chip.specs.declared.events.Event.{Event}
 use Rattle.standing.specs.Benches.{front}
@@ -47,7 +47,7 @@ read_bytes = 0x03 ∷ 0x01 ∷ 0x00 ∷ 0x00 ∷ []
 abbrev pub read_line : Line
 read_line =
     record {
-      verb = verbs.frame;
+      verb = Verb.Frame;
       slots = set (replicate 24 0) slots.wanted list_size;
       sent = 4;
       expected = 0;

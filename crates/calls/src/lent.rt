@@ -3,6 +3,7 @@ ghost use Rattle.std.specs.Prelude.{◌≡◌, ◌%◌};
 ghost use Rattle.calls.specs.Lists.{data_of};
 ghost use Rattle.calls.specs.Calls.{opened, read_line, Stored, Found, Shown};
 
+use grammar::Verb;
 use meanings::put_text;
 use script::Line;
 use standing::{Bench, Event};
@@ -108,7 +109,7 @@ fn read_line() -> Line
     let mut slots = [0u64; 24];
     slots[1] = 65536;
     Line {
-        verb: 1,
+        verb: Verb::Frame,
         slots,
         sent: 4,
         expected: 0,

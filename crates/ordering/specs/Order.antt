@@ -1,5 +1,6 @@
 -- The parts of what is told of a line, one after the other: the same order for every line, and a part that has nothing to say of a line is blank.
 use Rattle.std.specs.Prelude.{ℕ, ◌+◌, ◌/◌, ◌%◌, min, Bool, true, false, List, ◌==◌, nat_lt}
+use Rattle.grammar.specs.Verbs as verbs
 use Rattle.rules.specs.Words.{pick}
 use Rattle.script.specs.declared.Line.{Line}
 use Rattle.script.specs.Lines.{line_of}
@@ -81,7 +82,7 @@ rows_of Part.Over remark verb full s = 1
 -- the next row of the part, or the first one of the next part
 abbrev pub after_of : Line → Bool → Place → Place
 after_of l full at =
-    pick (nat_lt ((at.row + 1) % 18446744073709551616) (rows_of at.part l.remark l.verb full l.slots))
+    pick (nat_lt ((at.row + 1) % 18446744073709551616) (rows_of at.part l.remark (verbs.number l.verb) full l.slots))
     (place_at_lem at.part ((at.row + 1) % 18446744073709551616))
     (place_at_lem (part_after at.part) 0)
 

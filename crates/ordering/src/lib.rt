@@ -119,7 +119,7 @@ pub fn next(p: Playing, at: Place) -> Place
     let slots = l.slots;
     let part = at.part;
     let row = at.row.wrapping_add(1);
-    let n = rows_of(part, l.remark, l.verb, bench.full, slots);
+    let n = rows_of(part, l.remark, u8::from(l.verb), bench.full, slots);
     if row < n {
         return Place { part, row };
     }

@@ -1,5 +1,6 @@
 -- A row of what is told of the line that was played, by its part.
 use Rattle.std.specs.Prelude.{ℕ, ◌*◌, min, List, eqb, ltb, length}
+use Rattle.grammar.specs.Verbs as verbs
 use Rattle.rules.specs.declared.Work.{Work}
 use Rattle.rules.specs.Words.{pick}
 use Rattle.rules.specs.Blocks.{array_size_lem, security_size_lem}
@@ -39,20 +40,20 @@ part_row Part.Remark i p l sent expected known remark reply marks array security
 part_row Part.Head i p l sent expected known remark reply marks array security =
     head_row (deed_of l.verb) p.bench.line l p.number p.before.rest.works.running p.bench.chip.rest sent reply marks
 part_row Part.Second i p l sent expected known remark reply marks array security =
-    second_row l.verb p.bench.line (slot l.slots slots.wanted) p.number p.bench.chip.rest.works.suspended l.place sent reply marks
+    second_row (verbs.number l.verb) p.bench.line (slot l.slots slots.wanted) p.number p.bench.chip.rest.works.suspended l.place sent reply marks
 part_row Part.Bytes i p l sent expected known remark reply marks array security =
-    byte_row l.verb i p.bench.full l.slots p.number p.bench.chip.rest sent reply marks array security
+    byte_row (verbs.number l.verb) i p.bench.full l.slots p.number p.bench.chip.rest sent reply marks array security
 part_row Part.More i p l sent expected known remark reply marks array security =
-    more_row l.verb p.bench.full l.slots p.number p.bench.chip.rest.flags.wpld l.place l.word l.length sent
-part_row Part.Configuration i p l sent expected known remark reply marks array security = configuration_row l.verb p.bench.chip.rest
-part_row Part.Bits i p l sent expected known remark reply marks array security = bit_row l.verb p.bench.chip.rest i
+    more_row (verbs.number l.verb) p.bench.full l.slots p.number p.bench.chip.rest.flags.wpld l.place l.word l.length sent
+part_row Part.Configuration i p l sent expected known remark reply marks array security = configuration_row (verbs.number l.verb) p.bench.chip.rest
+part_row Part.Bits i p l sent expected known remark reply marks array security = bit_row (verbs.number l.verb) p.bench.chip.rest i
 part_row Part.Protocol i p l sent expected known remark reply marks array security =
-    protocol_told l.verb p.bench.chip.rest.flags.sqi p.bench.chip.rest.flags.enable p.bench.chip.rest.flags.ba p.bench.chip.rest.burst
-part_row Part.Number i p l sent expected known remark reply marks array security = number_row l.verb p.number
+    protocol_told (verbs.number l.verb) p.bench.chip.rest.flags.sqi p.bench.chip.rest.flags.enable p.bench.chip.rest.flags.ba p.bench.chip.rest.burst
+part_row Part.Number i p l sent expected known remark reply marks array security = number_row (verbs.number l.verb) p.number
 part_row Part.Why i p l sent expected known remark reply marks array security =
-    why_row l.verb p.number p.bench.array p.bench.security (slot l.slots slots.wanted) (marks_wanted Event.Frame l.slots) p.before sent
+    why_row (verbs.number l.verb) p.number p.bench.array p.bench.security (slot l.slots slots.wanted) (marks_wanted Event.Frame l.slots) p.before sent
 part_row Part.Torn i p l sent expected known remark reply marks array security =
-    torn_part i l.verb p.number p.before.rest.works.running l.slots sent array security
+    torn_part i (verbs.number l.verb) p.number p.before.rest.works.running l.slots sent array security
 part_row Part.Unmet i p l sent expected known remark reply marks array security =
     unmet_row i p.verdict (slot l.slots slots.refused) l.expected (slot l.slots slots.wanted)
 part_row Part.Expected i p l sent expected known remark reply marks array security =
@@ -60,7 +61,7 @@ part_row Part.Expected i p l sent expected known remark reply marks array securi
 part_row Part.Came i p l sent expected known remark reply marks array security =
     came_row p.verdict.place p.verdict.compared reply marks expected known
 part_row Part.Memory i p l sent expected known remark reply marks array security =
-    unheld_row l.verb p.held l.slots p.bench.chip.rest array security expected
+    unheld_row (verbs.number l.verb) p.held l.slots p.bench.chip.rest array security expected
 part_row Part.Over i p l sent expected known remark reply marks array security = blank
 
 -- what is lent, cut to what the line is about: its frame, its expected bytes and their kinds, its remark, the reply and the marks that it wants, the memories

@@ -73,12 +73,13 @@ fn part_row(
     let slots = l.slots;
     let word = l.word;
     let wanted = slots[1];
+    let verb = u8::from(l.verb);
     match part {
         Part::Remark => remark_row(remark, i),
         Part::Head => heads::first(bench.line, l, p.number, ran, rest, sent, reply, marks),
         Part::Second => heads::second(
             bench.line,
-            l.verb,
+            verb,
             wanted as usize,
             p.number,
             aside,
@@ -88,17 +89,17 @@ fn part_row(
             marks,
         ),
         Part::Bytes => byte_rows::row(
-            l.verb, i, bench.full, slots, p.number, rest, sent, reply, marks, array, security,
+            verb, i, bench.full, slots, p.number, rest, sent, reply, marks, array, security,
         ),
         Part::More => byte_rows::more(
-            l.verb, bench.full, slots, p.number, flags.wpld, l.place, word, l.length, sent,
+            verb, bench.full, slots, p.number, flags.wpld, l.place, word, l.length, sent,
         ),
-        Part::Configuration => heads::configuration(l.verb, rest),
-        Part::Bits => heads::bit(l.verb, rest, i),
-        Part::Protocol => heads::protocol(l.verb, flags.sqi, flags.enable, flags.ba, burst),
-        Part::Number => reasons::number(l.verb, p.number),
+        Part::Configuration => heads::configuration(verb, rest),
+        Part::Bits => heads::bit(verb, rest, i),
+        Part::Protocol => heads::protocol(verb, flags.sqi, flags.enable, flags.ba, burst),
+        Part::Number => reasons::number(verb, p.number),
         Part::Why => reasons::why(
-            l.verb,
+            verb,
             p.number,
             bench.array,
             bench.security,
@@ -107,11 +108,11 @@ fn part_row(
             before,
             sent,
         ),
-        Part::Torn => torn_row(i, l.verb, p.number, ran, slots, sent, array, security),
+        Part::Torn => torn_row(i, verb, p.number, ran, slots, sent, array, security),
         Part::Unmet => reasons::unmet(i, v, slots[6], l.expected, wanted),
         Part::Expected => reasons::expected(v.place, v.compared, expected, known),
         Part::Came => reasons::came(v.place, v.compared, reply, marks, expected, known),
-        Part::Memory => byte_rows::unheld(l.verb, p.held, slots, rest, array, security, expected),
+        Part::Memory => byte_rows::unheld(verb, p.held, slots, rest, array, security, expected),
         Part::Over => rows::empty(),
     }
 }
