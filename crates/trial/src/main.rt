@@ -8,6 +8,7 @@ mod report;
 
 use comparing::Side;
 use feed::Feed;
+use grammar::Verb;
 use report::Tally;
 use script::Line;
 use second::{Flat, Step};
@@ -31,8 +32,8 @@ struct Trial<'a> {
 }
 
 // A line of the whole language that reaches the chip.
-fn is_event(verb: u8) -> bool {
-    matches!(verb, 1 | 2 | 3)
+fn is_event(verb: Verb) -> bool {
+    matches!(verb, Verb::Frame | Verb::Done | Verb::Cut)
 }
 
 impl Trial<'_> {
@@ -68,7 +69,7 @@ impl Trial<'_> {
             if is_event(l.verb) {
                 self.tally.count_event(self.flat, l, &*self.frame, number);
             }
-        } else if l.verb == 4 {
+        } else if l.verb == Verb::New {
             self.feed.count_case();
             self.tally.count_case(l, &*self.remark);
         }

@@ -2,6 +2,7 @@
 use comparing::Odd;
 use comparing::bytes::front;
 use drawing::at;
+use grammar::Verb;
 use script::Line;
 use second::Flat;
 use standing::Playing;
@@ -65,7 +66,7 @@ impl Tally {
         if before.sus_kind != 0 {
             bump(&mut self.beside, run_kind);
         }
-        if l.verb == 3 && number == 0 {
+        if l.verb == Verb::Cut && number == 0 {
             bump(&mut self.cuts, run_kind);
         }
         if l.sent != 0 {
