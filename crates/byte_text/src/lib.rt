@@ -48,6 +48,7 @@ pub fn known_byte(r: Row, b: u8, mark: u8) -> Row
     byte(r, b)
 }
 
+// A for: of a fold over the two the check left a goal.
 pub fn marked_bytes(r: Row, l: &[u8], marks: &[u8], from: usize, most: usize) -> Row
     ensures { result ≡ put r (marked l.now marks.now from (within (min (length l.now) (length marks.now)) from most)) }
 {

@@ -9,7 +9,7 @@ use page::form;
 use rules::Kind;
 use writing::Row;
 
-// The place of the byte in the table, or its size.
+// The place of the byte in the table, or its size. A for: of `position` the check left a goal.
 #[tactic(auto, using(crate::proofs::Places::place_here, crate::proofs::Places::place_later, crate::proofs::Places::place_none))]
 fn place_of(table: &[u8], op: u8) -> usize
     ensures { result ≡ place_of table.now op }

@@ -9,3 +9,10 @@ pub mod source;
 pub fn at(s: &[u8], i: usize) -> u8 {
     s.get(i).copied().unwrap_or(0)
 }
+
+// One more at a place that is there.
+pub fn bump(counts: &mut [u64], i: usize) {
+    if let Some(n) = counts.get_mut(i) {
+        *n = n.wrapping_add(1);
+    }
+}

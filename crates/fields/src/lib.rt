@@ -53,6 +53,7 @@ fn same_flag(a: bool, b: bool) -> bool
     a == b
 }
 
+// Flag by flag and not the derived ==: that the two agree did not prove.
 #[tactic(auto, unfolding(crate::specs::Records::same_flags_lem))]
 fn same_flags(a: Flags, b: Flags) -> bool
     ensures { result ≡ same_flags_lem a b }

@@ -9,7 +9,7 @@ use spelling::{Word, key_after};
 
 // ---- the words
 
-// The class of the word with that key, in a text where a blank follows each word; 255 where it is none of them.
+// The class of the word with that key, in a text where a blank follows each word; 255 where it is none of them, and no Option: a row asks for a class by its number, and none has that one.
 fn position(text: &[u8], key: u64) -> u8
     ensures { result ≡ position key 16 (keys_from 1 text.now) }
 {

@@ -1,8 +1,9 @@
 // The memories and files of both models, written and read by both, and in what the two differ: a bit for each comparison, which also a difference can be planted for.
 use crate::comparisons::{Comparison, bit};
-use crate::report::{Counts, bump};
+use crate::report::Counts;
 use comparing::bytes::{front, front_mut, same_front};
 use comparing::mapping::{flat_of, same_records};
+use drawing::bump;
 use drawing::dice::seed_of;
 use image_drawing::chips;
 use image_drawing::places::{BEFORE, File, Identity, Memory, all_are, turn};
@@ -91,6 +92,7 @@ fn fill_security(seed: u64, security: &mut [u8]) {
     chips::fill(front_mut(RIGHT.security, security), seed_of(seed, 51));
 }
 
+// The two models have neither a type nor a function in common, so each writes by its own.
 pub fn first_writes(c: Chip, l: Lengths, array: &[u8], security: &[u8], file: &mut [u8]) -> u8 {
     let p = image_writing::write(
         c,

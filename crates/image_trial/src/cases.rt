@@ -1,8 +1,9 @@
 // The cases: chips that are written, read and written again, chips that are refused, files that are changed; each gives in what the two models differ.
 use crate::bench::{Bench, Lengths, RIGHT, first_writes};
 use crate::comparisons::Comparison;
-use crate::report::{Counts, bump};
+use crate::report::Counts;
 use comparing::mapping::flat_of;
+use drawing::bump;
 use drawing::dice::seed_of;
 use image_drawing::chips;
 use image_drawing::places::BEFORE;

@@ -34,13 +34,6 @@ pub fn no_counts() -> Counts {
     }
 }
 
-// One more of this kind.
-pub fn bump(kinds: &mut [u64], kind: usize) {
-    if let Some(n) = kinds.get_mut(kind) {
-        *n = n.wrapping_add(1);
-    }
-}
-
 // How many kinds came up.
 fn came_up(kinds: &[u64]) -> usize {
     kinds.iter().filter(|n| **n != 0).count()

@@ -5,7 +5,6 @@ use Rattle.numbering.proofs.kind_of.Reads as kind-of
 use Rattle.numbering.proofs.number_of.Reads as number_of_lem
 use Rattle.numbering.proofs.work_right.Reads as work-right
 use Rattle.numbering.proofs.work_of.Reads as work-of
-use Rattle.numbering.proofs.bit_of.Reads as bit-of
 use Rattle.numbering.proofs.flags_number.Reads as flags-number
 use Rattle.numbering.proofs.flags_of.Reads as flags_of
 use Rattle.numbering.proofs.burst_byte.Reads as burst-byte
@@ -24,9 +23,6 @@ work_right_one κ a x y r r' p q = one p q
 
 pub work_of_one : OneResult work-of.Post
 work_of_one κ a x y r r' p q = one p q
-
-pub bit_of_one : OneResult bit-of.Post
-bit_of_one κ a x y r r' p q = one p.0 q.0
 
 pub flags_number_one : OneResult flags-number.Post
 flags_number_one κ a x y r r' p q = one p q

@@ -68,13 +68,6 @@ pub fn work_of(kind: u64, n: u64) -> Work
 
 // ---- flags
 
-// 1 or 0.
-pub fn bit_of(on: bool) -> u64
-    ensures { (result ≡ num on) × (result ≤ 1) }
-{
-    u64::from(on)
-}
-
 pub fn flags_number(f: Flags) -> u64
     ensures { result ≡ flags_number f }
 {

@@ -28,7 +28,7 @@ fn play(
         ),
         Deed::Setting(s) => arranging::played(now, s, l.slots, array, security),
         Deed::Question(q) => asking::played(now, q, l, array, security, expected, known),
-        // what is done with a file, or with the station list, is done above: crates `posting` and `calling`
+        // what is done with a file, or with the station list, is done above: crates `posting` and `calling`. Two arms: of one for both a goal was left
         Deed::Post(_) => now,
         Deed::Call(_) => now,
         Deed::Wrong => wrong(now),

@@ -104,7 +104,7 @@ fn works_right(p: u64, sec: bool, page: &[u8], w: Works) -> bool
     kind & beside & run_open & aside_open & security & clean
 }
 
-// With something running or suspended.
+// With something running or suspended. Test by test: as one chain of && the branches join, and the goals were left.
 fn well_formed_at_work(r: Rest, page: &[u8]) -> bool
     requires { length page.now ≡ 256 }
     ensures { result ≡ well_formed (chip_of page.now r) }

@@ -1,4 +1,5 @@
 // What is counted, and what is written.
+use drawing::bump;
 use station_drawing::comparisons::{COMPARISONS, Comparison, bit};
 
 #[derive(Clone, Copy, Default)]
@@ -19,17 +20,6 @@ pub struct Counts {
     pub cleared: [u64; 4],
 }
 
-fn bump(n: &mut u64) {
-    *n = n.wrapping_add(1);
-}
-
-// One more at a place.
-fn bump_at(counts: &mut [u64], i: usize) {
-    if i < counts.len() {
-        counts[i] = counts[i].wrapping_add(1);
-    }
-}
-
 // How many came up.
 fn kinds(counts: &[u64]) -> usize {
     counts.iter().filter(|n| **n != 0).count()
@@ -46,29 +36,29 @@ impl<P: Print> Report<'_, P> {
     // ---- what is counted
 
     pub fn chip_counted(&mut self, sort: usize) {
-        bump_at(&mut self.counts.chips, sort);
+        bump(&mut self.counts.chips, sort);
     }
 
     pub fn list_counted(&mut self, sort: usize) {
-        bump_at(&mut self.counts.lists, sort);
+        bump(&mut self.counts.lists, sort);
     }
 
     pub fn cut_counted(&mut self) {
-        bump(&mut self.counts.cuts);
+        self.counts.cuts = self.counts.cuts.wrapping_add(1);
     }
 
     // A store; where it is done, with the live slots that its read showed.
     pub fn store_counted(&mut self, number: u8, live: usize) {
-        bump(&mut self.counts.stores);
-        bump_at(&mut self.counts.store_numbers, usize::from(number % 32));
+        self.counts.stores = self.counts.stores.wrapping_add(1);
+        bump(&mut self.counts.store_numbers, usize::from(number % 32));
         if number == 0 {
-            bump_at(&mut self.counts.cleared, live.min(3));
+            bump(&mut self.counts.cleared, live.min(3));
         }
     }
 
     pub fn lookup_counted(&mut self, number: u8) {
-        bump(&mut self.counts.lookups);
-        bump_at(&mut self.counts.lookup_numbers, usize::from(number % 32));
+        self.counts.lookups = self.counts.lookups.wrapping_add(1);
+        bump(&mut self.counts.lookup_numbers, usize::from(number % 32));
     }
 
     // ---- comparisons
@@ -85,7 +75,7 @@ impl<P: Print> Report<'_, P> {
     // A case with a difference is told, and counted.
     pub fn told(&mut self, name: &str, k: u64, n: u64, odd: u64) {
         if odd != 0 {
-            bump(&mut self.counts.differences);
+            self.counts.differences = self.counts.differences.wrapping_add(1);
             let _ = print!(self.rt; "{name} {k} {n}, not the same:");
             self.odd_said(odd);
         }
@@ -99,9 +89,9 @@ impl<P: Print> Report<'_, P> {
 
     // A value of the paper: of which sentence, and which of its steps.
     pub fn shows(&mut self, sentence: usize, n: usize, right: bool) {
-        bump(&mut self.counts.values);
+        self.counts.values = self.counts.values.wrapping_add(1);
         if !right {
-            bump(&mut self.counts.differences);
+            self.counts.differences = self.counts.differences.wrapping_add(1);
             let _ = println!(self.rt; "not the paper's: sentence {sentence}, step {n}");
         }
     }
@@ -120,7 +110,7 @@ impl<P: Print> Report<'_, P> {
     // What did not come up is told, and counts as a difference.
     fn came_up(&mut self, name: &str, i: usize, n: u64) {
         if n == 0 {
-            bump(&mut self.counts.differences);
+            self.counts.differences = self.counts.differences.wrapping_add(1);
             let _ = println!(self.rt; "{name} did not come up: {i}");
         }
     }

@@ -1,7 +1,7 @@
 // What came up in the random lines: a kind that came up less than a hundred times is named, and so the output differs from the expected one.
 use comparing::Odd;
 use comparing::bytes::front;
-use drawing::at;
+use drawing::{at, bump};
 use grammar::Verb;
 use script::Line;
 use second::Flat;
@@ -38,13 +38,6 @@ pub fn no_counts() -> Tally {
         lines: [0; 82],
         resets: [0; 9],
         cuts: [0; 9],
-    }
-}
-
-// One more of this kind.
-fn bump(kinds: &mut [u64], kind: usize) {
-    if let Some(n) = kinds.get_mut(kind) {
-        *n = n.wrapping_add(1);
     }
 }
 
