@@ -4,3 +4,4 @@ pub mod Lookups
 pub mod Unique
 pub mod Spelled
 pub mod Keys
+pub mod Verbs
