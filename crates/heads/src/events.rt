@@ -1,19 +1,10 @@
 // The row of an event. specs/Heads.antt.
 ghost use Rattle.std.specs.Prelude.{◌≡◌};
-ghost use Rattle.heads.specs.Heads.{headed, frame_row, event_row};
+ghost use Rattle.heads.specs.Heads.{frame_row, event_row};
 
 use rows::Row;
 use rules::Work;
 use standing::Event;
-
-// The row of an event without a frame, up to its answer.
-#[tactic(auto, unfolding(crate::specs::Heads::headed))]
-pub fn headed(line: u64, n: usize, a: u64) -> Row
-    ensures { result ≡ headed line n a }
-{
-    let r = rows::numbered(line, n, a, 0, 0);
-    rows::form(r, 7, 0, 0, 0)
-}
 
 // The frame, and beside it, where there is room, the command and the answer.
 #[tactic(auto, unfolding(crate::specs::Heads::frame_row))]
@@ -28,6 +19,7 @@ fn frame(line: u64, wanted: usize, number: u8, sent: &[u8], reply: &[u8], marks:
     left
 }
 
+#[tactic(auto, unfolding(crate::specs::Heads::headed))]
 pub fn row(
     line: u64,
     e: Event,
@@ -44,7 +36,7 @@ pub fn row(
     let from = slots[7];
     match e {
         Event::Frame => frame(line, wanted, number, sent, reply, marks),
-        Event::Completion => rows::ended(headed(line, 12, 0), ran, number),
-        Event::Cut => rows::cut(headed(line, 13, from), ran, from, number),
+        Event::Completion => rows::ended(rows::headed(line, 12, 0), ran, number),
+        Event::Cut => rows::cut(rows::headed(line, 13, from), ran, from, number),
     }
 }

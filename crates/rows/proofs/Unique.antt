@@ -3,6 +3,7 @@ use Rattle.rules.proofs.Promises.{one}
 use Rattle.rules.proofs.Outcomes.{OneResult}
 use Rattle.rows.proofs.events.plain.Reads as plain
 use Rattle.rows.proofs.events.numbered.Reads as numbered
+use Rattle.rows.proofs.events.headed.Reads as headed
 use Rattle.rows.proofs.events.below.Reads as below
 use Rattle.rows.proofs.events.part.Reads as part
 use Rattle.rows.proofs.events.sent.Reads as sent
@@ -23,6 +24,9 @@ plain_one κ a x y r r' p q = one p q
 
 pub numbered_one : OneResult numbered.Post
 numbered_one κ a x y r r' p q = one p q
+
+pub headed_one : OneResult headed.Post
+headed_one κ a x y r r' p q = one p q
 
 pub below_one : OneResult below.Post
 below_one κ a x y r r' p q = one p q

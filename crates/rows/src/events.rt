@@ -1,7 +1,8 @@
 // The rows of a script. specs/Events.antt.
 ghost use Rattle.std.specs.Prelude.{◌≡◌, ◌≤◌};
 ghost use Rattle.page.specs.Page.{form};
-ghost use Rattle.writing.specs.Rows.{blank};
+ghost use Rattle.writing.specs.Rows.{blank, put};
+ghost use Rattle.byte_text.specs.Bytes.{part};
 ghost use Rattle.rows.specs.Events.{numbered, below, part_on, count_on, bytes_on, sent_row, fits, ended_on, cut_on, reply_row, expected_row, remark_row, dump_row, quoted, word_on};
 
 use byte_text::{count_within, marked_bytes, plain_bytes, printed_bytes};
@@ -23,6 +24,13 @@ pub fn numbered(line: u64, n: usize, a: u64, b: u64, c: u64) -> Row
 {
     let r = plain(0, line, 0, 0);
     form(r, n, a, b, c)
+}
+
+// The same up to the answer, which stands in its column.
+pub fn headed(line: u64, n: usize, a: u64) -> Row
+    ensures { result ≡ form 7 0 0 0 (numbered line n a 0 0) }
+{
+    form(numbered(line, n, a, 0, 0), 7, 0, 0, 0)
 }
 
 // Below such a row.
@@ -118,18 +126,23 @@ pub fn cut(r: Row, w: Work, k: u64, number: u8) -> Row
 
 // ---- bytes
 
+// At most so many from a place on, with their marks.
+fn marked_below(n: usize, most: usize, place: usize, bytes: &[u8], marks: &[u8]) -> Row
+    ensures { result ≡ put (below n place 0 0) (part bytes.now marks.now place most) }
+{
+    marked_bytes(below(n, place as u64, 0, 0), bytes, marks, place, most)
+}
+
 pub fn reply(place: usize, reply: &[u8], marks: &[u8]) -> Row
     ensures { result ≡ reply_row place reply.now marks.now }
 {
-    let r = below(195, place as u64, 0, 0);
-    marked_bytes(r, reply, marks, place, 16)
+    marked_below(195, 16, place, reply, marks)
 }
 
 pub fn expected(place: usize, expected: &[u8], known: &[u8]) -> Row
     ensures { result ≡ expected_row place expected.now known.now }
 {
-    let r = below(182, place as u64, 0, 0);
-    marked_bytes(r, expected, known, place, 8)
+    marked_below(182, 8, place, expected, known)
 }
 
 pub fn remark(text: &[u8], from: usize) -> Row

@@ -1,7 +1,6 @@
 // The first row of a line with a call. specs/Stations.antt.
 ghost use Rattle.std.specs.Prelude.{◌≡◌, ◌-◌};
 ghost use Rattle.page.specs.Page.{form};
-ghost use Rattle.rows.specs.Events.{numbered};
 ghost use Rattle.slots.specs.Reads.{shown_of};
 ghost use Rattle.station_rows.specs.Stations.{refused_on, store_head, find_head, station_count, stations_head, head_row};
 
@@ -21,19 +20,11 @@ fn refused(r: Row, number: u8, polls: u64) -> Row
     r
 }
 
-// The line's words, up to its answer.
-fn headed(line: u64, n: usize, a: u64) -> Row
-    ensures { result ≡ form 7 0 0 0 (numbered line n a 0 0) }
-{
-    let r = rows::numbered(line, n, a, 0, 0);
-    rows::form(r, 7, 0, 0, 0)
-}
-
 #[tactic(auto, unfolding(crate::specs::Stations::store_head))]
 fn store(line: u64, n: u16, number: u8, polls: u64, read: &ListRead) -> Row
     ensures { result ≡ store_head line n number polls (shown_of read.now) }
 {
-    let r = headed(line, 338, n as u64);
+    let r = rows::headed(line, 338, n as u64);
     if number == 0 {
         let i = read.first_empty().unwrap_or(2048);
         return rows::form(r, 341, i as u64, polls, 0);
@@ -45,7 +36,7 @@ fn store(line: u64, n: u16, number: u8, polls: u64, read: &ListRead) -> Row
 fn find(line: u64, n: u16, number: u8, bytes: &[u8], read: &ListRead) -> Row
     ensures { result ≡ find_head line n number bytes.now (shown_of read.now) }
 {
-    let r = headed(line, 339, n as u64);
+    let r = rows::headed(line, 339, n as u64);
     if number == 0 {
         let i = read.live_from(n, 0).unwrap_or(2048);
         let r = rows::form(r, 342, i as u64, 0, 0);
@@ -65,7 +56,7 @@ pub fn station_count(c: Counts) -> u64
 fn stations(line: u64, number: u8, c: Counts) -> Row
     ensures { result ≡ stations_head line number c }
 {
-    let r = headed(line, 340, 0);
+    let r = rows::headed(line, 340, 0);
     if number == 0 {
         let n = station_count(c);
         return rows::form(r, 353, n, 0, 0);
