@@ -26,7 +26,7 @@ returns-in_default-answer c = let a = c.args in let g = c.read_list-after in let
 pub returns-in_default-slot_for : goal.returns-in_default-slot_for
 returns-in_default-slot_for c = let a = c.args in let g = c.read_list-after in let ok = store_ok a.s (desk_of a.array.now a.security.now a.reply.now a.marks.now) a.station a.«data».now a.allowance a.list.now c.buffers_right.ensures c.if-not-buffers_right.false c.in-Some.ensures.cases.long c.in-Ok.ensures.0 in
     let gave = returned_of g.result g.new.array g.new.security g.new.reply g.new.marks in
-    store_16 a.s (desk_of a.array.now a.security.now a.reply.now a.marks.now) a.station a.«data».now a.allowance a.list.now ok gave (read_is g.ensures) (done_none _ c.in-Ok.is) _ refl c.in_default-slot_for.ensures
+    store_16 a.s (desk_of a.array.now a.security.now a.reply.now a.marks.now) a.station a.«data».now a.allowance a.list.now ok gave (read_is g.ensures) (done_none _ c.in-Ok-answer.is) _ refl c.in_default-slot_for.ensures
 
 pub shape_of-array : goal.shape_of-array
 shape_of-array c = c.write_all.auto.array ∙ c.read_list-after.auto.array
@@ -37,4 +37,4 @@ shape_of-security c = c.write_all.auto.security ∙ c.read_list-after.auto.secur
 pub returns : goal.returns
 returns c = let a = c.args in let g = c.read_list-after in let ok = store_ok a.s (desk_of a.array.now a.security.now a.reply.now a.marks.now) a.station a.«data».now a.allowance a.list.now c.buffers_right.ensures c.if-not-buffers_right.false c.in-Some.ensures.cases.long c.in-Ok.ensures.0 in
     let gave = returned_of g.result g.new.array g.new.security g.new.reply g.new.marks in
-    store_written a.s (desk_of a.array.now a.security.now a.reply.now a.marks.now) a.station a.«data».now a.allowance a.list.now ok gave (read_is g.ensures) (done_none _ c.in-Ok.is) _ c.in-Some-slot_for.ensures.0 c.in-Some-slot_for.ensures.1 c.in-Some.ensures.cases.same c.in-Ok.ensures.1 _ _ _ c.write_all.ensures
+    store_written a.s (desk_of a.array.now a.security.now a.reply.now a.marks.now) a.station a.«data».now a.allowance a.list.now ok gave (read_is g.ensures) (done_none _ c.in-Ok-answer.is) _ c.in-Some-slot_for.ensures.0 c.in-Some-slot_for.ensures.1 c.in-Some.ensures.cases.same c.in-Ok.ensures.1 _ _ _ c.write_all.ensures
