@@ -121,7 +121,7 @@ fn page_fault(l: &[u8], n: usize) -> Option<Fault>
     record_fault(l, 2 + n, 2070 + n * 262, 258, 0x5047).or_else(|| number_fault(l, n))
 }
 
-// The first page that is wrong. (c) No `find_map`: what its clauses say of the range's items did not give `first_from`.
+// The first page that is wrong. No `find_map`: what its clauses say of the range's items did not give `first_from`.
 fn pages_fault(l: &[u8]) -> Option<Fault>
     requires { length l.now ≡ file_size_lem }
     ensures { result ≡ first_from (page_fault l.now) 0 8192 }

@@ -87,7 +87,7 @@ fn taken_from(
     image_taken(rt, name, &file[..n], array, security)
 }
 
-// The buffer comes by reference (c): taken as a slice where it is made, its length is counted out, and the check gives up.
+// The buffer comes by reference: taken as a slice where it is made, its length is counted out, and the check gives up.
 fn taken_by(
     rt: &HostRuntime,
     from: &mut File,
@@ -169,7 +169,7 @@ fn saved(rt: &HostRuntime, name: &[u8], bytes: &[u8]) -> Result<(), Failure> {
     })
 }
 
-// The buffer as in `taken_by` (c).
+// The buffer as in `taken_by`.
 fn image_saved_by(
     rt: &HostRuntime,
     name: &[u8],

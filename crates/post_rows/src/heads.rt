@@ -7,7 +7,7 @@ use raw_image::Difference;
 use rows::Row;
 use standing::Post;
 
-// (d) The numbers are the page's, not the enum's, here and in `trouble_form`: as discriminants they would stand far from the page.
+// The numbers are the page's, not the enum's, here and in `trouble_form`: as discriminants they would stand far from the page.
 fn words_form(f: Post) -> usize
     ensures { result ≡ words_form f }
 {
