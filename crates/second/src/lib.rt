@@ -394,23 +394,20 @@ fn array_address(sent: &[u8]) -> usize
 }
 
 // "a Security ID address modulo 800"
-fn security_address(sent: &[u8]) -> usize {
+fn security_address(sent: &[u8]) -> usize
+    ensures { result < 2048 }
+{
     let high = number_at(sent, 1);
     let low = number_at(sent, 2);
     (high * 256 + low) % SECURITY_BYTES
 }
 
 // "It travels as six bytes, highest first." The first of them stands at the place given.
-fn six_bytes(from: &[u8], first: usize) -> u64
-    requires { first ≤ 65536 }
-{
-    let mut value: u64 = 0;
-    let mut i = 0;
-    while i < 6 {
-        value = value % 0x10000000000 * 256 + number_at(from, first + i) as u64;
-        i += 1;
-    }
-    value
+fn six_bytes(from: &[u8], first: usize) -> u64 {
+    from.iter()
+        .skip(first)
+        .take(6)
+        .fold(0, |value, &byte| value << 8 | u64::from(byte))
 }
 
 fn protection_byte(protection: u64, i: usize) -> u8 {
@@ -431,15 +428,6 @@ fn identity_byte(i: usize) -> u8 {
     }
 }
 
-// The opcodes with a reply.
-fn replies(opcode: u8) -> bool {
-    match opcode {
-        0x05 | 0x35 | 0x72 | 0x9F | 0xAF => true,
-        0x03 | 0x0B | 0x6B | 0x88 | 0x0C | 0xEC => true,
-        _ => false,
-    }
-}
-
 fn register_byte(opcode: u8, s: Flat, i: usize) -> u8 {
     match opcode {
         0x05 => status(s),
@@ -449,60 +437,33 @@ fn register_byte(opcode: u8, s: Flat, i: usize) -> u8 {
     }
 }
 
-// "Register and identity bytes, and the 00 after 72's six, have mark 1."
-fn answer_register(opcode: u8, s: Flat, reply: &mut [u8], marks: &mut [u8]) {
-    let n = reply.len();
-    let mut i = 0;
-    while i < n {
-        let value = register_byte(opcode, s, i);
-        put(reply, i, value);
-        put(marks, i, 1);
-        i += 1;
+// A byte that is known: "mark 1".
+fn known(value: u8) -> Out {
+    Out { value, mark: 1 }
+}
+
+// The reply and its marks, byte by byte: `out` says what stands at each place of the reply.
+fn answer_each<F: Fn(usize) -> Out>(reply: &mut [u8], marks: &mut [u8], out: F)
+    requires { F.IsAlwaysCallable out }
+{
+    for (i, (byte, mark)) in reply.iter_mut().zip(marks.iter_mut()).enumerate() {
+        let shown = out(i);
+        *byte = shown.value;
+        *mark = shown.mark;
     }
 }
 
-fn array_out(protection: u64, kind: u8, number: u64, array: &[u8], place: usize) -> Out {
+fn array_out(s: Flat, array: &[u8], place: usize) -> Out {
     // "A byte in a read-locked block reads 00, mark 1."
-    if read_locked(protection, place) {
-        return Out { value: 0, mark: 1 };
+    if read_locked(s.protection, place) {
+        return known(0);
     }
     // "Otherwise a byte in the suspended range reads 00, mark 0"
-    if range_holds(kind, number, place) {
+    if range_holds(s.sus_kind, s.sus_number, place) {
         return Out { value: 0, mark: 0 };
     }
     // "All others: the stored byte, mark 1."
-    Out {
-        value: byte_at(array, place),
-        mark: 1,
-    }
-}
-
-// "Reads go up one place a byte; after the last array or Security ID place comes place 0."
-fn answer_array(s: Flat, array: &[u8], start: usize, reply: &mut [u8], marks: &mut [u8]) {
-    let n = reply.len();
-    let mut place = start;
-    let mut i = 0;
-    while i < n {
-        let out = array_out(s.protection, s.sus_kind, s.sus_number, array, place);
-        put(reply, i, out.value);
-        put(marks, i, out.mark);
-        place = (place % ARRAY_BYTES + 1) % ARRAY_BYTES;
-        i += 1;
-    }
-}
-
-// The same in the Security ID, which no lock and no suspended range touches.
-fn answer_security(security: &[u8], start: usize, reply: &mut [u8], marks: &mut [u8]) {
-    let n = reply.len();
-    let mut place = start;
-    let mut i = 0;
-    while i < n {
-        let value = byte_at(security, place);
-        put(reply, i, value);
-        put(marks, i, 1);
-        place = (place % SECURITY_BYTES + 1) % SECURITY_BYTES;
-        i += 1;
-    }
+    known(byte_at(array, place))
 }
 
 // W-201: "C0 takes one data byte: 00 to 03 set a burst of 8, 16, 32 or 64 bytes". Whether a byte is one of these.
@@ -522,61 +483,47 @@ fn burst_size(code: u8) -> usize
     }
 }
 
-// W-201: "start at the address given and wrap within the naturally aligned group of that length". A group begins at a multiple
-// of the length, whatever the length is; the byte i of the reply lies i places on from the start, counted round in the group.
-fn burst_place(start: usize, size: usize, i: usize) -> usize
+// "Reads go up one place a byte; after the last array or Security ID place comes place 0." W-201: "start at the address given
+// and wrap within the naturally aligned group of that length". A group begins at a multiple of its size: it is the whole memory,
+// or a burst. Byte i of the reply lies i places on from the start, counted round in the group.
+fn read_place(start: usize, size: usize, i: usize) -> usize
     requires start_bound { start < 2097152 }
     requires size_nonzero { 0 < size }
     requires size_bound { size ≤ 2097152 }
 {
     let within = start % size;
-    let first = start - within;
-    let on = (within + i % size) % size;
-    first + on
-}
-
-// W-201: "Locks and suspended ranges read as before."
-fn answer_burst(s: Flat, array: &[u8], start: usize, reply: &mut [u8], marks: &mut [u8])
-    requires { start < 2097152 }
-{
-    let n = reply.len();
-    let size = burst_size(s.burst);
-    let mut i = 0;
-    while i < n {
-        let place = burst_place(start, size, i);
-        let out = array_out(s.protection, s.sus_kind, s.sus_number, array, place);
-        put(reply, i, out.value);
-        put(marks, i, out.mark);
-        i += 1;
-    }
-}
-
-fn fill(to: &mut [u8], value: u8) {
-    let n = to.len();
-    let mut i = 0;
-    while i < n {
-        put(to, i, value);
-        i += 1;
-    }
+    start - within + (within + i % size) % size
 }
 
 // "A frame without a reply fills the reply with FF and the marks with 0."
 fn no_reply(reply: &mut [u8], marks: &mut [u8]) {
-    fill(reply, 255);
-    fill(marks, 0);
+    reply.fill(255);
+    marks.fill(0);
 }
 
 fn answer(s: Flat, array: &[u8], security: &[u8], sent: &[u8], reply: &mut [u8], marks: &mut [u8]) {
     let opcode = byte_at(sent, 0);
-    if !replies(opcode) {
-        no_reply(reply, marks);
-        return;
-    }
     match opcode {
-        0x03 | 0x0B | 0x6B => answer_array(s, array, array_address(sent), reply, marks),
-        0x0C | 0xEC => answer_burst(s, array, array_address(sent), reply, marks),
-        0x88 => answer_security(security, security_address(sent), reply, marks),
-        _ => answer_register(opcode, s, reply, marks),
+        0x03 | 0x0B | 0x6B => {
+            let start = array_address(sent);
+            answer_each(reply, marks, |i| array_out(s, array, read_place(start, ARRAY_BYTES, i)));
+        }
+        // W-201: "Locks and suspended ranges read as before."
+        0x0C | 0xEC => {
+            let start = array_address(sent);
+            let size = burst_size(s.burst);
+            answer_each(reply, marks, |i| array_out(s, array, read_place(start, size, i)));
+        }
+        // No lock and no suspended range touches the Security ID.
+        0x88 => {
+            let start = security_address(sent);
+            answer_each(reply, marks, |i| known(byte_at(security, read_place(start, SECURITY_BYTES, i))));
+        }
+        // "Register and identity bytes, and the 00 after 72's six, have mark 1."
+        0x05 | 0x35 | 0x72 | 0x9F | 0xAF => {
+            answer_each(reply, marks, |i| known(register_byte(opcode, s, i)));
+        }
+        _ => no_reply(reply, marks),
     }
 }
 
@@ -584,12 +531,8 @@ fn answer(s: Flat, array: &[u8], security: &[u8], sent: &[u8], reply: &mut [u8],
 // to its start; a later byte replaces an earlier one in the buffer." The data start at sent[first].
 fn filled(sent: &[u8], first: usize, address: usize) -> [u8; 256] {
     let mut buffer = [255u8; 256];
-    let mut place = address % 256;
-    let mut i = first;
-    while i < sent.len() {
-        buffer[place % 256] = sent[i];
-        place = place % 256 + 1;
-        i += 1;
+    for (i, byte) in sent.iter().skip(first).enumerate() {
+        buffer[address.wrapping_add(i) % 256] = *byte;
     }
     buffer
 }
@@ -763,64 +706,30 @@ fn acted(s: Flat, opcode: u8, sent: &[u8]) -> Flat {
 
 // ---- Completion, power cut, and a reset while busy ----
 
-// How many "the first k bytes" of a range of this size are: k if it "has a byte k (counted from 0)", else all of it.
-fn cut_to(size: usize, k: u64) -> usize
-    ensures { result ≤ size }
-{
-    let count = k as usize;
-    if count < size {
-        return count;
-    }
-    size
-}
-
-// "Erase sets FF."
-fn erase(array: &mut [u8], start: usize, end: usize) {
-    let mut place = start;
-    while place < end {
-        put(array, place, 255);
-        place += 1;
+// An erase that ends after k bytes. "Erase sets FF." W-205: "The first k bytes are finished. If the range has a byte k (counted
+// from 0), that byte becomes, .. for an erase, old OR m. The rest is unchanged."
+fn erase_to(range: &mut [u8], k: u64, m: u8) {
+    for (i, byte) in range.iter_mut().enumerate() {
+        let place = i as u64;
+        if place < k {
+            *byte = 255;
+        } else if place == k {
+            *byte = *byte | m;
+        }
     }
 }
 
-// "each page byte becomes its old value AND the buffer byte", for the first count bytes of the page.
-fn program(memory: &mut [u8], start: usize, buffer: [u8; 256], count: usize)
-    requires start_bound { start ≤ 2097152 }
-    requires count_bound { count ≤ 256 }
-{
-    let mut i = 0;
-    while i < count {
-        let old = byte_at(memory, start + i);
-        put(memory, start + i, old & buffer[i]);
-        i += 1;
-    }
-}
-
-// An erase that ends after k bytes. W-205: "The first k bytes are finished. If the range has a byte k (counted from 0), that
-// byte becomes, .. for an erase, old OR m. The rest is unchanged."
-fn erase_to(array: &mut [u8], start: usize, size: usize, k: u64, m: u8)
-    requires start_bound { start ≤ 2097152 }
-    requires size_bound { size ≤ 2097152 }
-{
-    let count = cut_to(size, k);
-    erase(array, start, start + count);
-    if count < size {
-        let old = byte_at(array, start + count);
-        put(array, start + count, old | m);
-    }
-}
-
-// A program that ends after k bytes. W-205: "for a program, old AND (finished OR m)". "The range of 02, 32 and A5 is the whole
-// page."
-fn program_to(memory: &mut [u8], start: usize, buffer: [u8; 256], k: u64, m: u8)
-    requires { start ≤ 2097152 }
-{
-    let count = cut_to(256, k);
-    program(memory, start, buffer, count);
-    if count < 256 {
-        let old = byte_at(memory, start + count);
-        let finished = old & buffer[count];
-        put(memory, start + count, old & (finished | m));
+// A program that ends after k bytes: "each page byte becomes its old value AND the buffer byte". W-205: "for a program, old AND
+// (finished OR m)". "The range of 02, 32 and A5 is the whole page."
+fn program_to(page: &mut [u8], buffer: &[u8; 256], k: u64, m: u8) {
+    for (i, (byte, sent)) in page.iter_mut().zip(buffer).enumerate() {
+        let place = i as u64;
+        let finished = *byte & *sent;
+        if place < k {
+            *byte = finished;
+        } else if place == k {
+            *byte = *byte & (finished | m);
+        }
     }
 }
 
@@ -829,14 +738,23 @@ fn program_to(memory: &mut [u8], start: usize, buffer: [u8; 256], k: u64, m: u8)
 fn finish_bytes(s: Flat, array: &mut [u8], security: &mut [u8], k: u64, m: u8) {
     let kind = s.run_kind;
     let number = s.run_number;
-    let buffer = s.buffer;
-    let start = range_start(kind, number);
     match kind {
-        1 | 2 | 3 => erase_to(array, start, range_size(kind, number), k, m),
-        4 => program_to(array, start, buffer, k, m),
+        1 | 2 | 3 | 4 => {
+            let start = range_start(kind, number);
+            let Some(range) = array.get_mut(start..start + range_size(kind, number)) else {
+                return;
+            };
+            if kind == 4 {
+                program_to(range, &s.buffer, k, m);
+            } else {
+                erase_to(range, k, m);
+            }
+        }
         5 => {
-            let page = number as usize % 8;
-            program_to(security, page * 256, buffer, k, m);
+            let start = number as usize % 8 * 256;
+            if let Some(page) = security.get_mut(start..start + 256) {
+                program_to(page, &s.buffer, k, m);
+            }
         }
         _ => {}
     }
@@ -973,17 +891,8 @@ fn side_by_side(run_kind: u8, run_number: u64, sus_kind: u8, sus_number: u64) ->
     !ranges_meet(run_kind, run_number, sus_kind, sus_number)
 }
 
-fn all_erased(buffer: [u8; 256], count: usize) -> bool
-    requires { count ≤ 256 }
-{
-    let mut i = 0;
-    while i < count {
-        if buffer[i] != 255 {
-            return false;
-        }
-        i += 1;
-    }
-    true
+fn all_erased(bytes: &[u8]) -> bool {
+    bytes.iter().all(|&byte| byte == 255)
 }
 
 // "Running Security ID work has SEC 0; a running A5 of page 0 has FF in its first eight buffer bytes."
@@ -1000,7 +909,7 @@ fn security_fits(kind: u8, number: u64, sec: bool, buffer: [u8; 256]) -> bool {
     if number != 0 {
         return true;
     }
-    all_erased(buffer, 8)
+    all_erased(&buffer[..8])
 }
 
 // "The buffer is all FF when no program runs or is suspended."
@@ -1011,7 +920,7 @@ fn buffer_fits(run_kind: u8, sus_kind: u8, buffer: [u8; 256]) -> bool {
     if is_program(sus_kind) {
         return true;
     }
-    all_erased(buffer, 256)
+    all_erased(&buffer)
 }
 
 fn well_formed(s: Flat) -> bool {
@@ -1153,19 +1062,7 @@ fn refused_wel(s: Flat, opcode: u8) -> bool {
 // "A5 that sends a byte to places 0 to 7": only page 0 has them, and data wrap in the page.
 fn sends_to_factory(sent: &[u8]) -> bool {
     let address = security_address(sent);
-    if 255 < address {
-        return false;
-    }
-    let mut place = address;
-    let mut i = 3;
-    while i < sent.len() {
-        if place % 256 < 8 {
-            return true;
-        }
-        place = place % 256 + 1;
-        i += 1;
-    }
-    false
+    address < 256 && (3..sent.len()).any(|i| address.wrapping_add(i - 3) % 256 < 8)
 }
 
 // 10: "42 or 98 with WPLD 1; A5 or 85 with SEC 1; A5 that sends a byte to places 0 to 7"
@@ -1427,17 +1324,16 @@ fn mark_byte(record: u8, index: usize) -> u8 {
 }
 
 // "high byte first", of a sum and of a page number.
-fn two_bytes(value: usize, index: usize) -> u8 {
-    let high = (value / 256 % 256) as u8;
-    let low = (value % 256) as u8;
+fn two_bytes(value: u16, index: usize) -> u8 {
+    let [high, low] = value.to_be_bytes();
     one_of(index, high, low)
 }
 
 // "a 16-bit sum of the body's bytes that wraps at 65,536": the total after a byte of a file. Each mark begins it anew.
-fn total_after(total: usize, part: u8, value: u8) -> usize {
+fn total_after(total: u16, part: u8, value: u8) -> u16 {
     match part {
         0 => 0,
-        1 => (total % 65536 + value as usize) % 65536,
+        1 => total.wrapping_add(u16::from(value)),
         _ => total,
     }
 }
@@ -1481,7 +1377,7 @@ fn head_byte(head: Head, index: usize) -> u8 {
 // it is stored.
 fn page_byte(array: &[u8], page: usize, index: usize) -> u8 {
     if index < 2 {
-        return two_bytes(page, index);
+        return two_bytes((page % 8192) as u16, index);
     }
     byte_at(array, page_place(page, index - 2))
 }
@@ -1496,7 +1392,7 @@ fn body_byte(head: Head, array: &[u8], security: &[u8], at: Spot) -> u8 {
 }
 
 // A byte of the file; total is the sum of its body so far.
-fn file_byte(head: Head, array: &[u8], security: &[u8], at: Spot, total: usize) -> u8 {
+fn file_byte(head: Head, array: &[u8], security: &[u8], at: Spot, total: u16) -> u8 {
     let part = at.part;
     match part {
         0 => mark_byte(at.record, at.index),
@@ -1507,13 +1403,11 @@ fn file_byte(head: Head, array: &[u8], security: &[u8], at: Spot, total: usize) 
 
 fn write_bytes(head: Head, array: &[u8], security: &[u8], file: &mut [u8]) {
     let mut total = 0;
-    let mut place = 0;
-    while place < FILE_BYTES {
+    for (place, byte) in file.iter_mut().enumerate() {
         let at = spot_at(place);
         let value = file_byte(head, array, security, at, total);
-        put(file, place, value);
+        *byte = value;
         total = total_after(total, at.part, value);
-        place += 1;
     }
 }
 
@@ -1525,11 +1419,11 @@ fn body_fits(at: Spot, value: u8) -> bool {
     if 1 < at.index {
         return true;
     }
-    value == two_bytes(at.page, at.index)
+    value == two_bytes((at.page % 8192) as u16, at.index)
 }
 
 // Not "a wrong mark, sum, page number"; total is the sum of the body so far.
-fn byte_fits(at: Spot, total: usize, value: u8) -> bool {
+fn byte_fits(at: Spot, total: u16, value: u8) -> bool {
     let part = at.part;
     match part {
         0 => value == mark_byte(at.record, at.index),
@@ -1540,15 +1434,12 @@ fn byte_fits(at: Spot, total: usize, value: u8) -> bool {
 
 fn records_fit(file: &[u8]) -> bool {
     let mut total = 0;
-    let mut place = 0;
-    while place < FILE_BYTES {
+    for (place, &value) in file.iter().enumerate() {
         let at = spot_at(place);
-        let value = byte_at(file, place);
         if !byte_fits(at, total, value) {
             return false;
         }
         total = total_after(total, at.part, value);
-        place += 1;
     }
     true
 }
@@ -1616,12 +1507,8 @@ fn store_byte(at: Spot, value: u8, array: &mut [u8], security: &mut [u8]) {
 }
 
 fn store_bytes(file: &[u8], array: &mut [u8], security: &mut [u8]) {
-    let mut place = 0;
-    while place < FILE_BYTES {
-        let at = spot_at(place);
-        let value = byte_at(file, place);
-        store_byte(at, value, array, security);
-        place += 1;
+    for (place, &value) in file.iter().enumerate() {
+        store_byte(spot_at(place), value, array, security);
     }
 }
 
