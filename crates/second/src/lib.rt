@@ -68,13 +68,6 @@ enum Work {
     Permanent(u64),
 }
 
-// A byte of a reply, with its mark.
-#[derive(Clone, Copy, PartialEq, Eq)]
-struct Out {
-    value: u8,
-    mark: u8,
-}
-
 // ---- The chip on the bench ----
 
 // "array 2,097,152 bytes", "Security ID 2,048 bytes", "Frame at most 65,536 bytes".
@@ -140,13 +133,6 @@ fn frame_sized(sent: usize, reply: usize, marks: usize) -> bool {
 // The byte at a place of a slice. All uses are inside the slice; outside it the answer is 0.
 fn byte_at(from: &[u8], place: usize) -> u8 {
     from.get(place).copied().unwrap_or(0)
-}
-
-// The same, as a number.
-fn number_at(from: &[u8], place: usize) -> usize
-    ensures { result < 256 }
-{
-    usize::from(byte_at(from, place))
 }
 
 // A byte stored at a place of a slice. All uses are inside the slice; outside it nothing happens.
@@ -251,15 +237,15 @@ fn work_of(kind: u8, number: u64) -> Option<Work> {
         5 => Some(Work::SecurityPage(n)),
         6 => Some(Work::SecurityLock),
         7 => Some(Work::Configuration {
-            ioc: number % 2 == 1,
-            wpen: number / 2 % 2 == 1,
+            ioc: has_bit(number, 0),
+            wpen: has_bit(number, 1),
         }),
         8 => Some(Work::Permanent(number)),
         _ => None,
     }
 }
 
-// And back: the kind and the number that the record holds for it.
+// And back: the kind and the number that the record holds for it, which are not an enum's: each kind has a number of its own.
 fn kind_and_number(work: Work) -> (u8, u64) {
     match work {
         Work::Sector(n) => (1, n as u64),
@@ -363,7 +349,7 @@ enum ListedIn {
     Sqi,
 }
 
-// None for an opcode that is not listed.
+// None for an opcode that is not listed. An opcode stays the byte that is sent, here and below: document 01 names it by that.
 // W-201: C0 "in both protocols", "0C (SQI) and EC (SPI, IOC 1)"
 fn protocols(opcode: u8) -> Option<ListedIn> {
     match opcode {
@@ -420,19 +406,16 @@ fn length_listed(opcode: u8, sqi: bool, length: usize) -> bool {
 fn array_address(sent: &[u8]) -> usize
     ensures { result < 2097152 }
 {
-    let high = number_at(sent, 1);
-    let middle = number_at(sent, 2);
-    let low = number_at(sent, 3);
-    (high * 65536 + middle * 256 + low) % ARRAY_BYTES
+    let bytes = [0, byte_at(sent, 1), byte_at(sent, 2), byte_at(sent, 3)];
+    u32::from_be_bytes(bytes) as usize % ARRAY_BYTES
 }
 
 // "a Security ID address modulo 800"
 fn security_address(sent: &[u8]) -> usize
     ensures { result < 2048 }
 {
-    let high = number_at(sent, 1);
-    let low = number_at(sent, 2);
-    (high * 256 + low) % SECURITY_BYTES
+    let bytes = [byte_at(sent, 1), byte_at(sent, 2)];
+    usize::from(u16::from_be_bytes(bytes)) % SECURITY_BYTES
 }
 
 // "It travels as six bytes, highest first." The first of them stands at the place given.
@@ -466,33 +449,29 @@ fn register_byte(opcode: u8, s: Flat, i: usize) -> u8 {
     }
 }
 
-// A byte that is known: "mark 1".
-fn known(value: u8) -> Out {
-    Out { value, mark: 1 }
-}
-
-// The reply and its marks, byte by byte: `out` says what stands at each place of the reply.
-fn answer_each<F: Fn(usize) -> Out>(reply: &mut [u8], marks: &mut [u8], out: F)
+// The reply and its marks, byte by byte: `out` says what is known at each place of the reply, "mark 1"; what is not "reads 00,
+// mark 0".
+fn answer_each<F: Fn(usize) -> Option<u8>>(reply: &mut [u8], marks: &mut [u8], out: F)
     requires { F.IsAlwaysCallable out }
 {
     for (i, (byte, mark)) in reply.iter_mut().zip(marks.iter_mut()).enumerate() {
         let shown = out(i);
-        *byte = shown.value;
-        *mark = shown.mark;
+        *byte = shown.unwrap_or(0);
+        *mark = u8::from(shown.is_some());
     }
 }
 
-fn array_out(s: Flat, array: &[u8], place: usize) -> Out {
+fn array_out(s: Flat, array: &[u8], place: usize) -> Option<u8> {
     // "A byte in a read-locked block reads 00, mark 1."
     if read_locked(s.protection, place) {
-        return known(0);
+        return Some(0);
     }
     // "Otherwise a byte in the suspended range reads 00, mark 0"
     if suspended_work(s).is_some_and(|work| range_holds(work, place)) {
-        return Out { value: 0, mark: 0 };
+        return None;
     }
     // "All others: the stored byte, mark 1."
-    known(byte_at(array, place))
+    Some(byte_at(array, place))
 }
 
 // W-201: "C0 takes one data byte: 00 to 03 set a burst of 8, 16, 32 or 64 bytes". Whether a byte is one of these.
@@ -546,11 +525,11 @@ fn answer(s: Flat, array: &[u8], security: &[u8], sent: &[u8], reply: &mut [u8],
         // No lock and no suspended range touches the Security ID.
         0x88 => {
             let start = security_address(sent);
-            answer_each(reply, marks, |i| known(byte_at(security, read_place(start, SECURITY_BYTES, i))));
+            answer_each(reply, marks, |i| Some(byte_at(security, read_place(start, SECURITY_BYTES, i))));
         }
         // "Register and identity bytes, and the 00 after 72's six, have mark 1."
         0x05 | 0x35 | 0x72 | 0x9F | 0xAF => {
-            answer_each(reply, marks, |i| known(register_byte(opcode, s, i)));
+            answer_each(reply, marks, |i| Some(register_byte(opcode, s, i)));
         }
         _ => no_reply(reply, marks),
     }
@@ -708,31 +687,38 @@ fn acted(s: Flat, opcode: u8, sent: &[u8]) -> Flat {
 
 // ---- Completion, power cut, and a reset while busy ----
 
-// An erase that ends after k bytes. "Erase sets FF." W-205: "The first k bytes are finished. If the range has a byte k (counted
-// from 0), that byte becomes, .. for an erase, old OR m. The rest is unchanged."
-fn erase_to(range: &mut [u8], k: u64, m: u8) {
+// What ends after k bytes of its range. W-205: "The first k bytes are finished. If the range has a byte k (counted from 0), that
+// byte becomes" something in between. "The rest is unchanged." `finished` has the byte's place in the range and its old value;
+// `torn` has the old value and the finished one.
+fn finish_to<F: Fn(usize, u8) -> u8, T: Fn(u8, u8) -> u8>(range: &mut [u8], k: u64, finished: F, torn: T)
+    requires finishes { F.IsAlwaysCallable finished }
+    requires tears { T.IsAlwaysCallable torn }
+{
     for (i, byte) in range.iter_mut().enumerate() {
         let place = i as u64;
+        let whole = finished(i, *byte);
         if place < k {
-            *byte = 255;
+            *byte = whole;
         } else if place == k {
-            *byte |= m;
+            *byte = torn(*byte, whole);
         }
     }
 }
 
-// A program that ends after k bytes: "each page byte becomes its old value AND the buffer byte". W-205: "for a program, old AND
-// (finished OR m)". "The range of 02, 32 and A5 is the whole page."
+// "Erase sets FF." W-205: "for an erase, old OR m".
+fn erase_to(range: &mut [u8], k: u64, m: u8) {
+    finish_to(range, k, |_, _| 255, |old, _| old | m);
+}
+
+// "each page byte becomes its old value AND the buffer byte"; W-205: "for a program, old AND (finished OR m)". "The range of 02,
+// 32 and A5 is the whole page."
 fn program_to(page: &mut [u8], buffer: &[u8; 256], k: u64, m: u8) {
-    for (i, (byte, sent)) in page.iter_mut().zip(buffer).enumerate() {
-        let place = i as u64;
-        let finished = *byte & *sent;
-        if place < k {
-            *byte = finished;
-        } else if place == k {
-            *byte &= finished | m;
-        }
-    }
+    finish_to(
+        page,
+        k,
+        |i, old| old & buffer[i % 256],
+        |old, finished| old & (finished | m),
+    );
 }
 
 // "The running operation's range, in rising address order, has its first k bytes finished and the rest unchanged (all
@@ -923,43 +909,23 @@ fn well_formed(s: Flat) -> bool {
 
 #[derive(Clone, Copy, PartialEq, Eq)]
 enum Refusal {
-    Malformed,
-    Empty,
-    Unlisted,
-    Length,
-    Busy,
-    NotEnabled,
-    Quad,
-    Suspension,
-    Wel,
-    Locked,
-    Protected,
-    Idle,
+    Malformed = 1,
+    Empty = 2,
+    Unlisted = 3,
+    Length = 4,
+    Busy = 5,
+    NotEnabled = 6,
+    Quad = 7,
+    Suspension = 8,
+    Wel = 9,
+    Locked = 10,
+    Protected = 11,
+    Idle = 12,
     // W-201
-    Burst,
+    Burst = 13,
     // W-203
-    ChipBusy,
-    BadFile,
-}
-
-fn number(refusal: Refusal) -> u8 {
-    match refusal {
-        Refusal::Malformed => 1,
-        Refusal::Empty => 2,
-        Refusal::Unlisted => 3,
-        Refusal::Length => 4,
-        Refusal::Busy => 5,
-        Refusal::NotEnabled => 6,
-        Refusal::Quad => 7,
-        Refusal::Suspension => 8,
-        Refusal::Wel => 9,
-        Refusal::Locked => 10,
-        Refusal::Protected => 11,
-        Refusal::Idle => 12,
-        Refusal::Burst => 13,
-        Refusal::ChipBusy => 14,
-        Refusal::BadFile => 15,
-    }
+    ChipBusy = 14,
+    BadFile = 15,
 }
 
 // 5: "BUSY, and opcode not 05, 66, 99, B0"
@@ -1110,7 +1076,7 @@ fn done(state: Flat) -> Step {
 
 fn refused(refusal: Refusal, state: Flat) -> Step {
     Step {
-        number: number(refusal),
+        number: refusal as u8,
         state,
     }
 }
@@ -1469,14 +1435,14 @@ pub fn image_write(f: Flat, array: &[u8], security: &[u8], file: &mut [u8]) -> u
     // "A refusal leaves chip and buffer unchanged."
     // "1 for wrong lengths or, writing, a broken record"
     if file.len() != FILE_BYTES {
-        return number(Refusal::Malformed);
+        return Refusal::Malformed as u8;
     }
     if !admitted(f, array.len(), security.len()) {
-        return number(Refusal::Malformed);
+        return Refusal::Malformed as u8;
     }
     // "14 for a busy or suspended chip"
     if running_work(f).is_some() || suspended_work(f).is_some() {
-        return number(Refusal::ChipBusy);
+        return Refusal::ChipBusy as u8;
     }
     write_bytes(head_of(f), array, security, file);
     0
