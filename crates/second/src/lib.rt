@@ -245,7 +245,7 @@ fn work_of(kind: u8, number: u64) -> Option<Work> {
     }
 }
 
-// And back: the kind and the number that the record holds for it, which are not an enum's: each kind has a number of its own.
+// And back: the kind and the number that the record's public fields hold for it.
 fn kind_and_number(work: Work) -> (u8, u64) {
     match work {
         Work::Sector(n) => (1, n as u64),
@@ -461,13 +461,14 @@ fn answer_each<F: Fn(usize) -> Option<u8>>(reply: &mut [u8], marks: &mut [u8], o
     }
 }
 
-fn array_out(s: Flat, array: &[u8], place: usize) -> Option<u8> {
+// What a place of the array shows; `aside` is the suspended work.
+fn array_out(protection: u64, aside: Option<Work>, array: &[u8], place: usize) -> Option<u8> {
     // "A byte in a read-locked block reads 00, mark 1."
-    if read_locked(s.protection, place) {
+    if read_locked(protection, place) {
         return Some(0);
     }
     // "Otherwise a byte in the suspended range reads 00, mark 0"
-    if suspended_work(s).is_some_and(|work| range_holds(work, place)) {
+    if aside.is_some_and(|work| range_holds(work, place)) {
         return None;
     }
     // "All others: the stored byte, mark 1."
@@ -511,21 +512,35 @@ fn no_reply(reply: &mut [u8], marks: &mut [u8]) {
 
 fn answer(s: Flat, array: &[u8], security: &[u8], sent: &[u8], reply: &mut [u8], marks: &mut [u8]) {
     let opcode = byte_at(sent, 0);
+    let aside = suspended_work(s);
     match opcode {
         0x03 | 0x0B | 0x6B => {
             let start = array_address(sent);
-            answer_each(reply, marks, |i| array_out(s, array, read_place(start, ARRAY_BYTES, i)));
+            answer_each(reply, marks, |i| {
+                array_out(
+                    s.protection,
+                    aside,
+                    array,
+                    read_place(start, ARRAY_BYTES, i),
+                )
+            });
         }
         // W-201: "Locks and suspended ranges read as before."
         0x0C | 0xEC => {
             let start = array_address(sent);
             let size = burst_size(s.burst);
-            answer_each(reply, marks, |i| array_out(s, array, read_place(start, size, i)));
+            answer_each(reply, marks, |i| {
+                array_out(s.protection, aside, array, read_place(start, size, i))
+            });
         }
         // No lock and no suspended range touches the Security ID.
         0x88 => {
             let start = security_address(sent);
-            answer_each(reply, marks, |i| Some(byte_at(security, read_place(start, SECURITY_BYTES, i))));
+            answer_each(
+                reply,
+                marks,
+                |i| Some(byte_at(security, read_place(start, SECURITY_BYTES, i))),
+            );
         }
         // "Register and identity bytes, and the 00 after 72's six, have mark 1."
         0x05 | 0x35 | 0x72 | 0x9F | 0xAF => {
@@ -690,7 +705,12 @@ fn acted(s: Flat, opcode: u8, sent: &[u8]) -> Flat {
 // What ends after k bytes of its range. W-205: "The first k bytes are finished. If the range has a byte k (counted from 0), that
 // byte becomes" something in between. "The rest is unchanged." `finished` has the byte's place in the range and its old value;
 // `torn` has the old value and the finished one.
-fn finish_to<F: Fn(usize, u8) -> u8, T: Fn(u8, u8) -> u8>(range: &mut [u8], k: u64, finished: F, torn: T)
+fn finish_to<F: Fn(usize, u8) -> u8, T: Fn(u8, u8) -> u8>(
+    range: &mut [u8],
+    k: u64,
+    finished: F,
+    torn: T,
+)
     requires finishes { F.IsAlwaysCallable finished }
     requires tears { T.IsAlwaysCallable torn }
 {

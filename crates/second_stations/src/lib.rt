@@ -60,7 +60,7 @@ fn slot_start(slot: usize) -> usize
     slot % SLOTS * SLOT_BYTES
 }
 
-// The bytes of a slot, as the read shows it.
+// The bytes of a slot, as the read shows it. All uses are of the whole list.
 fn slot_bytes(shown: &[u8], slot: usize) -> &[u8] {
     let start = slot_start(slot);
     shown.get(start..start + SLOT_BYTES).unwrap_or(&[])
@@ -170,8 +170,8 @@ fn poll(
 }
 
 // "polls status at most as many times as it was allowed". `before` is the poll before which completion arrives, the first
-// being 1, if there is one. "The reported polls equal the place of the first poll that reads BUSY 0, or the allowance"; document 01: BUSY is
-// bit 0 of the status.
+// being 1; none where it never does. "The reported polls equal the place of the first poll that reads BUSY 0, or the allowance";
+// document 01: BUSY is bit 0 of the status.
 fn polled(
     chip: second::Flat,
     array: &mut [u8],
@@ -214,6 +214,8 @@ fn polled(
 }
 
 // ---- Writes ----
+
+// A write gives back the desk's record itself, number and all: a Result over it would say a second time whether the number is 0.
 
 // A call, or a write, that ends with a number before its first poll.
 fn ended(chip: second::Flat, number: u8) -> Store
