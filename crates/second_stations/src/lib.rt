@@ -75,7 +75,12 @@ fn is_empty(shown: &[u8], slot: usize) -> bool {
 // 01 has its addresses. A slot that is neither empty nor live is dead, and nobody asks for those.
 fn is_live_of(shown: &[u8], slot: usize, station: u16) -> bool {
     let bytes = slot_bytes(shown, slot);
-    bytes.starts_with(&LIVE) && bytes.iter().skip(NUMBER_AT).take(2).eq(&station.to_be_bytes())
+    bytes.starts_with(&LIVE)
+        && bytes
+            .iter()
+            .skip(NUMBER_AT)
+            .take(2)
+            .eq(&station.to_be_bytes())
 }
 
 // "the first empty slot"
