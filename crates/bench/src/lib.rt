@@ -1,5 +1,5 @@
 // The boundary to other languages: the chip's functions over lent bytes. specs/Boundary.antt says what each gives back and leaves; specs/Images.antt of files.
-// The caller lends all memory; nothing is kept between calls. The page buffer is changed where it lies, in the record's first 256 bytes.
+// The caller lends all memory; nothing is kept between calls. The page buffer is changed where it lies, in the record's first 256 bytes. The answers are numbers, as in C.
 #![tactic(auto)]
 
 ghost use Rattle.std.specs.Prelude.{◌≡◌, true, false, ◌&&◌, [], ◌≤◌, length, take, drop};

@@ -16,7 +16,7 @@ pub struct Verdict {
     pub length: bool,
     // the reply or the marks changed
     pub kept: bool,
-    // the first place that differs, or as many as were compared
+    // the first place that differs, or as many as were compared: no Option, since `First` gives a place and the rows count up to it
     pub place: usize,
     pub compared: usize,
 }

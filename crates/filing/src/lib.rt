@@ -24,7 +24,7 @@ pub fn front_written<W: Write>(to: &mut W, bytes: &[u8], n: usize) -> bool {
     to.write_all(&bytes[..n.min(bytes.len())]).is_ok()
 }
 
-// Reads until the buffer is full or the file ends; how many bytes are in front of it then.
+// Reads until the buffer is full or the file ends; how many bytes are in front of it then. A read gives any number of bytes, so no range has the steps.
 pub fn read_full<R: Read>(from: &mut R, buffer: &mut [u8]) -> io::Result<usize>
     ensures { IfOk result (λ n. n ≤ length buffer.new) }
 {

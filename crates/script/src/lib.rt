@@ -15,6 +15,7 @@ use spelling::Word;
 #[derive(Clone, Copy)]
 pub struct Line {
     pub verb: Verb,
+    // what the words wrote, by the numbers of grammar/specs/Slots: the table writes a slot by its number, so none has a field of its own
     pub slots: [u64; 24],
     // bytes of the frame, at most 65,537
     pub sent: usize,
@@ -66,7 +67,7 @@ pub struct Reading {
     pub ended: bool,
     // and was a CR: an LF right after it ends no line
     pub cr: bool,
-    // how many bytes of a byte order mark came at the input's very start; 3 after that
+    // how many bytes of a byte order mark came at the input's very start; 3 after that. A count and no kind: the next byte of the mark is found by it
     pub mark: u8,
 }
 

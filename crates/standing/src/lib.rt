@@ -86,11 +86,11 @@ pub struct Bench {
 pub struct Playing {
     pub bench: Bench,
     pub reading: Reading,
-    // the record before the line, the number that came, and what is not met
+    // the record before the line, the number that came, and what is not met. A number of the papers and no error: a line says one, of a chip, a file or the store
     pub before: Chip,
     pub number: u8,
     pub verdict: Verdict,
-    // of a question with expected bytes: the first place that holds another, or as many as were compared
+    // of a question with expected bytes: the first place that holds another, or as many as were compared (`First` of expecting says it so)
     pub held: usize,
 }
 

@@ -10,7 +10,7 @@ ghost use Rattle.station_bench.specs.Boundary.{StorePromise, FindPromise};
 use rules::Chip;
 use stations::StoreRecord;
 
-// What a store tells: how many polls it made, and its number.
+// What a store tells: how many polls it made, and its number, as in C.
 #[repr(C)]
 #[derive(Clone, Copy)]
 pub struct Stored {

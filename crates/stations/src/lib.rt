@@ -3,7 +3,7 @@
 
 use rules::Chip;
 
-// The desk's record: the chip, and the number and the polls of the last call.
+// The desk's record: the chip, and the number and the polls of the last call. A number, as document 02 has it: it is one of three lists, and C's.
 #[derive(Clone, Copy)]
 pub struct StoreRecord {
     pub chip: Chip,

@@ -11,6 +11,7 @@ pub struct Row {
     pub length: usize,
 }
 
+// A row of no bytes is also what a row that is not told is: no Option, since the definitions (specs/Rows, `blank`) and the promises above say it so.
 #[tactic(auto, unfolding(crate::specs::Rows::blank))]
 pub fn empty() -> Row
     ensures { result ≡ blank }
