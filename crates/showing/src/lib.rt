@@ -2,9 +2,11 @@
 #![tactic(auto)]
 
 ghost use Rattle.std.specs.Prelude.{◌≡◌};
+ghost use Rattle.grammar.specs.Verbs as verbs;
 ghost use Rattle.showing.specs.Counts.{dumped, shown, rows_of, reply_shown, dump_shown, count_of};
 
 use byte_text::count_within;
+use grammar::Verb;
 
 // How many bytes a dump is of: none past the memory's end.
 #[tactic(auto, unfolding(crate::specs::Counts::dumped))]
@@ -51,17 +53,17 @@ pub fn dump_shown(full: bool, slots: [u64; 24]) -> usize
 
 // How many rows of bytes a line has at most.
 #[tactic(auto, unfolding(crate::specs::Counts::count_of))]
-pub fn count(verb: u8, full: bool, slots: [u64; 24]) -> usize
-    ensures { result ≡ count_of verb full slots }
+pub fn count(verb: Verb, full: bool, slots: [u64; 24]) -> usize
+    ensures { result ≡ count_of (verbs.number verb) full slots }
 {
     let wanted = slots[1] as usize;
     match verb {
-        1 => rows_of(reply_shown(full, wanted)),
-        5 => 6,
-        7 => 256,
-        8 => rows_of(dump_shown(full, slots)),
-        24 => 2,
-        25 => 2049,
+        Verb::Frame => rows_of(reply_shown(full, wanted)),
+        Verb::Status => 6,
+        Verb::Locks => 256,
+        Verb::Dump => rows_of(dump_shown(full, slots)),
+        Verb::Find => 2,
+        Verb::Stations => 2049,
         _ => 0,
     }
 }
