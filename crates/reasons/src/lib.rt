@@ -2,24 +2,26 @@
 #![tactic(auto)]
 
 ghost use Rattle.std.specs.Prelude.{◌≡◌, get_or};
+ghost use Rattle.grammar.specs.Verbs as verbs;
 ghost use Rattle.reasons.specs.Reasons.{refused, number_row, why_row, number_unmet, unmet_row, expected_from, came_row, came_at};
 
 use expecting::Verdict;
+use grammar::Verb;
 use rows::Row;
 use rules::Chip;
 
 // A frame, a completion or a power cut that was refused.
 #[tactic(auto, unfolding(crate::specs::Reasons::refused))]
-fn is_refused(verb: u8, number: u8) -> bool
-    ensures { result ≡ refused verb number }
+fn is_refused(verb: Verb, number: u8) -> bool
+    ensures { result ≡ refused (verbs.number verb) number }
 {
-    matches!(verb, 1..=3) && number != 0
+    matches!(verb, Verb::Frame | Verb::Done | Verb::Cut) && number != 0
 }
 
 // The number's line in document 01.
 #[tactic(auto, unfolding(crate::specs::Reasons::number_row))]
-pub fn number(verb: u8, number: u8) -> Row
-    ensures { result ≡ number_row verb number }
+pub fn number(verb: Verb, number: u8) -> Row
+    ensures { result ≡ number_row (verbs.number verb) number }
 {
     if is_refused(verb, number) {
         return rows::below(24 + (number as usize).min(13), 0, 0, 0);
@@ -30,7 +32,7 @@ pub fn number(verb: u8, number: u8) -> Row
 // And what of it holds here, by the record before the event.
 #[tactic(auto, unfolding(crate::specs::Reasons::why_row))]
 pub fn why(
-    verb: u8,
+    verb: Verb,
     number: u8,
     array: usize,
     security: usize,
@@ -39,7 +41,7 @@ pub fn why(
     before: Chip,
     sent: &[u8],
 ) -> Row
-    ensures { result ≡ why_row verb number array security wanted marks before sent.now }
+    ensures { result ≡ why_row (verbs.number verb) number array security wanted marks before sent.now }
 {
     let rest = before.rest;
     if is_refused(verb, number) {
