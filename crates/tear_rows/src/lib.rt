@@ -3,26 +3,28 @@
 
 ghost use Rattle.std.specs.Prelude.{◌≡◌, ◌<◌};
 ghost use Rattle.describing.specs.Works.{told};
+ghost use Rattle.grammar.specs.Verbs as verbs;
 ghost use Rattle.tear_rows.specs.Tears.{stops, stopped_row, byte_row, torn_of, unused, torn_row};
 
+use grammar::Verb;
 use rows::Row;
 use rules::Work;
 
 // The line stopped what ran: a power cut, or a 99.
 #[tactic(auto, unfolding(crate::specs::Tears::stops))]
-fn stops(verb: u8, number: u8, ran: Work, sent: &[u8]) -> bool
-    ensures { result ≡ stops verb number ran sent.now }
+fn stops(verb: Verb, number: u8, ran: Work, sent: &[u8]) -> bool
+    ensures { result ≡ stops (verbs.number verb) number ran sent.now }
 {
-    let by = verb == 3 || verb == 1 && describing::opcode_of(sent) == 0x99;
+    let by = verb == Verb::Cut || verb == Verb::Frame && describing::opcode_of(sent) == 0x99;
     number == 0 && !blocks::is_nothing(ran) && by
 }
 
 // Of a 99: what it stopped, and after how much of it. The row of a power cut says that itself.
 #[tactic(auto, unfolding(crate::specs::Tears::stopped_row))]
-pub fn stopped(verb: u8, number: u8, ran: Work, k: u64, sent: &[u8]) -> Row
-    ensures { result ≡ stopped_row verb number ran k sent.now }
+pub fn stopped(verb: Verb, number: u8, ran: Work, k: u64, sent: &[u8]) -> Row
+    ensures { result ≡ stopped_row (verbs.number verb) number ran k sent.now }
 {
-    if verb == 1 && stops(verb, number, ran, sent) {
+    if verb == Verb::Frame && stops(verb, number, ran, sent) {
         return describing::work_cut(rows::plain(1, 0, 0, 0), ran, k);
     }
     rows::empty()
@@ -55,13 +57,13 @@ fn torn_of(ran: Work, k: u64, m: u64, array: &[u8], security: &[u8]) -> Row
 
 // What was said and stopped nothing.
 #[tactic(auto, unfolding(crate::specs::Tears::unused))]
-fn unused(verb: u8, number: u8, k: u64, v: u64) -> Row
-    ensures { result ≡ unused verb number k v }
+fn unused(verb: Verb, number: u8, k: u64, v: u64) -> Row
+    ensures { result ≡ unused (verbs.number verb) number k v }
 {
-    if verb == 1 && (k != 0 || v != 0) {
+    if verb == Verb::Frame && (k != 0 || v != 0) {
         return rows::below(318, 0, 0, 0);
     }
-    if verb == 3 && number == 0 && v != 0 {
+    if verb == Verb::Cut && number == 0 && v != 0 {
         return rows::below(317, v % 256, k, 0);
     }
     rows::empty()
@@ -70,7 +72,7 @@ fn unused(verb: u8, number: u8, k: u64, v: u64) -> Row
 // The torn byte, or that what was said is not used.
 #[tactic(auto, unfolding(crate::specs::Tears::torn_row))]
 pub fn torn(
-    verb: u8,
+    verb: Verb,
     number: u8,
     ran: Work,
     slots: [u64; 24],
@@ -78,7 +80,7 @@ pub fn torn(
     array: &[u8],
     security: &[u8],
 ) -> Row
-    ensures { result ≡ torn_row verb number ran slots sent.now array.now security.now }
+    ensures { result ≡ torn_row (verbs.number verb) number ran slots sent.now array.now security.now }
 {
     let k = slots[7];
     let v = slots[9];
