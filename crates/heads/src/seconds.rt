@@ -1,7 +1,9 @@
 // The row right below the first one. specs/Heads.antt.
 ghost use Rattle.std.specs.Prelude.{◌≡◌};
+ghost use Rattle.grammar.specs.Verbs as verbs;
 ghost use Rattle.heads.specs.Heads.{answer_below, suspended_row, allowed_row, second_row};
 
+use grammar::Verb;
 use rows::Row;
 use rules::Work;
 
@@ -49,7 +51,7 @@ fn allowed_row(place: u8) -> Row
 #[tactic(auto, unfolding(crate::specs::Heads::second_row))]
 pub fn second(
     line: u64,
-    verb: u8,
+    verb: Verb,
     wanted: usize,
     number: u8,
     aside: Work,
@@ -58,12 +60,12 @@ pub fn second(
     reply: &[u8],
     marks: &[u8],
 ) -> Row
-    ensures { result ≡ second_row verb line wanted number aside place sent.now reply.now marks.now }
+    ensures { result ≡ second_row (verbs.number verb) line wanted number aside place sent.now reply.now marks.now }
 {
     match verb {
-        1 => answer_below(line, wanted, number, sent, reply, marks),
-        6 => suspended_row(aside),
-        31 => allowed_row(place),
+        Verb::Frame => answer_below(line, wanted, number, sent, reply, marks),
+        Verb::Work => suspended_row(aside),
+        Verb::Wrong => allowed_row(place),
         _ => rows::empty(),
     }
 }

@@ -1,7 +1,9 @@
 // The rows of a status. specs/Statuses.antt.
 ghost use Rattle.std.specs.Prelude.{◌≡◌, ◌≤◌};
+ghost use Rattle.grammar.specs.Verbs as verbs;
 ghost use Rattle.heads.specs.Statuses.{status_bit, configuration_row, bit_of, bit_row, protocol_name, enable_row, protocol_row, protocol_told};
 
+use grammar::Verb;
 use rows::Row;
 use rules::{Burst, Rest};
 
@@ -18,10 +20,10 @@ pub fn status_bit(rest: Rest, i: usize) -> Row
 }
 
 #[tactic(auto, unfolding(crate::specs::Statuses::configuration_row))]
-pub fn configuration(verb: u8, rest: Rest) -> Row
-    ensures { result ≡ configuration_row verb rest }
+pub fn configuration(verb: Verb, rest: Rest) -> Row
+    ensures { result ≡ configuration_row (verbs.number verb) rest }
 {
-    if verb == 5 {
+    if verb == Verb::Status {
         return rows::below(147, registers::configuration_of(rest) as u64, 0, 0);
     }
     rows::empty()
@@ -42,11 +44,11 @@ fn bit_of(i: usize) -> u32
 
 // A bit of the configuration by its name, where it is set.
 #[tactic(auto, unfolding(crate::specs::Statuses::bit_row))]
-pub fn bit(verb: u8, rest: Rest, i: usize) -> Row
-    ensures { result ≡ bit_row verb rest i }
+pub fn bit(verb: Verb, rest: Rest, i: usize) -> Row
+    ensures { result ≡ bit_row (verbs.number verb) rest i }
 {
     let set = blocks::bit_at(registers::configuration_of(rest) as u64, bit_of(i));
-    if verb == 5 && set {
+    if verb == Verb::Status && set {
         return rows::below(148 + i.min(2), 0, 0, 0);
     }
     rows::empty()
@@ -78,10 +80,10 @@ fn protocol_row(sqi: bool, enable: bool, ba: bool, b: Burst) -> Row
 }
 
 #[tactic(auto, unfolding(crate::specs::Statuses::protocol_told))]
-pub fn protocol(verb: u8, sqi: bool, enable: bool, ba: bool, b: Burst) -> Row
-    ensures { result ≡ protocol_told verb sqi enable ba b }
+pub fn protocol(verb: Verb, sqi: bool, enable: bool, ba: bool, b: Burst) -> Row
+    ensures { result ≡ protocol_told (verbs.number verb) sqi enable ba b }
 {
-    if verb == 5 {
+    if verb == Verb::Status {
         return protocol_row(sqi, enable, ba, b);
     }
     rows::empty()
