@@ -7,8 +7,10 @@ mod replies;
 mod unhelds;
 
 ghost use Rattle.std.specs.Prelude.{◌≡◌};
+ghost use Rattle.grammar.specs.Verbs as verbs;
 ghost use Rattle.byte_rows.specs.Bytes.{byte_row, hint_row, more_row};
 
+use grammar::Verb;
 use rows::Row;
 use rules::Rest;
 pub use unhelds::unheld;
@@ -16,7 +18,7 @@ pub use unhelds::unheld;
 // Row i of a line's bytes.
 #[tactic(auto, unfolding(crate::specs::Bytes::byte_row))]
 pub fn row(
-    verb: u8,
+    verb: Verb,
     i: usize,
     full: bool,
     slots: [u64; 24],
@@ -28,15 +30,15 @@ pub fn row(
     array: &[u8],
     security: &[u8],
 ) -> Row
-    ensures { result ≡ byte_row verb i full slots number rest sent.now reply.now marks.now array.now security.now }
+    ensures { result ≡ byte_row (verbs.number verb) i full slots number rest sent.now reply.now marks.now array.now security.now }
 {
     let locks = rest.locks;
     let wanted = slots[1] as usize;
     match verb {
-        1 => replies::row(full, wanted, number, i, sent, reply, marks),
-        5 => heads::status_bit(rest, i),
-        7 => locks::row(i, locks.protection, locks.permanent),
-        8 => dumps::row(full, slots, i, array, security),
+        Verb::Frame => replies::row(full, wanted, number, i, sent, reply, marks),
+        Verb::Status => heads::status_bit(rest, i),
+        Verb::Locks => locks::row(i, locks.protection, locks.permanent),
+        Verb::Dump => dumps::row(full, slots, i, array, security),
         _ => rows::empty(),
     }
 }
@@ -55,7 +57,7 @@ fn hint(place: u8, word: [u8; 24], length: usize) -> Row
 // What is left out, the lock-down, or a hint.
 #[tactic(auto, unfolding(crate::specs::Bytes::more_row))]
 pub fn more(
-    verb: u8,
+    verb: Verb,
     full: bool,
     slots: [u64; 24],
     number: u8,
@@ -65,14 +67,14 @@ pub fn more(
     length: usize,
     sent: &[u8],
 ) -> Row
-    ensures { result ≡ more_row verb full slots number wpld place word length sent.now }
+    ensures { result ≡ more_row (verbs.number verb) full slots number wpld place word length sent.now }
 {
     let wanted = slots[1] as usize;
     match verb {
-        1 => replies::more(full, wanted, number, sent),
-        7 => locks::down(wpld),
-        8 => dumps::more(full, slots),
-        31 => hint(place, word, length),
+        Verb::Frame => replies::more(full, wanted, number, sent),
+        Verb::Locks => locks::down(wpld),
+        Verb::Dump => dumps::more(full, slots),
+        Verb::Wrong => hint(place, word, length),
         _ => rows::empty(),
     }
 }

@@ -1,10 +1,12 @@
 // A memory, or the status, that is not as expected. specs/Unheld.antt.
 ghost use Rattle.std.specs.Prelude.{◌≡◌, ◌<◌, length};
 ghost use Rattle.byte_rows.specs.Bytes.{memory_of};
+ghost use Rattle.grammar.specs.Verbs as verbs;
 ghost use Rattle.grammar.specs.Slots.{from, size};
 ghost use Rattle.fields.specs.Records.{slot};
 ghost use Rattle.byte_rows.specs.Unheld.{held_row, compared_row, status_row, unheld_row};
 
+use grammar::Verb;
 use rows::Row;
 use rules::Rest;
 
@@ -67,7 +69,7 @@ fn dump_row(held: usize, slots: [u64; 24], array: &[u8], security: &[u8], expect
 
 #[tactic(auto, unfolding(crate::specs::Unheld::unheld_row))]
 pub fn unheld(
-    verb: u8,
+    verb: Verb,
     held: usize,
     slots: [u64; 24],
     rest: Rest,
@@ -75,11 +77,11 @@ pub fn unheld(
     security: &[u8],
     expected: &[u8],
 ) -> Row
-    ensures { result ≡ unheld_row verb held slots rest array.now security.now expected.now }
+    ensures { result ≡ unheld_row (verbs.number verb) held slots rest array.now security.now expected.now }
 {
     match verb {
-        5 => status_row(held, rest, expected),
-        8 => dump_row(held, slots, array, security, expected),
+        Verb::Status => status_row(held, rest, expected),
+        Verb::Dump => dump_row(held, slots, array, security, expected),
         _ => rows::empty(),
     }
 }
