@@ -2,8 +2,10 @@
 #![tactic(auto)]
 
 ghost use Rattle.std.specs.Prelude.{◌≡◌};
+ghost use Rattle.grammar.specs.Verbs as verbs;
 ghost use Rattle.ordering.specs.Order.{nothing, begun, is_over, part_after, remark_rows, rows_of, after};
 
+use grammar::Verb;
 use standing::Playing;
 
 // The parts, in their order. A part has one row or more; a row of no bytes is none.
@@ -96,8 +98,8 @@ fn remark_rows(n: usize) -> usize
 }
 
 // How many rows a part has.
-fn rows_of(part: Part, remark: usize, verb: u8, full: bool, slots: [u64; 24]) -> usize
-    ensures { result ≡ rows_of part remark verb full slots }
+fn rows_of(part: Part, remark: usize, verb: Verb, full: bool, slots: [u64; 24]) -> usize
+    ensures { result ≡ rows_of part remark (verbs.number verb) full slots }
 {
     match part {
         Part::Remark => remark_rows(remark.min(65537)),
@@ -119,7 +121,7 @@ pub fn next(p: Playing, at: Place) -> Place
     let slots = l.slots;
     let part = at.part;
     let row = at.row.wrapping_add(1);
-    let n = rows_of(part, l.remark, u8::from(l.verb), bench.full, slots);
+    let n = rows_of(part, l.remark, l.verb, bench.full, slots);
     if row < n {
         return Place { part, row };
     }
