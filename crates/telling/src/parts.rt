@@ -1,8 +1,10 @@
 // A row of what is told. specs/Parts.antt.
 ghost use Rattle.std.specs.Prelude.{◌≡◌};
 ghost use Rattle.standing.specs.Benches.{front};
+ghost use Rattle.grammar.specs.Verbs as verbs;
 ghost use Rattle.telling.specs.Parts.{remark_part, torn_part, part_row, row_of};
 
+use grammar::Verb;
 use lending::marks_given;
 use ordering::{Part, Place};
 use rows::Row;
@@ -25,7 +27,7 @@ fn remark_row(remark: &[u8], i: usize) -> Row
 #[tactic(auto, unfolding(crate::specs::Parts::torn_part))]
 fn torn_row(
     i: usize,
-    verb: u8,
+    verb: Verb,
     number: u8,
     ran: Work,
     slots: [u64; 24],
@@ -33,7 +35,7 @@ fn torn_row(
     array: &[u8],
     security: &[u8],
 ) -> Row
-    ensures { result ≡ torn_part i verb number ran slots sent.now array.now security.now }
+    ensures { result ≡ torn_part i (verbs.number verb) number ran slots sent.now array.now security.now }
 {
     if i == 0 {
         return tear_rows::stopped(verb, number, ran, slots[7], sent);
@@ -73,7 +75,7 @@ fn part_row(
     let slots = l.slots;
     let word = l.word;
     let wanted = slots[1];
-    let verb = u8::from(l.verb);
+    let verb = l.verb;
     match part {
         Part::Remark => remark_row(remark, i),
         Part::Head => heads::first(bench.line, l, p.number, ran, rest, sent, reply, marks),
