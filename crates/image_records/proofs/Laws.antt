@@ -1,6 +1,7 @@
 -- Two bytes of a list, a sum that goes on, and bytes put into a list. Assumes nothing.
-use Rattle.std.proofs.Common.{◌≡◌, ℕ, suc, ◌+◌, ◌-◌, ◌*◌, ◌/◌, ◌%◌, ◌<◌, ◌≤◌, List, [], ◌∷◌, ◌++◌, length, get_or, take, drop, set, sym, ap, ◌∙◌, append_assoc, append-nil, add-mul, arith, length-append, length-drop, take-append-drop, length-take-le, get_or-drop, take_all, drop-cons, get_or-take, take-take, drop-drop, take_at, ext_get_or, take-add, drop_at}
-use lib.Seq.{paste, take-paste, sets-eq, take-append-le, length_paste_head}
+use Rattle.std.proofs.Common.{◌≡◌, refl, ℕ, suc, ◌+◌, ◌-◌, ◌*◌, ◌/◌, ◌%◌, ◌<◌, ◌≤◌, List, [], ◌∷◌, ◌++◌, length, get_or, take, drop, sym, ap, ◌∙◌, append_assoc, append-nil, add-mul, arith, length-append, length-drop, take-append-drop, length-take-le, get_or-drop, take_all, drop-cons, get_or-take, take-take, drop-drop, take_at, ext_get_or, take-add, drop_at}
+use borrow.Rule.Slice.PartMut.{put_mid}
+use lib.Seq.{paste, take-paste, take-append-le, length_paste_head}
 use Rattle.std.specs.List.{fold}
 use Rattle.memory.specs.Patched.{Patched}
 use Rattle.image.specs.Form.{high_first, number, total, sum, joined}
@@ -18,10 +19,20 @@ number_at l at h =
     let z : 0 * 65536 + (get_or l at 0 * 256 + get_or l (at + 1) 0) ≡ get_or l at 0 * 256 + get_or l (at + 1) 0 = omega arith in
     sym (ap number p ∙ number_two 0 (get_or l at 0) (get_or l (at + 1) 0) ∙ z)
 
--- two stores put a number's two bytes
-pub put_two : (l : List ℕ) (at x : ℕ) → at + 2 ≤ length l → set (set l at (x / 256 % 256)) (at + 1) (x % 256) ≡ paste l at (high_first 2 x) 2
+-- n bytes copied over a part of n bytes
+pub copied : (l s : List ℕ) (at n k : ℕ) → k ≡ n → length s ≡ n → put_mid at k l s ≡ paste l at s n
+copied l s at n k e size =
+    rw e
+    ((λ i. take at l ++ (sym (take_all n s (omega arith)) i ++ drop-drop n at l i))
+    ∙ sym (append_assoc (take at l) (take n s) (drop (at + n) l)))
+
+-- the two low bytes of a number
+pub put_two : (l : List ℕ) (at x k : ℕ) → k ≡ 2 → put_mid at k l (x % 65536 / 256 % 256 ∷ x % 65536 % 256 ∷ []) ≡ paste l at (high_first 2 x) 2
 unfolding high_first
-put_two l at x h = let e : suc at ≡ at + 1 = omega arith in rw (sym e) (sets-eq (x / 256 % 256 ∷ x % 256 ∷ []) l at h)
+put_two l at x k e =
+    let a : x % 65536 / 256 % 256 ≡ x / 256 % 256 = omega arith in
+    let b : x % 65536 % 256 ≡ x % 256 = omega arith in
+    copied l (x % 65536 / 256 % 256 ∷ x % 65536 % 256 ∷ []) at 2 k e refl ∙ (λ i. paste l at (a i ∷ b i ∷ []) 2)
 
 -- ---- a sum
 

@@ -13,7 +13,7 @@ pub fn two(l: &[u8], at: usize) -> u64
     ensures value { result ≡ number (part l.now at 2) }
     ensures small { result < 65536 }
 {
-    u64::from(l[at]) * 256 + u64::from(l[at + 1])
+    u64::from(u16::from_be_bytes([l[at], l[at + 1]]))
 }
 
 // A number in two bytes, high byte first.
@@ -21,8 +21,7 @@ pub fn put_two(l: &mut [u8], at: usize, x: u64)
     requires { at + 2 ≤ length l.old }
     ensures { l.new ≡ paste l.old at (high_first 2 x) 2 }
 {
-    l[at] = (x / 256 % 256) as u8;
-    l[at + 1] = (x % 256) as u8;
+    l[at..at + 2].copy_from_slice(&((x % 0x1_0000) as u16).to_be_bytes());
 }
 
 // The sum of the bytes between two places, which wraps at 65,536. No branch, so that the loop becomes wide additions.

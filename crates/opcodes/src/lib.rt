@@ -75,20 +75,18 @@ pub fn form_of(op: u8) -> Form
 // ---- the bytes of a frame
 
 // Byte i of a frame, the opcode's being byte 0; 0 past its end.
+fn byte_of(sent: &[u8], i: usize) -> u8
+    ensures { result ≡ sent_byte sent.now i }
+{
+    sent.get(i).copied().unwrap_or(0)
+}
+
+// The same as a number.
 pub fn sent_byte(sent: &[u8], i: usize) -> u64
     ensures value { result ≡ sent_byte sent.now i }
     ensures small { result < 256 }
 {
-    u64::from(sent.get(i).copied().unwrap_or(0))
-}
-
-// Two bytes from byte i on, highest first.
-fn pair_of(sent: &[u8], i: usize) -> u64
-    requires { i < 65536 }
-    ensures value { result ≡ sent_byte sent.now i * 0x100 + sent_byte sent.now (i + 1) }
-    ensures small { result < 0x10000 }
-{
-    sent_byte(sent, i) * 0x100 + sent_byte(sent, i + 1)
+    u64::from(byte_of(sent, i))
 }
 
 // The array address of a frame.
@@ -96,7 +94,7 @@ pub fn address_of(sent: &[u8]) -> usize
     ensures value { result ≡ address sent.now }
     ensures inside { result < array_size_lem }
 {
-    let a = sent_byte(sent, 1) * 0x10000 + pair_of(sent, 2);
+    let a = u32::from_be_bytes([0, byte_of(sent, 1), byte_of(sent, 2), byte_of(sent, 3)]);
     (a % 0x20_0000) as usize
 }
 
@@ -105,16 +103,22 @@ pub fn security_address_of(sent: &[u8]) -> usize
     ensures value { result ≡ security_address sent.now }
     ensures inside { result < security_size_lem }
 {
-    let a = pair_of(sent, 1);
-    (a % 2048) as usize
+    let a = u16::from_be_bytes([byte_of(sent, 1), byte_of(sent, 2)]);
+    usize::from(a % 2048)
 }
 
 // The register that a frame sends.
 pub fn six_of(sent: &[u8]) -> u64
     ensures { result ≡ six sent.now }
 {
-    let high = pair_of(sent, 1);
-    let middle = pair_of(sent, 3);
-    let low = pair_of(sent, 5);
-    high * 0x1_0000_0000 + middle * 0x1_0000 + low
+    u64::from_be_bytes([
+        0,
+        0,
+        byte_of(sent, 1),
+        byte_of(sent, 2),
+        byte_of(sent, 3),
+        byte_of(sent, 4),
+        byte_of(sent, 5),
+        byte_of(sent, 6),
+    ])
 }

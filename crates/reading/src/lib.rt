@@ -149,11 +149,7 @@ pub fn read_security(security: &[u8], at: usize, reply: &mut [u8])
 fn protection_byte(p: u64, i: usize) -> u8
     ensures { result ≡ pick (ltb i 6) (p / 2 ^ (8 * (5 - i)) % 256) 0 }
 {
-    if i < 6 {
-        ((p >> (8 * (5 - i))) % 256) as u8
-    } else {
-        0
-    }
+    p.to_be_bytes()[2..].get(i).copied().unwrap_or(0)
 }
 
 pub fn read_protection(p: u64, reply: &mut [u8])

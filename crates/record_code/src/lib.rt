@@ -75,16 +75,7 @@ fn get_word(coded: &[u8], at: usize) -> u64
     requires { at + 8 ≤ length coded.now }
     ensures { result ≡ word coded.now at }
 {
-    u64::from_le_bytes([
-        coded[at],
-        coded[at + 1],
-        coded[at + 2],
-        coded[at + 3],
-        coded[at + 4],
-        coded[at + 5],
-        coded[at + 6],
-        coded[at + 7],
-    ])
+    u64::from_le_bytes(*coded[at..].first_chunk::<8>().unwrap())
 }
 
 // A byte of the code as a kind.

@@ -39,7 +39,7 @@ pub fn shape_of(code: u8) -> Shape
 pub fn length_of(low: u8, middle: u8, high: u8) -> usize
     ensures { result ≡ length24 low middle high }
 {
-    low as usize + middle as usize * 256 + high as usize * 65536
+    u32::from_le_bytes([low, middle, high, 0]) as usize
 }
 
 // Whether both lengths are within the chip's sizes.

@@ -1,10 +1,9 @@
 -- Assumes nothing.
-use Rattle.std.proofs.Common.{arith, length-set}
+use Rattle.std.proofs.Common.{◌+◌, ◌-◌, ap, ◌∙◌, arith}
+use borrow.Rule.Slice.PartMut.{put_mid}
 use Rattle.image_records.proofs.Laws.{put_two}
 use Rattle.image_records.proofs.put_two.Goals as goal
 
-pub bounds-l-at-2 : goal.bounds-l-at-2
-bounds-l-at-2 c = let h = c.requires in rw length-set (omega arith)
-
 pub returns : goal.returns
-returns c = let a = c.args in put_two a.l.now a.at a.x c.requires
+returns c = let a = c.args in
+    ap (put_mid a.at (a.at + 2 - a.at) a.l.now) (c.copy_from_slice.ensures.after ∙ c.to_be_bytes.ensures) ∙ put_two a.l.now a.at a.x (a.at + 2 - a.at) (omega arith)
