@@ -17,7 +17,7 @@ const SECURITY_SIZE: usize = 2048;
 fn remainder(i: usize, n: usize) -> usize
     ensures { result ≡ pick (eqb n 0) 0 (i % n) }
 {
-    if n == 0 { 0 } else { i % n }
+    i.checked_rem(n).unwrap_or(0)
 }
 
 // The n places from `start` on go past the end of so many.

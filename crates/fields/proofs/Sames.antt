@@ -1,6 +1,6 @@
 -- Two records of which same_rest says that they are the same are the same but for their buffers. Assumes nothing.
 use mathlib.Core.Path.{◌≡◌, refl, sym, ap, ◌∙◌}
-use mathlib.Core.Bool.{Bool, true, false, ◌&&◌}
+use mathlib.Core.Bool.{Bool, true, false, ◌&&◌, beq}
 use lib.Dec.{eqb}
 use borrow.Author.Tests.{eqb-true}
 use Rattle.rules.specs.declared.Burst.{Burst}
@@ -15,6 +15,13 @@ use Rattle.rules.proofs.Fields.{burst_back}
 use Rattle.numbering.specs.Numbering.{kind_of, number_of, work_of}
 use Rattle.numbering.proofs.Works.{work_back}
 use Rattle.fields.specs.Records.{same_work, same_flags_lem, same_rest_lem}
+
+-- as flags and as numbers
+pub flag_number : (a b : Bool) → beq a b ≡ eqb (num a) (num b)
+flag_number true true = refl
+flag_number true false = refl
+flag_number false true = refl
+flag_number false false = refl
 
 same_flag : (a b : Bool) → eqb (num a) (num b) ≡ true → a ≡ b
 same_flag true true e = refl

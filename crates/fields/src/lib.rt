@@ -1,8 +1,7 @@
 // The record that a line's slots say. specs/Records.antt.
 #![tactic(auto)]
 
-ghost use Rattle.std.specs.Prelude.{◌≡◌, eqb};
-ghost use Rattle.rules.specs.Words.{num};
+ghost use Rattle.std.specs.Prelude.{◌≡◌};
 ghost use Rattle.fields.specs.Records.{record_of, same_work, same_flags_lem, same_rest_lem, same_record_lem};
 
 use numbering::{burst_byte, burst_of, kind_of, number_of, work_of};
@@ -47,25 +46,19 @@ fn same_work(a: Work, b: Work) -> bool
     (kind_of(a) == kind_of(b)) & (number_of(a) == number_of(b))
 }
 
-fn same_flag(a: bool, b: bool) -> bool
-    ensures { result ≡ eqb (num a) (num b) }
-{
-    a == b
-}
-
 // Flag by flag and not the derived ==: that the two agree did not prove.
-#[tactic(auto, unfolding(crate::specs::Records::same_flags_lem))]
+#[tactic(auto, using(crate::proofs::Sames::flag_number), unfolding(crate::specs::Records::same_flags_lem))]
 fn same_flags(a: Flags, b: Flags) -> bool
     ensures { result ≡ same_flags_lem a b }
 {
-    same_flag(a.sqi, b.sqi)
-        & same_flag(a.wel, b.wel)
-        & same_flag(a.ioc, b.ioc)
-        & same_flag(a.wpen, b.wpen)
-        & same_flag(a.wpld, b.wpld)
-        & same_flag(a.sec, b.sec)
-        & same_flag(a.enable, b.enable)
-        & same_flag(a.ba, b.ba)
+    (a.sqi == b.sqi)
+        & (a.wel == b.wel)
+        & (a.ioc == b.ioc)
+        & (a.wpen == b.wpen)
+        & (a.wpld == b.wpld)
+        & (a.sec == b.sec)
+        & (a.enable == b.enable)
+        & (a.ba == b.ba)
 }
 
 // Both are the same but for their buffers.

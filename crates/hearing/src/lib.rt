@@ -137,13 +137,10 @@ fn after_code(b: u8) -> Heard
 {
     let shape = serprog::shape_of(b);
     let heard = Heard {
-        mode: Mode::Code,
         command: shape.command,
         parameters: shape.parameters,
         sends: shape.sends,
-        given: [0; 6],
-        left: 0,
-        due: None,
+        ..listening()
     };
     if shape.parameters == 0 {
         return heard.ended(Due::Answer);

@@ -6,7 +6,7 @@ ghost use Rattle.image_posts.specs.Images.{Saved, with_chip, Loaded};
 
 use posting::{Carried, Report};
 use rules::Chip;
-use standing::Playing;
+use standing::{Bench, Playing};
 
 // The image of the chip, with as much of the memories as is lent.
 pub fn save(p: Playing, array: &[u8], security: &[u8], file: &mut [u8]) -> u8
@@ -22,9 +22,7 @@ pub fn save(p: Playing, array: &[u8], security: &[u8], file: &mut [u8]) -> u8
 fn with_chip(p: Playing, c: Chip) -> Playing
     ensures { result ≡ with_chip p c }
 {
-    let mut bench = p.bench;
-    bench.chip = c;
-    standing::with_bench(p, bench)
+    standing::with_bench(p, Bench { chip: c, ..p.bench })
 }
 
 // The chip in the file, into as much of the memories as is lent; and what is wrong with the file first.

@@ -2,25 +2,27 @@
 #![tactic(auto)]
 
 ghost use Rattle.std.specs.Prelude.{◌≡◌, ◌+◌, ◌≤◌, ◌<◌};
-ghost use Rattle.rules.specs.Words.{pick};
+ghost use Rattle.rules.specs.Words.{pick, bit};
+ghost use Rattle.rules.specs.Blocks.{block_at};
 ghost use Rattle.locked.specs.Locked.{locked_from, block_why, locked_block, locked_why};
 
 use page::form;
 use rules::{Block, Rest};
 use writing::Row;
 
+fn is_locked(p: u64, n: usize) -> bool
+    requires { n < 40 }
+    ensures { result ≡ bit (block_at n).write p }
+{
+    blocks::bit_at(p, blocks::block_at(n).write)
+}
+
 // The first block of the table whose write lock is set.
 fn first_locked(p: u64) -> usize
     ensures value { result ≡ locked_from 40 p 0 }
     ensures inside { result < 40 }
 {
-    for i in 0..40 {
-        let b = blocks::block_at(i);
-        if blocks::bit_at(p, b.write) {
-            return i;
-        }
-    }
-    0
+    (0..40).find(|&n| is_locked(p, n)).unwrap_or(0)
 }
 
 fn locked_block(p: u64, op: u8, sent: &[u8]) -> usize

@@ -9,16 +9,16 @@ use Rattle.rules.specs.declared.Refusal.{Refusal}
 use Rattle.rules.specs.Words.{lent, written}
 use Rattle.rules.specs.Registers.{busy}
 use Rattle.rules.specs.Frames.{opcode}
-use Rattle.std.specs.Prelude.{Ok, Err}
+use Rattle.std.specs.Prelude.{Ok, Err, is_ok}
 use Rattle.rules.specs.Numbers.{Answer, answer_number, State}
 use Rattle.rules.specs.Machine.{frame, left}
 use Rattle.rules.specs.Promises.{Carried, Returned, bench_of, state_of, frame_of, outcome_of, FramePromise, CompletionPromise}
 use Rattle.rules.specs.Promises as promises
 use Rattle.serprog.specs.Showing.{shown_byte}
 use Rattle.operating.specs.declared.Bench.{Bench}
-use Rattle.operating.specs.Operations.{is_done, due_before, reads_after, settled_state, leaves, finished, operated, SettledPromise}
+use Rattle.operating.specs.Operations.{due_before, reads_after, settled_state, leaves, finished, operated, SettledPromise}
 
-done_number : (a : Answer) → is_done a ≡ eqb (answer_number a) 0
+done_number : (a : Answer) → is_ok a ≡ eqb (answer_number a) 0
 done_number (Ok x) = refl
 done_number (Err Refusal.Malformed) = refl
 done_number (Err Refusal.Empty) = refl
@@ -44,7 +44,7 @@ stays {ends} {s} e = record { outcome = ap (λ (b : Bool). settled_state b (stat
 -- the calls in a row: the opcode, whether the chip was busy and its work ends, the frame, what is shown, whether the chip is busy, the count
 pub operates : (b : Bench) (shown : List ℕ) {op reads : ℕ} {was ends done is : Bool} {s t : promises.Bench} {f : Carried} {g : Returned}
     → op ≡ opcode f.sent → was ≡ busy b.chip.rest → ends ≡ due_before was b.reads op → SettledPromise ends s t → FramePromise t f g
-    → done ≡ is_done g.after.answer
+    → done ≡ is_ok g.after.answer
     → lent shown ≡ written (length g.reply) (λ i. shown_byte b.disguise done op i (get_or g.reply i 0))
     → is ≡ busy g.after.chip.rest → reads ≡ reads_after is b.reads op
     → leaves (record { chip = g.after.chip; reads = reads; disguise = b.disguise }) g.array g.security shown g.marks

@@ -1,10 +1,10 @@
 -- One SPI operation: the completion that is due, one frame of the machine, and what the tool is shown.
-use Rattle.std.specs.Prelude.{ℕ, zero, suc, ◌≡◌, Bool, true, false, ◌&&◌, List, [], ◌∷◌, eqb, Ok, Err}
+use Rattle.std.specs.Prelude.{ℕ, zero, suc, ◌≡◌, Bool, true, false, ◌&&◌, List, [], ◌∷◌, eqb}
 use Rattle.rules.specs.declared.Circumstances.{Circumstances}
 use Rattle.rules.specs.Words.{pick, Lent, lent}
 use Rattle.rules.specs.Registers.{busy}
 use Rattle.rules.specs.Frames.{opcode}
-use Rattle.rules.specs.Numbers.{Answer, State, Frame}
+use Rattle.rules.specs.Numbers.{State, Frame}
 use Rattle.rules.specs.Machine.{Outcome, frame, completion, left}
 use Rattle.rules.specs.Promises.{bench_of, carried_of, state_of, frame_of}
 use Rattle.rules.specs.Promises as promises
@@ -24,10 +24,6 @@ abbrev pub reads_after : Bool → ℕ → ℕ → ℕ
 reads_after busy reads op = pick busy (pick (eqb op 0x05) 1 reads) 0
 
 -- ---- the operation
-
-abbrev pub is_done : Answer → Bool
-is_done (Ok x) = true
-is_done (Err w) = false
 
 abbrev pub settled_state : Bool → State → State
 settled_state ends s = pick ends (left (completion s)) s

@@ -5,12 +5,13 @@ ghost use Rattle.std.specs.Prelude.{◌≡◌};
 ghost use Rattle.rules.specs.Frames.{opcode};
 ghost use Rattle.rules.specs.Registers.{busy};
 ghost use Rattle.rules.specs.Promises.{bench_of};
-ghost use Rattle.operating.specs.Operations.{is_done, due_before, reads_after, untorn, SettledPromise, OperationPromise, AnswerPromise};
+ghost use Rattle.operating.specs.Operations.{due_before, reads_after, untorn, SettledPromise, OperationPromise, AnswerPromise};
 
-use rules::{Chip, Circumstances, Refusal, Tear};
+use rules::{Chip, Circumstances, Tear};
 use serprog::show;
 
-// The chip, how many status reads it has answered since it is busy (0 or 1), and whether the tool is shown the sibling's identity.
+// The chip, how many status reads it has answered since it is busy (0 or 1), and whether the tool is shown the sibling's identity. The reads are a number:
+// `due_before`, `reads_after` and the theorems of proofs/Time count with it.
 #[derive(Clone, Copy)]
 pub struct Bench {
     pub chip: Chip,
@@ -43,12 +44,6 @@ fn is_busy(c: Chip) -> bool
     let works = rest.works;
     let run = works.running;
     !blocks::is_nothing(run)
-}
-
-fn is_done(a: Result<(), Refusal>) -> bool
-    ensures { result ≡ is_done a }
-{
-    a.is_ok()
 }
 
 // Whether the completion comes before this frame.
@@ -123,13 +118,12 @@ pub fn operate(
     let c = settled(old, ends, array, security);
     let x = untorn(b);
     let after = chip::frame(c, array, security, sent, reply, marks, x);
-    let answer = after.answer;
-    show(b.disguise, is_done(answer), op, reply);
+    show(b.disguise, after.answer.is_ok(), op, reply);
     let next = after.chip;
     Bench {
         chip: next,
         reads: reads_after(is_busy(next), b.reads, op),
-        disguise: b.disguise,
+        ..b
     }
 }
 

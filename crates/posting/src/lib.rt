@@ -6,12 +6,12 @@ ghost use Rattle.std.specs.Prelude.{◌≡◌, length};
 ghost use Rattle.rules.specs.Blocks.{array_size_lem};
 ghost use Rattle.standing.specs.Benches.{front};
 ghost use Rattle.raw_image.specs.Raw.{raw_number};
-ghost use Rattle.posting.specs.Posts.{post_of, verdict_of, judged, ended, untouched, RawLoaded, raw_compared};
+ghost use Rattle.posting.specs.Posts.{post_of, judged, ended, untouched, RawLoaded, raw_compared};
 
 use expecting::Verdict;
 use image::Fault;
 use raw_image::Difference;
-use standing::{Deed, Playing, Post};
+use standing::{Bench, Deed, Playing, Post};
 
 // Why the system refused a file.
 #[derive(Clone, Copy)]
@@ -62,40 +62,23 @@ pub fn asked(p: Playing) -> Option<Post>
 
 // ---- what it comes to
 
-fn verdict_of(unmet: bool) -> Verdict
-    ensures { result ≡ verdict_of unmet }
-{
-    Verdict {
-        number: unmet,
-        strict: false,
-        length: false,
-        kept: false,
-        place: 0,
-        compared: 0,
-    }
-}
-
 // A file line is no event. That another number came than the line expects (0 where it says none), that the system refused, or that bytes differ is a difference.
 #[tactic(auto, unfolding(crate::specs::Posts::judged))]
 pub fn judge(p: Playing, t: Option<Trouble>, number: u8, differs: bool) -> Playing
     ensures { result ≡ judged p t number differs }
 {
-    let reading = p.reading;
-    let before = p.before;
-    let l = script::line_of(reading);
-    let slots = l.slots;
+    let slots = script::line_of(p.reading).slots;
     let unmet = t.is_some() | (u64::from(number) != slots[6]);
-    let mut bench = p.bench;
-    let tally = tallies::with_unmet(bench.tally, u64::from(unmet | differs));
-    bench.tally = tally;
-    let verdict = verdict_of(unmet);
+    let tally = tallies::with_unmet(p.bench.tally, u64::from(unmet | differs));
     Playing {
-        bench,
-        reading,
-        before,
+        bench: Bench { tally, ..p.bench },
         number,
-        verdict,
+        verdict: Verdict {
+            number: unmet,
+            ..Verdict::default()
+        },
         held: 0,
+        ..p
     }
 }
 

@@ -67,6 +67,7 @@ pub fn compare(array: &[u8], file: &[u8]) -> Option<Difference>
         return None;
     }
     let mut d = None;
+    // No zip with the array: such a loop has no index, and its invariant, said of the items so far, did not prove.
     for (i, f) in file.iter().enumerate() {
         d = with_place(d, i, *f, array[i]);
     }

@@ -33,19 +33,15 @@ pub fn lock_state(g: usize, protection: u64, permanent: u64) -> usize
 }
 
 // The first group from g on whose locks are not those of s, at most 256.
-#[tactic(auto, using(crate::proofs::Runs::run_on, crate::proofs::Runs::run_over, crate::proofs::Runs::run_whole))]
 fn run_end(g: usize, s: usize, protection: u64, permanent: u64) -> usize
     requires { g ≤ 256 }
     ensures value { result ≡ run_end (256 - g) s protection permanent g }
     ensures inside { result ≤ 256 }
     ensures after { g ≤ result }
 {
-    for h in g..256 {
-        if lock_state(h, protection, permanent) != s {
-            return h;
-        }
-    }
-    256
+    (g..256)
+        .find(|&h| lock_state(h, protection, permanent) != s)
+        .unwrap_or(256)
 }
 
 // Where the run that begins with the group g ends: the group after its last one.

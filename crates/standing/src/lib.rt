@@ -4,7 +4,7 @@
 mod deeds;
 
 ghost use Rattle.std.specs.Prelude.{◌≡◌};
-ghost use Rattle.standing.specs.Benches.{unjudged, begun, with_reading, with_bench, next_line, wrong_counted};
+ghost use Rattle.standing.specs.Benches.{begun, with_reading, with_bench, next_line, wrong_counted};
 
 pub use chip::Event;
 pub use deeds::deed_of;
@@ -94,12 +94,6 @@ pub struct Playing {
     pub held: usize,
 }
 
-fn unjudged() -> Verdict
-    ensures { result ≡ unjudged }
-{
-    Verdict::default()
-}
-
 // Nothing of a script is read.
 pub fn start(strict: bool) -> Playing
     ensures { result ≡ begun strict }
@@ -118,7 +112,7 @@ pub fn start(strict: bool) -> Playing
         reading: script::start(),
         before: chip,
         number: 0,
-        verdict: unjudged(),
+        verdict: Verdict::default(),
         held: 0,
     }
 }
@@ -144,11 +138,11 @@ pub fn next_line(p: Playing) -> Playing
             line: p.bench.line.wrapping_add(1),
             ..p.bench
         },
-        reading: p.reading,
         before: p.bench.chip,
         number: 0,
-        verdict: unjudged(),
+        verdict: Verdict::default(),
         held: 0,
+        ..p
     }
 }
 
