@@ -13,6 +13,7 @@ use Rattle.stations.specs.declared.StoreRecord.{StoreRecord}
 use Rattle.stations.specs.Calls.{list_size}
 use Rattle.script.specs.declared.Line.{Line}
 use Rattle.script.specs.Lines.{line_of}
+use Rattle.expecting.specs.declared.Expectation.{Expectation}
 use Rattle.expecting.specs.declared.Verdict.{Verdict}
 use Rattle.expecting.specs.Expectations.{Judged}
 use Rattle.expecting.proofs.Firsts.{first_one}
@@ -39,8 +40,8 @@ nothing_one κ a x y r r' p q = one p q
 
 -- ---- what is judged
 
-judged_one : (j : Bool) (n : ℕ) (s : Bool) (g e c : ℕ) (R M E K : List ℕ) (v v' : Verdict) → Judged j n s g e c R M E K v → Judged j n s g e c R M E K v' → v ≡ v'
-judged_one j n s g e c R M E K v v' h k =
+judged_one : (e : Expectation) (s : Bool) (g : ℕ) (R M E K : List ℕ) (v v' : Verdict) → Judged e s g R M E K v → Judged e s g R M E K v' → v ≡ v'
+judged_one e s g R M E K v v' h k =
     let number = one h.number_differs k.number_differs in
     let strict = one h.refused k.refused in
     let size = one h.length_differs k.length_differs in
@@ -63,7 +64,7 @@ module _ (p : Playing) (l : Line) (A S F E K R M A₁ A₂ S₁ S₂ R₁ R₂ M
       q = s.result
 
       v : r.account.verdict ≡ r'.account.verdict
-      v = judged_one _ _ _ _ _ _ _ _ _ _ _ _ (subst (λ (n : ℕ). StoreJudged p l n r.account.verdict) (ap (λ (x : StoreRecord). x.number) q) h.judged) k.judged
+      v = judged_one _ _ _ _ _ _ _ _ _ (subst (λ (n : ℕ). StoreJudged p l n r.account.verdict) (ap (λ (x : StoreRecord). x.number) q) h.judged) k.judged
 
   find_one : FindPlayed p l A S E K R M r A₁ S₁ R₁ M₁ → FindPlayed p l A S E K R M r' A₂ S₂ R₂ M₂ → Same r r' A₁ A₂ S₁ S₂ R₁ R₂ M₁ M₂
   find_one h k =
@@ -77,7 +78,7 @@ module _ (p : Playing) (l : Line) (A S F E K R M A₁ A₂ S₁ S₂ R₁ R₂ M
 
       v : r.account.verdict ≡ r'.account.verdict
       v =
-          judged_one _ _ _ _ _ _ _ _ _ _ _ _
+          judged_one _ _ _ _ _ _ _ _ _
           (subst (λ (n : ℕ). FindJudged p l E K n r'.account.bytes r.account.verdict) (ap (λ (x : StoreRecord). x.number) q)
           (subst (λ (b : List ℕ). FindJudged p l E K r.playing.number b r.account.verdict) s.1 h.judged))
           k.judged

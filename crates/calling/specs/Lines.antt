@@ -7,18 +7,18 @@ use Rattle.stations.specs.Slots.{slot_count, data_size, shown_in}
 use Rattle.stations.specs.Calls.{list_size}
 use Rattle.census.specs.declared.Counts.{Counts}
 use Rattle.census.specs.Census.{counts_below, cut_after}
-use Rattle.grammar.specs.Slots as slots
 use Rattle.script.specs.declared.Line.{Line}
 use Rattle.script.specs.Lines.{line_of}
+use Rattle.expecting.specs.declared.Expected.{Expected}
 use Rattle.expecting.specs.declared.Verdict.{Verdict}
 use Rattle.expecting.specs.Expectations.{Judged, unmet}
 use Rattle.tallies.specs.Tallies.{after_event}
-use Rattle.fields.specs.Records.{slot, said}
 use Rattle.standing.specs.declared.Call.{Call}
 use Rattle.standing.specs.declared.Deed.{Deed}
 use Rattle.standing.specs.declared.Playing.{Playing}
 use Rattle.standing.specs.Deeds.{deed_of}
 use Rattle.standing.specs.Benches.{front, bench_of, unjudged}
+use Rattle.standing.specs.Expected.{number_expected, expectation}
 use Rattle.calling.specs.declared.Account.{Account}
 use Rattle.calling.specs.declared.Called.{Called}
 use Rattle.calls.specs.Lists.{station_of, data_of, allowance_of, list_of, writes_ended}
@@ -80,7 +80,7 @@ ended p number chip v =
 
 abbrev pub StoreJudged : Playing → Line → ℕ → Verdict → Type 0
 StoreJudged p l number v =
-    Judged (said l.slots slots.judged) (slot l.slots slots.refused) p.bench.strict number 0 0 [] [] [] [] v
+    Judged (record { number = number_expected l.slots; reply = Expected.Nothing }) p.bench.strict number [] [] [] [] v
 
 pub record StorePlayed (p : Playing) (l : Line) (array security sent expected known reply marks : List ℕ) (r : Called) (array' security' reply' marks' : List ℕ) : Type 0 where
   pub stored : Stored p.bench (station_of l.slots) (data_of l.slots sent) (allowance_of l.slots) (list_of l.slots expected known) array security reply marks (came r) array' security' reply' marks'
@@ -95,8 +95,8 @@ found_bytes number bytes = front (pick (eqb number 0) data_size 0) bytes
 
 abbrev pub FindJudged : Playing → Line → List ℕ → List ℕ → ℕ → List ℕ → Verdict → Type 0
 FindJudged p l expected known number bytes v =
-    Judged (said l.slots slots.judged) (slot l.slots slots.refused) p.bench.strict number (slot l.slots slots.expecting)
-    (length expected) (found_bytes number bytes) (found_bytes number (replicate data_size 1)) expected known v
+    Judged (expectation l.slots (length expected)) p.bench.strict number
+    (found_bytes number bytes) (found_bytes number (replicate data_size 1)) expected known v
 
 pub record FindPlayed (p : Playing) (l : Line) (array security expected known reply marks : List ℕ) (r : Called) (array' security' reply' marks' : List ℕ) : Type 0 where
   pub found : Found p.bench (station_of l.slots) no_bytes array security reply marks (came r) r.account.bytes array' security' reply' marks'

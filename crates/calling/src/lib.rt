@@ -10,7 +10,7 @@ ghost use Rattle.calling.specs.Lines.{errand_of, no_counts, no_account, number_o
 ghost use Rattle.standing.specs.Benches.{front, unjudged};
 
 use census::Counts;
-use expecting::Verdict;
+use expecting::{Expectation, Expected, Marked, Verdict};
 use rules::Chip;
 use script::Line;
 use slots::ListRead;
@@ -119,20 +119,15 @@ fn ended(p: Playing, number: u8, chip: Chip, v: Verdict) -> Playing
 fn store_judged(p: Playing, l: Line, number: u8) -> Verdict
     ensures { StoreJudged p l number result }
 {
-    let b = p.bench;
-    let slots = l.slots;
-    expecting::judge(
-        slots[5] != 0,
-        slots[6],
-        b.strict,
-        number,
-        0,
-        0,
-        b"",
-        b"",
-        b"",
-        b"",
-    )
+    let expectation = Expectation {
+        reply: Expected::Nothing,
+        ..standing::expectation(l.slots, 0)
+    };
+    let none = Marked {
+        bytes: b"",
+        marks: b"",
+    };
+    expecting::judge(expectation, p.bench.strict, number, &none, &none)
 }
 
 fn store(
@@ -185,22 +180,18 @@ fn compared(
     requires { (length bytes.now ≡ 28) × (sure.now ≡ replicate 28 1) }
     ensures { FindJudged p l expected.now known.now number bytes.now result }
 {
-    let b = p.bench;
-    let slots = l.slots;
     let n = found_count(number).min(bytes.len());
     let m = found_count(number).min(sure.len());
-    expecting::judge(
-        slots[5] != 0,
-        slots[6],
-        b.strict,
-        number,
-        slots[4],
-        expected.len(),
-        &bytes[..n],
-        &sure[..m],
-        expected,
-        known,
-    )
+    let expectation = standing::expectation(l.slots, expected.len());
+    let came = Marked {
+        bytes: &bytes[..n],
+        marks: &sure[..m],
+    };
+    let awaited = Marked {
+        bytes: expected,
+        marks: known,
+    };
+    expecting::judge(expectation, p.bench.strict, number, &came, &awaited)
 }
 
 // What was found is known.

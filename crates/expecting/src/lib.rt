@@ -21,6 +21,30 @@ pub struct Verdict {
     pub compared: usize,
 }
 
+// What a line expects of what comes.
+#[derive(Clone, Copy)]
+pub struct Expectation {
+    // after `!`
+    pub number: Option<u64>,
+    pub reply: Expected,
+}
+
+// What stands after `=`.
+#[derive(Clone, Copy)]
+pub enum Expected {
+    Nothing,
+    // so many
+    Bytes(usize),
+    Kept,
+}
+
+// Bytes with a mark for each. Of a reply it says whether the byte is known, of expected bytes whether one is expected, and known or unknown.
+#[derive(Clone, Copy)]
+pub struct Marked<'a> {
+    pub bytes: &'a [u8],
+    pub marks: &'a [u8],
+}
+
 // The byte at a place, 0 past the end.
 fn at(s: &[u8], i: usize) -> u8
     ensures { result ≡ get_or s.now i 0 }
@@ -29,12 +53,12 @@ fn at(s: &[u8], i: usize) -> u8
 }
 
 #[tactic(auto, unfolding(crate::specs::Expectations::differs))]
-fn differs(reply: &[u8], marks: &[u8], expected: &[u8], known: &[u8], i: usize) -> bool
-    ensures { result ≡ Rattle.expecting.specs.Expectations.differs reply.now marks.now expected.now known.now i }
+fn differs(reply: &Marked, expected: &Marked, i: usize) -> bool
+    ensures { result ≡ Rattle.expecting.specs.Expectations.differs reply.now.bytes.now reply.now.marks.now expected.now.bytes.now expected.now.marks.now i }
 {
-    let other = at(reply, i) != at(expected, i);
-    let unknown = at(marks, i) == 0;
-    match at(known, i) {
+    let other = at(reply.bytes, i) != at(expected.bytes, i);
+    let unknown = at(reply.marks, i) == 0;
+    match at(expected.marks, i) {
         0 => false,
         2 => other || !unknown,
         _ => other || unknown,
@@ -42,24 +66,45 @@ fn differs(reply: &[u8], marks: &[u8], expected: &[u8], known: &[u8], i: usize) 
 }
 
 // The first of n places at which the reply is not as expected; n where there is none.
-pub fn first_difference(
-    reply: &[u8],
-    marks: &[u8],
-    expected: &[u8],
-    known: &[u8],
-    n: usize,
-) -> usize
-    ensures { First (Rattle.expecting.specs.Expectations.differs reply.now marks.now expected.now known.now) n result }
+pub fn first_difference(reply: &Marked, expected: &Marked, n: usize) -> usize
+    ensures { First (Rattle.expecting.specs.Expectations.differs reply.now.bytes.now reply.now.marks.now expected.now.bytes.now expected.now.marks.now) n result }
 {
     (0..n)
-        .find(|&i| differs(reply, marks, expected, known, i))
+        .find(|&i| differs(reply, expected, i))
         .unwrap_or(n)
 }
 
-fn compared(expects: u64, replied: usize, count: usize) -> usize
-    ensures { result ≡ Rattle.expecting.specs.Expectations.compared expects replied count }
+fn other_number(number: Option<u64>, given: u8) -> bool
+    ensures { result ≡ Rattle.expecting.specs.Expectations.other_number number given }
 {
-    if expects == 1 { replied.min(count) } else { 0 }
+    match number {
+        Some(n) => n != given as u64,
+        None => false,
+    }
+}
+
+fn other_length(reply: Expected, replied: usize) -> bool
+    ensures { result ≡ Rattle.expecting.specs.Expectations.other_length reply replied }
+{
+    match reply {
+        Expected::Bytes(count) => replied != count,
+        _ => false,
+    }
+}
+
+fn is_kept(reply: Expected) -> bool
+    ensures { result ≡ Rattle.expecting.specs.Expectations.is_kept reply }
+{
+    matches!(reply, Expected::Kept)
+}
+
+fn compared(reply: Expected, replied: usize) -> usize
+    ensures { result ≡ Rattle.expecting.specs.Expectations.compared reply replied }
+{
+    match reply {
+        Expected::Bytes(count) => replied.min(count),
+        _ => 0,
+    }
 }
 
 // Every byte is v.
@@ -69,30 +114,19 @@ fn all_are(s: &[u8], v: u8) -> bool
     s.iter().all(|&x| x == v)
 }
 
-// `number` is expected if judged, else, if strict, no refusal; `count` bytes if expects is 1, an unchanged reply if it is 2;
-// `given` came, with this reply and these marks.
-pub fn judge(
-    judged: bool,
-    number: u64,
-    strict: bool,
-    given: u8,
-    expects: u64,
-    count: usize,
-    reply: &[u8],
-    marks: &[u8],
-    expected: &[u8],
-    known: &[u8],
-) -> Verdict
-    ensures { Judged judged number strict given expects count reply.now marks.now expected.now known.now result }
+// `given` came, with this reply. If strict, no refusal is expected where no number is.
+pub fn judge(e: Expectation, strict: bool, given: u8, reply: &Marked, expected: &Marked) -> Verdict
+    ensures { Judged e strict given reply.now.bytes.now reply.now.marks.now expected.now.bytes.now expected.now.marks.now result }
 {
-    let n = compared(expects, reply.len(), count);
-    let untouched = all_are(reply, 0x5a) & all_are(marks, 7);
+    let replied = reply.bytes.len();
+    let n = compared(e.reply, replied);
+    let untouched = all_are(reply.bytes, 0x5a) & all_are(reply.marks, 7);
     Verdict {
-        number: judged & (number != given as u64),
-        strict: strict & !judged & (given != 0),
-        length: (expects == 1) & (reply.len() != count),
-        kept: (expects == 2) & !untouched,
-        place: first_difference(reply, marks, expected, known, n),
+        number: other_number(e.number, given),
+        strict: strict & e.number.is_none() & (given != 0),
+        length: other_length(e.reply, replied),
+        kept: is_kept(e.reply) & !untouched,
+        place: first_difference(reply, expected, n),
         compared: n,
     }
 }

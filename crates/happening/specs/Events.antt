@@ -1,21 +1,19 @@
 -- Frames, completions and power cuts of a script: the event, and what the line expected of it.
 use Rattle.std.specs.Prelude.{ℕ, min, ◌≡◌, List, length}
 use Rattle.rules.specs.declared.Chip.{Chip}
-use Rattle.grammar.specs.Slots as slots
 use Rattle.script.specs.declared.Line.{Line}
 use Rattle.expecting.specs.declared.Verdict.{Verdict}
 use Rattle.expecting.specs.Expectations.{Judged, unmet}
 use Rattle.tallies.specs.Tallies.{after_event}
-use Rattle.fields.specs.Records.{slot, said}
 use Rattle.chip.specs.declared.events.Event.{Event}
 use Rattle.standing.specs.declared.Playing.{Playing}
 use Rattle.standing.specs.Benches.{front}
+use Rattle.standing.specs.Expected.{expectation}
 use Rattle.lending.specs.Lending.{wanted, marks_wanted, outcome, Happened}
 
 abbrev pub JudgedLine : Playing → Event → Line → ℕ → List ℕ → List ℕ → List ℕ → List ℕ → Verdict → Type 0
 JudgedLine p e l number reply marks expected known v =
-    Judged (said l.slots slots.judged) (slot l.slots slots.refused) p.bench.strict number (slot l.slots slots.expecting)
-    (min l.expected (length expected))
+    Judged (expectation l.slots (min l.expected (length expected))) p.bench.strict number
     (front (wanted e l.slots) reply) (front (marks_wanted e l.slots) marks) (front l.expected expected) (front l.expected known) v
 
 -- the bench after an event that gave this number and left this chip, with what of its expectations is not met

@@ -4,7 +4,7 @@
 ghost use Rattle.std.specs.Prelude.{◌≡◌};
 ghost use Rattle.happening.specs.Events.{JudgedLine, counted, EventPlayed};
 
-use expecting::Verdict;
+use expecting::{Marked, Verdict};
 use lending::{happened, marks_wanted, wanted};
 use rules::After;
 use script::Line;
@@ -28,18 +28,16 @@ fn judged(
     let m = marks_wanted(e, slots).min(marks.len());
     let x = l.expected.min(expected.len());
     let k = l.expected.min(known.len());
-    expecting::judge(
-        slots[5] != 0,
-        slots[6],
-        p.bench.strict,
-        number,
-        slots[4],
-        x,
-        &reply[..r],
-        &marks[..m],
-        &expected[..x],
-        &known[..k],
-    )
+    let expectation = standing::expectation(slots, x);
+    let came = Marked {
+        bytes: &reply[..r],
+        marks: &marks[..m],
+    };
+    let awaited = Marked {
+        bytes: &expected[..x],
+        marks: &known[..k],
+    };
+    expecting::judge(expectation, p.bench.strict, number, &came, &awaited)
 }
 
 // After an event that gave these.

@@ -8,6 +8,7 @@ use Rattle.standing.proofs.with_reading.Reads as with-reading
 use Rattle.standing.proofs.with_bench.Reads as with-bench
 use Rattle.standing.proofs.next_line.Reads as next-line
 use Rattle.standing.proofs.wrong.Reads as wrong
+use Rattle.standing.proofs.expectation.Reads as expectation
 
 pub deed_of_one : OneResult deed-of.Post
 deed_of_one κ a x y r r' p q = one p q
@@ -26,3 +27,6 @@ next_line_one κ a x y r r' p q = one p q
 
 pub wrong_one : OneResult wrong.Post
 wrong_one κ a x y r r' p q = one p q
+
+pub expectation_one : OneResult expectation.Post
+expectation_one κ a x y r r' p q = one p q

@@ -5,10 +5,11 @@ mod deeds;
 
 ghost use Rattle.std.specs.Prelude.{◌≡◌};
 ghost use Rattle.standing.specs.Benches.{begun, with_reading, with_bench, next_line, wrong_counted};
+ghost use Rattle.standing.specs.Expected.{number_expected, reply_expected, expectation};
 
 pub use chip::Event;
 pub use deeds::deed_of;
-use expecting::Verdict;
+use expecting::{Expectation, Expected, Verdict};
 use rules::Chip;
 use script::Reading;
 use tallies::Tally;
@@ -151,4 +152,32 @@ pub fn wrong(p: Playing) -> Playing
 {
     let tally = tallies::with_wrong_line(p.bench.tally);
     with_bench(p, Bench { tally, ..p.bench })
+}
+
+// ---- what a line expects
+
+fn number_expected(slots: [u64; 24]) -> Option<u64>
+    ensures { result ≡ number_expected slots }
+{
+    if slots[5] == 0 { None } else { Some(slots[6]) }
+}
+
+fn reply_expected(slots: [u64; 24], count: usize) -> Expected
+    ensures { result ≡ reply_expected slots count }
+{
+    match slots[4] {
+        1 => Expected::Bytes(count),
+        2 => Expected::Kept,
+        _ => Expected::Nothing,
+    }
+}
+
+// What a line with these slots expects, where `count` bytes stand after its `=`.
+pub fn expectation(slots: [u64; 24], count: usize) -> Expectation
+    ensures { result ≡ expectation slots count }
+{
+    Expectation {
+        number: number_expected(slots),
+        reply: reply_expected(slots, count),
+    }
 }
