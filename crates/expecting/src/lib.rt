@@ -69,9 +69,7 @@ fn differs(reply: &Marked, expected: &Marked, i: usize) -> bool
 pub fn first_difference(reply: &Marked, expected: &Marked, n: usize) -> usize
     ensures { First (Rattle.expecting.specs.Expectations.differs reply.now.bytes.now reply.now.marks.now expected.now.bytes.now expected.now.marks.now) n result }
 {
-    (0..n)
-        .find(|&i| differs(reply, expected, i))
-        .unwrap_or(n)
+    (0..n).find(|&i| differs(reply, expected, i)).unwrap_or(n)
 }
 
 fn other_number(number: Option<u64>, given: u8) -> bool

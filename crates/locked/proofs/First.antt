@@ -42,7 +42,7 @@ none_before p (suc n) h none =
 -- what a search of the blocks finds, or 0, is the first one
 pub locked_found : (p : ℕ) (r : Option ℕ)
     → MatchOption r ((k : ℕ) → 0 ≤ k → k < 40 → bit (block_at k).write p ≡ false)
-        (λ i. (0 ≤ i) × (i < 40) × (bit (block_at i).write p ≡ true) × ((k : ℕ) → 0 ≤ k → k < i → bit (block_at k).write p ≡ false))
+    (λ i. (0 ≤ i) × (i < 40) × (bit (block_at i).write p ≡ true) × ((k : ℕ) → 0 ≤ k → k < i → bit (block_at k).write p ≡ false))
     → (unwrap_or r 0 ≡ locked_from 40 p 0) × (unwrap_or r 0 < 40)
 locked_found p None h =
     (locked_none p 40 (omega arith) ∙ sym (none_before p 40 (omega arith) (λ k t. h k (omega arith) t)), omega arith)

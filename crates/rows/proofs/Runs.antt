@@ -39,7 +39,7 @@ run_kept (suc m) s p q g h e t all =
 -- what a search of the groups from g on finds, or 256, is the run's end
 pub run_found : (s p q g : ℕ) (r : Option ℕ) → g ≤ 256
     → MatchOption r ((k : ℕ) → g ≤ k → k < 256 → lock_state k p q ≡ s)
-        (λ i. (g ≤ i) × (i < 256) × (lock_state i p q ≡ s → ⊥) × ((k : ℕ) → g ≤ k → k < i → lock_state k p q ≡ s))
+    (λ i. (g ≤ i) × (i < 256) × (lock_state i p q ≡ s → ⊥) × ((k : ℕ) → g ≤ k → k < i → lock_state k p q ≡ s))
     → (unwrap_or r 256 ≡ run_end (256 - g) s p q g) × (unwrap_or r 256 ≤ 256) × (g ≤ unwrap_or r 256)
 run_found s p q g None t h =
     (sym (run_kept (256 - g) s p q g 256 (omega arith) (omega arith) h ∙ run_whole s p q 256 (omega arith)), omega arith, t)

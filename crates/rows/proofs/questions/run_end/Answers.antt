@@ -10,5 +10,5 @@ returns c =
     let a = c.args in
     let at = λ (i : ℕ). lock_state i a.protection a.permanent in
     let f = run_found a.s a.protection a.permanent a.g _ c.requires
-        (first_from_Range _ _ _ _ (λ i. at i ≡ a.s → ⊥) (λ i. at i ≡ a.s) c.find.ensures.ran (λ x q k. search rules) (λ x q k. search rules)) in
+    (first_from_Range _ _ _ _ (λ i. at i ≡ a.s → ⊥) (λ i. at i ≡ a.s) c.find.ensures.ran (λ x q k. search rules) (λ x q k. search rules)) in
     rw c.unwrap_or.ensures (record { value = f.0; inside = f.1; after = f.2 })
