@@ -8,11 +8,14 @@
 
 ghost use Rattle.std.specs.Prelude.{◌≤◌, ◌<◌};
 
+use std::ops::Range;
+
+// The kinds, the numbers and the burst stay numbers, and the parts one flat row: other crates read and write these fields.
 // What runs (run_) or is suspended (sus_), as a kind and a number:
 // 0 nothing; 1 sector erase, the sector; 2 protection block erase, the block's place in the table of forty;
 // 3 array erase; 4 page program, the page; 5 Security ID program, its page there; 6 Security ID lock;
 // 7 configuration write, IOC + 2 * WPEN; 8 permanent bits, the 48 bits as sent.
-#[derive(Clone, Copy)]
+#[derive(Clone, Copy, PartialEq, Eq)]
 pub struct Flat {
     pub buffer: [u8; 256],
     pub protection: u64,
@@ -35,25 +38,34 @@ pub struct Flat {
     pub ba: bool,
 }
 
-// What an event gives back: its number, 0 for done, and the record after it.
-#[derive(Clone, Copy)]
+// What an event gives back: its number, 0 for done, and the record after it. Other crates read the number.
+#[derive(Clone, Copy, PartialEq, Eq)]
 pub struct Step {
     pub number: u8,
     pub state: Flat,
 }
 
 // What a frame event carries beside its bytes and its buffers: the count k and the byte m of W-205.
-#[derive(Clone, Copy)]
+#[derive(Clone, Copy, PartialEq, Eq, Default)]
 pub struct Extra {
     pub k: u64,
     pub m: u8,
 }
 
-// A byte of a reply, with its mark.
-#[derive(Clone, Copy)]
-struct Out {
-    value: u8,
-    mark: u8,
+// What runs or is suspended, as the rules speak of it: `work_of` reads it from a record, `kind_and_number` writes it.
+#[derive(Clone, Copy, PartialEq, Eq)]
+enum Work {
+    Sector(usize),
+    // the block's place in the table of forty
+    Block(usize),
+    Array,
+    Page(usize),
+    // the page's number in the Security ID
+    SecurityPage(usize),
+    SecurityLock,
+    Configuration { ioc: bool, wpen: bool },
+    // the 48 bits as sent
+    Permanent(u64),
 }
 
 // ---- The chip on the bench ----
@@ -110,42 +122,23 @@ pub fn fresh_old() -> Flat {
 
 // "array 2,097,152 bytes", "Security ID 2,048 bytes".
 fn memories_sized(array: usize, security: usize) -> bool {
-    if array != ARRAY_BYTES {
-        return false;
-    }
-    security == SECURITY_BYTES
+    array == ARRAY_BYTES && security == SECURITY_BYTES
 }
 
 // "Frame at most 65,536 bytes. Reply and marks of equal length, at most 65,536."
 fn frame_sized(sent: usize, reply: usize, marks: usize) -> bool {
-    if FRAME_LIMIT < sent {
-        return false;
-    }
-    if reply != marks {
-        return false;
-    }
-    reply <= FRAME_LIMIT
+    sent <= FRAME_LIMIT && reply == marks && reply <= FRAME_LIMIT
 }
 
 // The byte at a place of a slice. All uses are inside the slice; outside it the answer is 0.
 fn byte_at(from: &[u8], place: usize) -> u8 {
-    if place < from.len() {
-        return from[place];
-    }
-    0
-}
-
-// The same, as a number.
-fn number_at(from: &[u8], place: usize) -> usize
-    ensures { result < 256 }
-{
-    byte_at(from, place) as usize
+    from.get(place).copied().unwrap_or(0)
 }
 
 // A byte stored at a place of a slice. All uses are inside the slice; outside it nothing happens.
 fn put(to: &mut [u8], place: usize, value: u8) {
-    if place < to.len() {
-        to[place] = value;
+    if let Some(byte) = to.get_mut(place) {
+        *byte = value;
     }
 }
 
@@ -212,8 +205,7 @@ fn block_size(place: usize) -> usize
 }
 
 fn has_bit(register: u64, bit: usize) -> bool {
-    let low = register >> (bit % 64);
-    low % 2 == 1
+    register >> (bit % 64) & 1 == 1
 }
 
 // "the even bit the write lock. Single bits are write locks."
@@ -231,125 +223,152 @@ fn write_locked(protection: u64, address: usize) -> bool {
 // "In a pair the odd bit is the read lock": only the 8 KB blocks have one.
 fn read_locked(protection: u64, address: usize) -> bool {
     let place = block_at(address);
-    if place < 8 {
-        return has_bit(protection, 47 - 2 * place);
-    }
-    false
+    place < 8 && has_bit(protection, 47 - 2 * place)
 }
 
-// The range of array work: a sector, a block, the array, a page. Where it starts.
-fn range_start(kind: u8, number: u64) -> usize
-    ensures { result ≤ 2097152 }
-{
+// What a kind and a number of the record stand for: none for kind 0, where nothing is, and for a kind that is not listed.
+fn work_of(kind: u8, number: u64) -> Option<Work> {
     let n = number as usize;
     match kind {
-        1 => n % 512 * 4096,
-        2 => block_start(n),
-        4 => n % 8192 * 256,
-        _ => 0,
+        1 => Some(Work::Sector(n)),
+        2 => Some(Work::Block(n)),
+        3 => Some(Work::Array),
+        4 => Some(Work::Page(n)),
+        5 => Some(Work::SecurityPage(n)),
+        6 => Some(Work::SecurityLock),
+        7 => Some(Work::Configuration {
+            ioc: has_bit(number, 0),
+            wpen: has_bit(number, 1),
+        }),
+        8 => Some(Work::Permanent(number)),
+        _ => None,
     }
 }
 
-// And how many bytes it has; none where the work is not in the array.
-fn range_size(kind: u8, number: u64) -> usize
-    ensures { result ≤ 2097152 }
-{
-    let n = number as usize;
-    match kind {
-        1 => 4096,
-        2 => block_size(n),
-        3 => ARRAY_BYTES,
-        4 => 256,
-        _ => 0,
+// And back: the kind and the number that the record's public fields hold for it.
+fn kind_and_number(work: Work) -> (u8, u64) {
+    match work {
+        Work::Sector(n) => (1, n as u64),
+        Work::Block(n) => (2, n as u64),
+        Work::Array => (3, 0),
+        Work::Page(n) => (4, n as u64),
+        Work::SecurityPage(n) => (5, n as u64),
+        Work::SecurityLock => (6, 0),
+        Work::Configuration { ioc, wpen } => (7, u64::from(ioc) | u64::from(wpen) << 1),
+        Work::Permanent(bits) => (8, bits),
+    }
+}
+
+fn running_work(s: Flat) -> Option<Work> {
+    work_of(s.run_kind, s.run_number)
+}
+
+fn suspended_work(s: Flat) -> Option<Work> {
+    work_of(s.sus_kind, s.sus_number)
+}
+
+fn is_erase(work: Work) -> bool {
+    matches!(work, Work::Sector(_) | Work::Block(_) | Work::Array)
+}
+
+// 02, 32 and A5 fill the page buffer.
+fn is_program(work: Work) -> bool {
+    matches!(work, Work::Page(_) | Work::SecurityPage(_))
+}
+
+// "20, D8, 02 or 32": "one sector or block erase or one page program".
+fn can_suspend(work: Work) -> bool {
+    matches!(work, Work::Sector(_) | Work::Block(_) | Work::Page(_))
+}
+
+// The range of array work: a sector, a block, the array, a page; none where the work is not in the array.
+fn array_range(work: Work) -> Option<Range<usize>> {
+    match work {
+        Work::Sector(n) => {
+            let start = n % 512 * 4096;
+            Some(start..start + 4096)
+        }
+        Work::Block(place) => {
+            let start = block_start(place);
+            Some(start..start + block_size(place))
+        }
+        Work::Array => Some(0..ARRAY_BYTES),
+        Work::Page(n) => {
+            let start = n % 8192 * 256;
+            Some(start..start + 256)
+        }
+        _ => None,
     }
 }
 
 // Whether the range of this work holds an array place.
-fn range_holds(kind: u8, number: u64, place: usize) -> bool {
-    let start = range_start(kind, number);
-    if place < start {
-        return false;
-    }
-    place - start < range_size(kind, number)
+fn range_holds(work: Work, place: usize) -> bool {
+    array_range(work).is_some_and(|range| range.contains(&place))
 }
 
 // Whether a write lock lies on the range of this work. A sector, a page and a block lie each in one block.
-fn range_locked(protection: u64, kind: u8, number: u64) -> bool {
-    match kind {
-        1 | 2 | 4 => write_locked(protection, range_start(kind, number)),
-        3 => protection & WRITE_LOCKS != 0,
-        _ => false,
+fn range_locked(protection: u64, work: Work) -> bool {
+    if work == Work::Array {
+        return protection & WRITE_LOCKS != 0;
     }
+    array_range(work).is_some_and(|range| write_locked(protection, range.start))
 }
 
-// Whether two ranges have a place in common: one of them holds the other's start.
-fn ranges_meet(kind: u8, number: u64, other_kind: u8, other_number: u64) -> bool {
-    if range_holds(kind, number, range_start(other_kind, other_number)) {
-        return true;
+// Whether two ranges have a place in common. Work in the Security ID meets no range of the array.
+fn ranges_meet(one: Work, other: Work) -> bool {
+    match (array_range(one), array_range(other)) {
+        (Some(a), Some(b)) => a.start < b.end && b.start < a.end,
+        _ => false,
     }
-    range_holds(other_kind, other_number, range_start(kind, number))
 }
 
 // ---- The registers as read ----
 
-fn is_erase(kind: u8) -> bool {
-    match kind {
-        1 | 2 | 3 => true,
-        _ => false,
-    }
-}
-
-// 02, 32 and A5 fill the page buffer.
-fn is_program(kind: u8) -> bool {
-    match kind {
-        4 | 5 => true,
-        _ => false,
-    }
-}
-
-fn flag(on: bool, value: u8) -> u8 {
-    if on { value } else { 0 }
-}
-
 // "bit 0 BUSY, 1 WEL, 2 WSE (erase suspended), 3 WSP (program suspended), 4 WPLD, 5 SEC, 6 zero, 7 BUSY again"
 fn status(s: Flat) -> u8 {
-    let busy = s.run_kind != 0;
-    let wse = is_erase(s.sus_kind);
-    let wsp = is_program(s.sus_kind);
-    let low = flag(busy, 1) | flag(s.wel, 2) | flag(wse, 4) | flag(wsp, 8);
-    low | flag(s.wpld, 16) | flag(s.sec, 32) | flag(busy, 128)
+    let busy = running_work(s).is_some();
+    let wse = suspended_work(s).is_some_and(is_erase);
+    let wsp = suspended_work(s).is_some_and(is_program);
+    let low = u8::from(busy) | u8::from(s.wel) << 1 | u8::from(wse) << 2 | u8::from(wsp) << 3;
+    low | u8::from(s.wpld) << 4 | u8::from(s.sec) << 5 | u8::from(busy) << 7
 }
 
 // "bit 1 IOC, bit 3 BPNV, bit 7 WPEN, others zero. BPNV is 1 exactly while the permanent register is zero."
 fn configuration(s: Flat) -> u8 {
     let bpnv = s.permanent == 0;
-    flag(s.ioc, 2) | flag(bpnv, 8) | flag(s.wpen, 128)
+    u8::from(s.ioc) << 1 | u8::from(bpnv) << 3 | u8::from(s.wpen) << 7
 }
 
 // ---- Frames ----
 
-// In which protocols an opcode is listed: 0 in none, 1 in both, 2 "SPI only", 3 "SQI only".
+// In which protocols an opcode is listed: "SPI only", "SQI only", or both.
+#[derive(Clone, Copy, PartialEq, Eq)]
+enum ListedIn {
+    Both,
+    Spi,
+    Sqi,
+}
+
+// None for an opcode that is not listed. An opcode stays the byte that is sent, here and below: document 01 names it by that.
 // W-201: C0 "in both protocols", "0C (SQI) and EC (SPI, IOC 1)"
-fn protocols(opcode: u8) -> u8 {
+fn protocols(opcode: u8) -> Option<ListedIn> {
     match opcode {
-        0x38 | 0x9F | 0x03 | 0x6B | 0x32 | 0xEC => 2,
-        0xAF | 0x0C => 3,
-        0x00 | 0x66 | 0x99 | 0xFF | 0x05 | 0x35 | 0x72 | 0x0B | 0x88 => 1,
-        0x06 | 0x04 | 0x20 | 0xD8 | 0xC7 | 0x02 | 0xA5 | 0x85 | 0x01 => 1,
-        0x42 | 0xE8 | 0x8D | 0x98 | 0xB0 | 0x30 | 0xC0 => 1,
-        _ => 0,
+        0x38 | 0x9F | 0x03 | 0x6B | 0x32 | 0xEC => Some(ListedIn::Spi),
+        0xAF | 0x0C => Some(ListedIn::Sqi),
+        0x00 | 0x66 | 0x99 | 0xFF | 0x05 | 0x35 | 0x72 | 0x0B | 0x88 => Some(ListedIn::Both),
+        0x06 | 0x04 | 0x20 | 0xD8 | 0xC7 | 0x02 | 0xA5 | 0x85 | 0x01 => Some(ListedIn::Both),
+        0x42 | 0xE8 | 0x8D | 0x98 | 0xB0 | 0x30 | 0xC0 => Some(ListedIn::Both),
+        _ => None,
     }
 }
 
 fn listed(opcode: u8, sqi: bool) -> bool {
-    let where_listed = protocols(opcode);
-    if where_listed == 1 {
-        return true;
+    match protocols(opcode) {
+        Some(ListedIn::Both) => true,
+        Some(ListedIn::Spi) => !sqi,
+        Some(ListedIn::Sqi) => sqi,
+        None => false,
     }
-    if sqi {
-        return where_listed == 3;
-    }
-    where_listed == 2
 }
 
 fn either(sqi: bool, in_sqi: usize, in_spi: usize) -> usize {
@@ -387,39 +406,29 @@ fn length_listed(opcode: u8, sqi: bool, length: usize) -> bool {
 fn array_address(sent: &[u8]) -> usize
     ensures { result < 2097152 }
 {
-    let high = number_at(sent, 1);
-    let middle = number_at(sent, 2);
-    let low = number_at(sent, 3);
-    (high * 65536 + middle * 256 + low) % ARRAY_BYTES
+    let bytes = [0, byte_at(sent, 1), byte_at(sent, 2), byte_at(sent, 3)];
+    u32::from_be_bytes(bytes) as usize % ARRAY_BYTES
 }
 
 // "a Security ID address modulo 800"
-fn security_address(sent: &[u8]) -> usize {
-    let high = number_at(sent, 1);
-    let low = number_at(sent, 2);
-    (high * 256 + low) % SECURITY_BYTES
+fn security_address(sent: &[u8]) -> usize
+    ensures { result < 2048 }
+{
+    let bytes = [byte_at(sent, 1), byte_at(sent, 2)];
+    usize::from(u16::from_be_bytes(bytes)) % SECURITY_BYTES
 }
 
 // "It travels as six bytes, highest first." The first of them stands at the place given.
-fn six_bytes(from: &[u8], first: usize) -> u64
-    requires { first ≤ 65536 }
-{
-    let mut value: u64 = 0;
-    let mut i = 0;
-    while i < 6 {
-        value = value % 0x10000000000 * 256 + number_at(from, first + i) as u64;
-        i += 1;
-    }
-    value
+fn six_bytes(from: &[u8], first: usize) -> u64 {
+    from.iter()
+        .skip(first)
+        .take(6)
+        .fold(0, |value, &byte| value << 8 | u64::from(byte))
 }
 
 fn protection_byte(protection: u64, i: usize) -> u8 {
     // "After six bytes 72 gives 00."
-    if 5 < i {
-        return 0;
-    }
-    let low = protection >> ((5 - i) * 8);
-    (low % 256) as u8
+    byte_at(&protection.to_be_bytes()[2..], i)
 }
 
 // "The identity bytes are BF, 26 and the device byte printed in 002; they repeat": the sheet's table 5-4 has 51.
@@ -428,15 +437,6 @@ fn identity_byte(i: usize) -> u8 {
         0 => 0xBF,
         1 => 0x26,
         _ => 0x51,
-    }
-}
-
-// The opcodes with a reply.
-fn replies(opcode: u8) -> bool {
-    match opcode {
-        0x05 | 0x35 | 0x72 | 0x9F | 0xAF => true,
-        0x03 | 0x0B | 0x6B | 0x88 | 0x0C | 0xEC => true,
-        _ => false,
     }
 }
 
@@ -449,60 +449,30 @@ fn register_byte(opcode: u8, s: Flat, i: usize) -> u8 {
     }
 }
 
-// "Register and identity bytes, and the 00 after 72's six, have mark 1."
-fn answer_register(opcode: u8, s: Flat, reply: &mut [u8], marks: &mut [u8]) {
-    let n = reply.len();
-    let mut i = 0;
-    while i < n {
-        let value = register_byte(opcode, s, i);
-        put(reply, i, value);
-        put(marks, i, 1);
-        i += 1;
+// The reply and its marks, byte by byte: `out` says what is known at each place of the reply, "mark 1"; what is not "reads 00,
+// mark 0".
+fn answer_each<F: Fn(usize) -> Option<u8>>(reply: &mut [u8], marks: &mut [u8], out: F)
+    requires { F.IsAlwaysCallable out }
+{
+    for (i, (byte, mark)) in reply.iter_mut().zip(marks.iter_mut()).enumerate() {
+        let shown = out(i);
+        *byte = shown.unwrap_or(0);
+        *mark = u8::from(shown.is_some());
     }
 }
 
-fn array_out(protection: u64, kind: u8, number: u64, array: &[u8], place: usize) -> Out {
+// What a place of the array shows; `aside` is the suspended work.
+fn array_out(protection: u64, aside: Option<Work>, array: &[u8], place: usize) -> Option<u8> {
     // "A byte in a read-locked block reads 00, mark 1."
     if read_locked(protection, place) {
-        return Out { value: 0, mark: 1 };
+        return Some(0);
     }
     // "Otherwise a byte in the suspended range reads 00, mark 0"
-    if range_holds(kind, number, place) {
-        return Out { value: 0, mark: 0 };
+    if aside.is_some_and(|work| range_holds(work, place)) {
+        return None;
     }
     // "All others: the stored byte, mark 1."
-    Out {
-        value: byte_at(array, place),
-        mark: 1,
-    }
-}
-
-// "Reads go up one place a byte; after the last array or Security ID place comes place 0."
-fn answer_array(s: Flat, array: &[u8], start: usize, reply: &mut [u8], marks: &mut [u8]) {
-    let n = reply.len();
-    let mut place = start;
-    let mut i = 0;
-    while i < n {
-        let out = array_out(s.protection, s.sus_kind, s.sus_number, array, place);
-        put(reply, i, out.value);
-        put(marks, i, out.mark);
-        place = (place % ARRAY_BYTES + 1) % ARRAY_BYTES;
-        i += 1;
-    }
-}
-
-// The same in the Security ID, which no lock and no suspended range touches.
-fn answer_security(security: &[u8], start: usize, reply: &mut [u8], marks: &mut [u8]) {
-    let n = reply.len();
-    let mut place = start;
-    let mut i = 0;
-    while i < n {
-        let value = byte_at(security, place);
-        put(reply, i, value);
-        put(marks, i, 1);
-        place = (place % SECURITY_BYTES + 1) % SECURITY_BYTES;
-        i += 1;
-    }
+    Some(byte_at(array, place))
 }
 
 // W-201: "C0 takes one data byte: 00 to 03 set a burst of 8, 16, 32 or 64 bytes". Whether a byte is one of these.
@@ -522,61 +492,61 @@ fn burst_size(code: u8) -> usize
     }
 }
 
-// W-201: "start at the address given and wrap within the naturally aligned group of that length". A group begins at a multiple
-// of the length, whatever the length is; the byte i of the reply lies i places on from the start, counted round in the group.
-fn burst_place(start: usize, size: usize, i: usize) -> usize
+// "Reads go up one place a byte; after the last array or Security ID place comes place 0." W-201: "start at the address given
+// and wrap within the naturally aligned group of that length". A group begins at a multiple of its size: it is the whole memory,
+// or a burst. Byte i of the reply lies i places on from the start, counted round in the group.
+fn read_place(start: usize, size: usize, i: usize) -> usize
     requires start_bound { start < 2097152 }
     requires size_nonzero { 0 < size }
     requires size_bound { size ≤ 2097152 }
 {
     let within = start % size;
-    let first = start - within;
-    let on = (within + i % size) % size;
-    first + on
-}
-
-// W-201: "Locks and suspended ranges read as before."
-fn answer_burst(s: Flat, array: &[u8], start: usize, reply: &mut [u8], marks: &mut [u8])
-    requires { start < 2097152 }
-{
-    let n = reply.len();
-    let size = burst_size(s.burst);
-    let mut i = 0;
-    while i < n {
-        let place = burst_place(start, size, i);
-        let out = array_out(s.protection, s.sus_kind, s.sus_number, array, place);
-        put(reply, i, out.value);
-        put(marks, i, out.mark);
-        i += 1;
-    }
-}
-
-fn fill(to: &mut [u8], value: u8) {
-    let n = to.len();
-    let mut i = 0;
-    while i < n {
-        put(to, i, value);
-        i += 1;
-    }
+    start - within + (within + i % size) % size
 }
 
 // "A frame without a reply fills the reply with FF and the marks with 0."
 fn no_reply(reply: &mut [u8], marks: &mut [u8]) {
-    fill(reply, 255);
-    fill(marks, 0);
+    reply.fill(255);
+    marks.fill(0);
 }
 
 fn answer(s: Flat, array: &[u8], security: &[u8], sent: &[u8], reply: &mut [u8], marks: &mut [u8]) {
     let opcode = byte_at(sent, 0);
-    if !replies(opcode) {
-        no_reply(reply, marks);
-        return;
-    }
+    let aside = suspended_work(s);
     match opcode {
-        0x03 | 0x0B | 0x6B => answer_array(s, array, array_address(sent), reply, marks),
-        0x0C | 0xEC => answer_burst(s, array, array_address(sent), reply, marks),
-        0x88 => answer_security(security, security_address(sent), reply, marks),
-        _ => answer_register(opcode, s, reply, marks),
+        0x03 | 0x0B | 0x6B => {
+            let start = array_address(sent);
+            answer_each(reply, marks, |i| {
+                array_out(
+                    s.protection,
+                    aside,
+                    array,
+                    read_place(start, ARRAY_BYTES, i),
+                )
+            });
+        }
+        // W-201: "Locks and suspended ranges read as before."
+        0x0C | 0xEC => {
+            let start = array_address(sent);
+            let size = burst_size(s.burst);
+            answer_each(reply, marks, |i| {
+                array_out(s.protection, aside, array, read_place(start, size, i))
+            });
+        }
+        // No lock and no suspended range touches the Security ID.
+        0x88 => {
+            let start = security_address(sent);
+            answer_each(
+                reply,
+                marks,
+                |i| Some(byte_at(security, read_place(start, SECURITY_BYTES, i))),
+            );
+        }
+        // "Register and identity bytes, and the 00 after 72's six, have mark 1."
+        0x05 | 0x35 | 0x72 | 0x9F | 0xAF => {
+            answer_each(reply, marks, |i| Some(register_byte(opcode, s, i)));
+        }
+        _ => no_reply(reply, marks),
     }
 }
 
@@ -584,285 +554,232 @@ fn answer(s: Flat, array: &[u8], security: &[u8], sent: &[u8], reply: &mut [u8],
 // to its start; a later byte replaces an earlier one in the buffer." The data start at sent[first].
 fn filled(sent: &[u8], first: usize, address: usize) -> [u8; 256] {
     let mut buffer = [255u8; 256];
-    let mut place = address % 256;
-    let mut i = first;
-    while i < sent.len() {
-        buffer[place % 256] = sent[i];
-        place = place % 256 + 1;
-        i += 1;
+    for (i, byte) in sent.iter().skip(first).enumerate() {
+        buffer[address.wrapping_add(i) % 256] = *byte;
     }
     buffer
 }
 
-// What a long opcode runs: its kind. 0 for the others.
-fn work_kind(opcode: u8) -> u8 {
-    match opcode {
-        0x20 => 1,
-        0xD8 => 2,
-        0xC7 => 3,
-        0x02 | 0x32 => 4,
-        0xA5 => 5,
-        0x85 => 6,
-        0x01 => 7,
-        0xE8 => 8,
-        _ => 0,
+// "first data byte ignored; second sets IOC and WPEN": bits 1 and 7, as the register is read.
+fn configuration_sent(sent: &[u8]) -> Work {
+    let second = u64::from(byte_at(sent, 2));
+    Work::Configuration {
+        ioc: has_bit(second, 1),
+        wpen: has_bit(second, 7),
     }
 }
 
-// "first data byte ignored; second sets IOC and WPEN": bits 1 and 7, as the register is read.
-fn configuration_number(sent: &[u8]) -> u64 {
-    let second = number_at(sent, 2) as u64;
-    second / 2 % 2 + second / 128 % 2 * 2
-}
-
-// And its number.
-fn work_number(opcode: u8, sent: &[u8]) -> u64 {
+// What a frame with a long opcode runs; none for the others.
+fn work_sent(opcode: u8, sent: &[u8]) -> Option<Work> {
     match opcode {
-        0x20 => (array_address(sent) / 4096) as u64,
-        0xD8 => block_at(array_address(sent)) as u64,
-        0x02 | 0x32 => (array_address(sent) / 256) as u64,
-        0xA5 => (security_address(sent) / 256) as u64,
-        0x01 => configuration_number(sent),
-        0xE8 => six_bytes(sent, 1),
-        _ => 0,
+        0x20 => Some(Work::Sector(array_address(sent) / 4096)),
+        0xD8 => Some(Work::Block(block_at(array_address(sent)))),
+        0xC7 => Some(Work::Array),
+        0x02 | 0x32 => Some(Work::Page(array_address(sent) / 256)),
+        0xA5 => Some(Work::SecurityPage(security_address(sent) / 256)),
+        0x85 => Some(Work::SecurityLock),
+        0x01 => Some(configuration_sent(sent)),
+        0xE8 => Some(Work::Permanent(six_bytes(sent, 1))),
+        _ => None,
     }
 }
 
 // "20, D8, C7, 02, 32, A5, 85, 01 and E8 run until completion, and only then act; BUSY is 1 meanwhile."
-fn started(s: Flat, opcode: u8, sent: &[u8]) -> Flat {
-    let mut next = s;
-    next.run_kind = work_kind(opcode);
-    next.run_number = work_number(opcode, sent);
-    match opcode {
-        0x02 | 0x32 => {
-            let b = filled(sent, 4, array_address(sent));
-            next.buffer = b;
-        }
-        0xA5 => {
-            let b = filled(sent, 3, security_address(sent));
-            next.buffer = b;
-        }
-        _ => {}
+fn started(s: Flat, work: Work, sent: &[u8]) -> Flat {
+    let (run_kind, run_number) = kind_and_number(work);
+    let buffer = match work {
+        Work::Page(_) => filled(sent, 4, array_address(sent)),
+        Work::SecurityPage(_) => filled(sent, 3, security_address(sent)),
+        _ => s.buffer,
+    };
+    Flat {
+        buffer,
+        run_kind,
+        run_number,
+        ..s
     }
-    next
 }
 
 // "42 replaces all 48 bits, but a write lock with its permanent bit set stays 1."
 // "All others act at once; 42, 8D and 98 then set WEL to 0."
 fn protection_written(s: Flat, sent: &[u8]) -> Flat {
-    let mut next = s;
-    next.protection = six_bytes(sent, 1) | s.permanent;
-    next.wel = false;
-    next
+    Flat {
+        protection: six_bytes(sent, 1) | s.permanent,
+        wel: false,
+        ..s
+    }
 }
 
 // "lock protection down (WPLD 1)"
 fn locked_down(s: Flat) -> Flat {
-    let mut next = s;
-    next.wpld = true;
-    next.wel = false;
-    next
+    Flat {
+        wpld: true,
+        wel: false,
+        ..s
+    }
 }
 
 // "98 clears every write lock not permanent and no read lock."
 fn locks_cleared(s: Flat) -> Flat {
-    let mut next = s;
-    next.protection = s.protection & (READ_LOCKS | s.permanent);
-    next.wel = false;
-    next
+    Flat {
+        protection: s.protection & (READ_LOCKS | s.permanent),
+        wel: false,
+        ..s
+    }
 }
 
 // "B0 puts aside a running 20, D8, 02 or 32 at once: BUSY 0, WSE or WSP 1, WEL unchanged."
 fn suspended(s: Flat) -> Flat {
-    let mut next = s;
-    next.sus_kind = s.run_kind;
-    next.sus_number = s.run_number;
-    next.run_kind = 0;
-    next.run_number = 0;
-    next
+    Flat {
+        sus_kind: s.run_kind,
+        sus_number: s.run_number,
+        run_kind: 0,
+        run_number: 0,
+        ..s
+    }
 }
 
 // "30 runs it again and needs no WEL."
 fn resumed(s: Flat) -> Flat {
-    let mut next = s;
-    next.run_kind = s.sus_kind;
-    next.run_number = s.sus_number;
-    next.sus_kind = 0;
-    next.sus_number = 0;
-    next
+    Flat {
+        run_kind: s.sus_kind,
+        run_number: s.sus_number,
+        sus_kind: 0,
+        sus_number: 0,
+        ..s
+    }
 }
 
 // "running and suspended work dropped"; then no program runs or is suspended, and the buffer is all FF.
 fn dropped(s: Flat) -> Flat {
-    let mut next = s;
-    next.run_kind = 0;
-    next.run_number = 0;
-    next.sus_kind = 0;
-    next.sus_number = 0;
-    next.buffer = [255u8; 256];
-    next
+    Flat {
+        run_kind: 0,
+        run_number: 0,
+        sus_kind: 0,
+        sus_number: 0,
+        buffer: [255u8; 256],
+        ..s
+    }
 }
 
 // "Reset (99): SPI, BUSY, WEL, WSE, WSP 0, IOC at its power-up value, running and suspended work dropped .. WPLD, SEC, WPEN and
 // both protection registers stay." W-201: "Power-up and reset set 8". What W-205 has the running work do comes before this.
 fn reset(s: Flat) -> Flat {
-    let mut next = dropped(s);
-    next.sqi = false;
-    next.wel = false;
-    next.ioc = power_up_ioc(s.ba);
-    next.burst = 0;
-    next
-}
-
-fn with_enable(s: Flat, enable: bool) -> Flat {
-    let mut next = s;
-    next.enable = enable;
-    next
-}
-
-fn with_sqi(s: Flat, sqi: bool) -> Flat {
-    let mut next = s;
-    next.sqi = sqi;
-    next
-}
-
-fn with_wel(s: Flat, wel: bool) -> Flat {
-    let mut next = s;
-    next.wel = wel;
-    next
-}
-
-// W-201: "00 to 03 set a burst of 8, 16, 32 or 64 bytes"
-fn with_burst(s: Flat, burst: u8) -> Flat {
-    let mut next = s;
-    next.burst = burst;
-    next
+    Flat {
+        sqi: false,
+        wel: false,
+        ioc: power_up_ioc(s.ba),
+        burst: 0,
+        ..dropped(s)
+    }
 }
 
 // The record after a frame that is done; s has its enable used up already.
 fn acted(s: Flat, opcode: u8, sent: &[u8]) -> Flat {
-    if work_kind(opcode) != 0 {
-        return started(s, opcode, sent);
+    if let Some(work) = work_sent(opcode, sent) {
+        return started(s, work, sent);
     }
     match opcode {
-        0x66 => with_enable(s, true),
+        0x66 => Flat { enable: true, ..s },
         0x99 => reset(s),
-        0x38 => with_sqi(s, true),
-        0xFF => with_sqi(s, false),
-        0x06 => with_wel(s, true),
-        0x04 => with_wel(s, false),
+        0x38 => Flat { sqi: true, ..s },
+        0xFF => Flat { sqi: false, ..s },
+        0x06 => Flat { wel: true, ..s },
+        0x04 => Flat { wel: false, ..s },
         0x42 => protection_written(s, sent),
         0x8D => locked_down(s),
         0x98 => locks_cleared(s),
         0xB0 => suspended(s),
         0x30 => resumed(s),
-        0xC0 => with_burst(s, byte_at(sent, 1)),
+        // W-201: "00 to 03 set a burst of 8, 16, 32 or 64 bytes"
+        0xC0 => Flat {
+            burst: byte_at(sent, 1),
+            ..s
+        },
         _ => s,
     }
 }
 
 // ---- Completion, power cut, and a reset while busy ----
 
-// How many "the first k bytes" of a range of this size are: k if it "has a byte k (counted from 0)", else all of it.
-fn cut_to(size: usize, k: u64) -> usize
-    ensures { result ≤ size }
+// What ends after k bytes of its range. W-205: "The first k bytes are finished. If the range has a byte k (counted from 0), that
+// byte becomes" something in between. "The rest is unchanged." `finished` has the byte's place in the range and its old value;
+// `torn` has the old value and the finished one.
+fn finish_to<F: Fn(usize, u8) -> u8, T: Fn(u8, u8) -> u8>(
+    range: &mut [u8],
+    k: u64,
+    finished: F,
+    torn: T,
+)
+    requires finishes { F.IsAlwaysCallable finished }
+    requires tears { T.IsAlwaysCallable torn }
 {
-    let count = k as usize;
-    if count < size {
-        return count;
-    }
-    size
-}
-
-// "Erase sets FF."
-fn erase(array: &mut [u8], start: usize, end: usize) {
-    let mut place = start;
-    while place < end {
-        put(array, place, 255);
-        place += 1;
-    }
-}
-
-// "each page byte becomes its old value AND the buffer byte", for the first count bytes of the page.
-fn program(memory: &mut [u8], start: usize, buffer: [u8; 256], count: usize)
-    requires start_bound { start ≤ 2097152 }
-    requires count_bound { count ≤ 256 }
-{
-    let mut i = 0;
-    while i < count {
-        let old = byte_at(memory, start + i);
-        put(memory, start + i, old & buffer[i]);
-        i += 1;
+    for (i, byte) in range.iter_mut().enumerate() {
+        let place = i as u64;
+        let whole = finished(i, *byte);
+        if place < k {
+            *byte = whole;
+        } else if place == k {
+            *byte = torn(*byte, whole);
+        }
     }
 }
 
-// An erase that ends after k bytes. W-205: "The first k bytes are finished. If the range has a byte k (counted from 0), that
-// byte becomes, .. for an erase, old OR m. The rest is unchanged."
-fn erase_to(array: &mut [u8], start: usize, size: usize, k: u64, m: u8)
-    requires start_bound { start ≤ 2097152 }
-    requires size_bound { size ≤ 2097152 }
-{
-    let count = cut_to(size, k);
-    erase(array, start, start + count);
-    if count < size {
-        let old = byte_at(array, start + count);
-        put(array, start + count, old | m);
-    }
+// "Erase sets FF." W-205: "for an erase, old OR m".
+fn erase_to(range: &mut [u8], k: u64, m: u8) {
+    finish_to(range, k, |_, _| 255, |old, _| old | m);
 }
 
-// A program that ends after k bytes. W-205: "for a program, old AND (finished OR m)". "The range of 02, 32 and A5 is the whole
-// page."
-fn program_to(memory: &mut [u8], start: usize, buffer: [u8; 256], k: u64, m: u8)
-    requires { start ≤ 2097152 }
-{
-    let count = cut_to(256, k);
-    program(memory, start, buffer, count);
-    if count < 256 {
-        let old = byte_at(memory, start + count);
-        let finished = old & buffer[count];
-        put(memory, start + count, old & (finished | m));
-    }
+// "each page byte becomes its old value AND the buffer byte"; W-205: "for a program, old AND (finished OR m)". "The range of 02,
+// 32 and A5 is the whole page."
+fn program_to(page: &mut [u8], buffer: &[u8; 256], k: u64, m: u8) {
+    finish_to(
+        page,
+        k,
+        |i, old| old & buffer[i % 256],
+        |old, finished| old & (finished | m),
+    );
 }
 
 // "The running operation's range, in rising address order, has its first k bytes finished and the rest unchanged (all
 // finished if k is larger)", but for W-205's byte k.
 fn finish_bytes(s: Flat, array: &mut [u8], security: &mut [u8], k: u64, m: u8) {
-    let kind = s.run_kind;
-    let number = s.run_number;
-    let buffer = s.buffer;
-    let start = range_start(kind, number);
-    match kind {
-        1 | 2 | 3 => erase_to(array, start, range_size(kind, number), k, m),
-        4 => program_to(array, start, buffer, k, m),
-        5 => {
-            let page = number as usize % 8;
-            program_to(security, page * 256, buffer, k, m);
+    let Some(work) = running_work(s) else {
+        return;
+    };
+    if let Work::SecurityPage(number) = work {
+        let start = number % 8 * 256;
+        if let Some(page) = security.get_mut(start..start + 256) {
+            program_to(page, &s.buffer, k, m);
         }
-        _ => {}
+        return;
+    }
+    let Some(places) = array_range(work) else {
+        return;
+    };
+    let Some(range) = array.get_mut(places) else {
+        return;
+    };
+    if is_erase(work) {
+        erase_to(range, k, m);
+    } else {
+        program_to(range, &s.buffer, k, m);
     }
 }
 
 // What 85, 01 and E8 do: "lock Security ID"; "sets IOC and WPEN"; "E8 adds its write-lock bits to the permanent register
 // and to the protection register; WPLD does not stop it."
 fn finish_registers(s: Flat) -> Flat {
-    let mut next = s;
-    let kind = s.run_kind;
-    let number = s.run_number;
-    match kind {
-        6 => {
-            next.sec = true;
-        }
-        7 => {
-            next.ioc = number % 2 == 1;
-            next.wpen = number / 2 % 2 == 1;
-        }
-        8 => {
-            next.permanent = s.permanent | number & WRITE_LOCKS;
-            next.protection = s.protection | number & WRITE_LOCKS;
-        }
-        _ => {}
+    match running_work(s) {
+        Some(Work::SecurityLock) => Flat { sec: true, ..s },
+        Some(Work::Configuration { ioc, wpen }) => Flat { ioc, wpen, ..s },
+        Some(Work::Permanent(bits)) => Flat {
+            permanent: s.permanent | bits & WRITE_LOCKS,
+            protection: s.protection | bits & WRITE_LOCKS,
+            ..s
+        },
+        _ => s,
     }
-    next
 }
 
 // What the running operation has done when a power cut stops it, or by W-205 "an accepted 99 while busy". Where nothing runs, and
@@ -886,286 +803,225 @@ fn stopped_by(opcode: u8, s: Flat, array: &mut [u8], security: &mut [u8], x: Ext
 
 // "Completion sets BUSY and WEL to 0." After a program the buffer is all FF again.
 fn completed(s: Flat) -> Flat {
-    let mut next = finish_registers(s);
-    if is_program(s.run_kind) {
-        next.buffer = [255u8; 256];
+    let buffer = if running_work(s).is_some_and(is_program) {
+        [255u8; 256]
+    } else {
+        s.buffer
+    };
+    Flat {
+        buffer,
+        run_kind: 0,
+        run_number: 0,
+        wel: false,
+        ..finish_registers(s)
     }
-    next.run_kind = 0;
-    next.run_number = 0;
-    next.wel = false;
-    next
 }
 
 // "Then power-up: SPI, WPLD 0, WEL 0, IOC 0, nothing running, no reset enable, protection 5555FFFFFFFF; SEC, WPEN and the
 // permanent register stay." "Suspended work is dropped." W-201: "Power-up and reset set 8". By W-204 "IOC 0" is the old part's.
 fn powered_up(s: Flat) -> Flat {
-    let mut next = dropped(s);
-    next.sqi = false;
-    next.wpld = false;
-    next.wel = false;
-    next.ioc = power_up_ioc(s.ba);
-    next.enable = false;
-    next.protection = 0x5555FFFFFFFF;
-    next.burst = 0;
-    next
+    Flat {
+        sqi: false,
+        wpld: false,
+        wel: false,
+        ioc: power_up_ioc(s.ba),
+        enable: false,
+        protection: 0x5555FFFFFFFF,
+        burst: 0,
+        ..dropped(s)
+    }
 }
 
 // ---- A well-formed chip record ----
 
 // "Page numbers below 8,192, in the Security ID below 8; erase ranges are a sector, a block or the array."
-fn work_listed(kind: u8, number: u64) -> bool {
-    match kind {
-        0 | 3 | 6 | 7 | 8 => true,
-        1 => number < 512,
-        2 => number < 40,
-        4 => number < 8192,
-        5 => number < 8,
-        _ => false,
+fn number_fits(work: Work) -> bool {
+    match work {
+        Work::Sector(n) => n < 512,
+        Work::Block(place) => place < 40,
+        Work::Page(n) => n < 8192,
+        Work::SecurityPage(n) => n < 8,
+        _ => true,
+    }
+}
+
+fn running_listed(s: Flat) -> bool {
+    match running_work(s) {
+        Some(work) => number_fits(work),
+        None => s.run_kind == 0,
     }
 }
 
 // "Suspended work is one sector or block erase or one page program."
-fn suspended_listed(kind: u8, number: u64) -> bool {
-    match kind {
-        0 => true,
-        1 | 2 | 4 => work_listed(kind, number),
-        _ => false,
+fn suspended_listed(s: Flat) -> bool {
+    match suspended_work(s) {
+        Some(work) => can_suspend(work) && number_fits(work),
+        None => s.sus_kind == 0,
     }
 }
 
 // "Registers below 2^48, no permanent read lock, each permanent bit set in the protection register."
 fn registers_fit(protection: u64, permanent: u64) -> bool {
-    if 0xFFFFFFFFFFFF < protection {
-        return false;
-    }
-    if 0xFFFFFFFFFFFF < permanent {
-        return false;
-    }
-    if permanent & READ_LOCKS != 0 {
-        return false;
-    }
-    permanent & protection == permanent
+    protection <= 0xFFFFFFFFFFFF
+        && permanent <= 0xFFFFFFFFFFFF
+        && permanent & READ_LOCKS == 0
+        && permanent & protection == permanent
 }
 
 // "one erase and one program"
-fn one_of_each(run_kind: u8, sus_kind: u8) -> bool {
-    if is_erase(sus_kind) {
-        return is_program(run_kind);
+fn one_of_each(running: Work, suspended: Work) -> bool {
+    if is_erase(suspended) {
+        is_program(running)
+    } else {
+        is_erase(running)
     }
-    is_erase(run_kind)
 }
 
 // "If something runs beside it, they do not overlap and are one erase and one program."
-fn side_by_side(run_kind: u8, run_number: u64, sus_kind: u8, sus_number: u64) -> bool {
-    if run_kind == 0 {
-        return true;
+fn side_by_side(s: Flat) -> bool {
+    match (running_work(s), suspended_work(s)) {
+        (Some(running), Some(suspended)) => {
+            one_of_each(running, suspended) && !ranges_meet(running, suspended)
+        }
+        _ => true,
     }
-    if sus_kind == 0 {
-        return true;
-    }
-    if !one_of_each(run_kind, sus_kind) {
-        return false;
-    }
-    // A running A5 is in the Security ID, and meets no range of the array.
-    if run_kind == 5 {
-        return true;
-    }
-    !ranges_meet(run_kind, run_number, sus_kind, sus_number)
 }
 
-fn all_erased(buffer: [u8; 256], count: usize) -> bool
-    requires { count ≤ 256 }
-{
-    let mut i = 0;
-    while i < count {
-        if buffer[i] != 255 {
-            return false;
-        }
-        i += 1;
-    }
-    true
+fn all_erased(bytes: &[u8]) -> bool {
+    bytes.iter().all(|&byte| byte == 255)
 }
 
 // "Running Security ID work has SEC 0; a running A5 of page 0 has FF in its first eight buffer bytes."
-fn security_fits(kind: u8, number: u64, sec: bool, buffer: [u8; 256]) -> bool {
-    if kind == 6 {
-        return !sec;
+fn security_fits(s: Flat) -> bool {
+    match running_work(s) {
+        Some(Work::SecurityLock) => !s.sec,
+        Some(Work::SecurityPage(page)) => !s.sec && (page != 0 || all_erased(&s.buffer[..8])),
+        _ => true,
     }
-    if kind != 5 {
-        return true;
-    }
-    if sec {
-        return false;
-    }
-    if number != 0 {
-        return true;
-    }
-    all_erased(buffer, 8)
 }
 
 // "The buffer is all FF when no program runs or is suspended."
-fn buffer_fits(run_kind: u8, sus_kind: u8, buffer: [u8; 256]) -> bool {
-    if is_program(run_kind) {
-        return true;
-    }
-    if is_program(sus_kind) {
-        return true;
-    }
-    all_erased(buffer, 256)
+fn buffer_fits(s: Flat) -> bool {
+    running_work(s).is_some_and(is_program)
+        || suspended_work(s).is_some_and(is_program)
+        || all_erased(&s.buffer)
+}
+
+// "A running or suspended range has no write lock."
+fn ranges_open(s: Flat) -> bool {
+    !running_work(s).is_some_and(|work| range_locked(s.protection, work))
+        && !suspended_work(s).is_some_and(|work| range_locked(s.protection, work))
 }
 
 fn well_formed(s: Flat) -> bool {
-    let buffer = s.buffer;
-    if !work_listed(s.run_kind, s.run_number) {
-        return false;
-    }
-    if !suspended_listed(s.sus_kind, s.sus_number) {
-        return false;
-    }
-    if !registers_fit(s.protection, s.permanent) {
-        return false;
-    }
-    if !side_by_side(s.run_kind, s.run_number, s.sus_kind, s.sus_number) {
-        return false;
-    }
-    // "A running or suspended range has no write lock."
-    if range_locked(s.protection, s.run_kind, s.run_number) {
-        return false;
-    }
-    if range_locked(s.protection, s.sus_kind, s.sus_number) {
-        return false;
-    }
-    if !security_fits(s.run_kind, s.run_number, s.sec, buffer) {
-        return false;
-    }
-    // W-201: "a well-formed record holds one of these four"
-    if !burst_listed(s.burst) {
-        return false;
-    }
-    buffer_fits(s.run_kind, s.sus_kind, buffer)
+    running_listed(s)
+        && suspended_listed(s)
+        && registers_fit(s.protection, s.permanent)
+        && side_by_side(s)
+        && ranges_open(s)
+        && security_fits(s)
+        // W-201: "a well-formed record holds one of these four"
+        && burst_listed(s.burst)
+        && buffer_fits(s)
 }
 
 // ---- Numbers the bench gives back ----
 
+#[derive(Clone, Copy, PartialEq, Eq)]
+enum Refusal {
+    Malformed = 1,
+    Empty = 2,
+    Unlisted = 3,
+    Length = 4,
+    Busy = 5,
+    NotEnabled = 6,
+    Quad = 7,
+    Suspension = 8,
+    Wel = 9,
+    Locked = 10,
+    Protected = 11,
+    Idle = 12,
+    // W-201
+    Burst = 13,
+    // W-203
+    ChipBusy = 14,
+    BadFile = 15,
+}
+
 // 5: "BUSY, and opcode not 05, 66, 99, B0"
 fn refused_busy(s: Flat, opcode: u8) -> bool {
-    if s.run_kind == 0 {
-        return false;
-    }
-    match opcode {
-        0x05 | 0x66 | 0x99 | 0xB0 => false,
-        _ => true,
-    }
+    running_work(s).is_some() && !matches!(opcode, 0x05 | 0x66 | 0x99 | 0xB0)
 }
 
 // 7: "6B or 32 with IOC 0", and W-201: "7 now covers EC too"
 fn refused_quad(s: Flat, opcode: u8) -> bool {
-    match opcode {
-        0x6B | 0x32 | 0xEC => !s.ioc,
-        _ => false,
-    }
+    matches!(opcode, 0x6B | 0x32 | 0xEC) && !s.ioc
 }
 
 // W-201: "13 for a C0 byte above 03"
 fn refused_burst(opcode: u8, sent: &[u8]) -> bool {
-    match opcode {
-        0xC0 => !burst_listed(byte_at(sent, 1)),
-        _ => false,
-    }
+    opcode == 0xC0 && !burst_listed(byte_at(sent, 1))
 }
 
 // 8: "B0 unless 20, D8, 02 or 32 runs and nothing is suspended"
 fn refused_suspend(s: Flat) -> bool {
-    if s.sus_kind != 0 {
-        return true;
-    }
-    let kind = s.run_kind;
-    match kind {
-        1 | 2 | 4 => false,
-        _ => true,
-    }
+    suspended_work(s).is_some() || !running_work(s).is_some_and(can_suspend)
 }
 
 // 8: "with WSE 1, 20 and D8, and 02 or 32 into the range"
-fn refused_beside_erase(s: Flat, opcode: u8, sent: &[u8]) -> bool {
+fn refused_beside_erase(suspended: Work, opcode: u8, sent: &[u8]) -> bool {
     match opcode {
         0x20 | 0xD8 => true,
-        0x02 | 0x32 => range_holds(s.sus_kind, s.sus_number, array_address(sent)),
+        0x02 | 0x32 => range_holds(suspended, array_address(sent)),
         _ => false,
     }
 }
 
 // 8: "with WSP 1, 02 and 32, and 20 or D8 whose range holds the page"
-fn refused_beside_program(s: Flat, opcode: u8, sent: &[u8]) -> bool {
-    let page = range_start(s.sus_kind, s.sus_number);
+fn refused_beside_program(suspended: Work, opcode: u8, sent: &[u8]) -> bool {
     match opcode {
         0x02 | 0x32 => true,
-        0x20 | 0xD8 => range_holds(work_kind(opcode), work_number(opcode, sent), page),
+        0x20 | 0xD8 => work_sent(opcode, sent).is_some_and(|erase| ranges_meet(erase, suspended)),
         _ => false,
     }
 }
 
 // 8: "C7, 01, 42, 8D, E8, 98, A5, 85 while anything is" suspended, and the two rules above.
-fn refused_beside(s: Flat, opcode: u8, sent: &[u8]) -> bool {
+fn refused_beside(suspended: Work, opcode: u8, sent: &[u8]) -> bool {
     match opcode {
         0xC7 | 0x01 | 0x42 | 0x8D | 0xE8 | 0x98 | 0xA5 | 0x85 => true,
-        _ => {
-            if is_erase(s.sus_kind) {
-                return refused_beside_erase(s, opcode, sent);
-            }
-            refused_beside_program(s, opcode, sent)
-        }
+        _ if is_erase(suspended) => refused_beside_erase(suspended, opcode, sent),
+        _ => refused_beside_program(suspended, opcode, sent),
     }
 }
 
 // 8: "suspension rule below"
 fn refused_suspension(s: Flat, opcode: u8, sent: &[u8]) -> bool {
-    if opcode == 0xB0 {
-        return refused_suspend(s);
+    match opcode {
+        0xB0 => refused_suspend(s),
+        // "30 with nothing suspended"
+        0x30 => suspended_work(s).is_none(),
+        _ => suspended_work(s).is_some_and(|work| refused_beside(work, opcode, sent)),
     }
-    // "30 with nothing suspended"
-    if opcode == 0x30 {
-        return s.sus_kind == 0;
-    }
-    if s.sus_kind == 0 {
-        return false;
-    }
-    refused_beside(s, opcode, sent)
 }
 
 // "20, D8, C7, 02, 32, A5, 85, 01, E8, 42, 8D and 98 need WEL 1."
 fn needs_wel(opcode: u8) -> bool {
-    match opcode {
-        0x20 | 0xD8 | 0xC7 | 0x02 | 0x32 | 0xA5 => true,
-        0x85 | 0x01 | 0xE8 | 0x42 | 0x8D | 0x98 => true,
-        _ => false,
-    }
+    matches!(
+        opcode,
+        0x20 | 0xD8 | 0xC7 | 0x02 | 0x32 | 0xA5 | 0x85 | 0x01 | 0xE8 | 0x42 | 0x8D | 0x98
+    )
 }
 
 // 9: "WEL needed and 0"
 fn refused_wel(s: Flat, opcode: u8) -> bool {
-    if s.wel {
-        return false;
-    }
-    needs_wel(opcode)
+    !s.wel && needs_wel(opcode)
 }
 
 // "A5 that sends a byte to places 0 to 7": only page 0 has them, and data wrap in the page.
 fn sends_to_factory(sent: &[u8]) -> bool {
     let address = security_address(sent);
-    if 255 < address {
-        return false;
-    }
-    let mut place = address;
-    let mut i = 3;
-    while i < sent.len() {
-        if place % 256 < 8 {
-            return true;
-        }
-        place = place % 256 + 1;
-        i += 1;
-    }
-    false
+    address < 256 && (3..sent.len()).any(|i| address.wrapping_add(i - 3) % 256 < 8)
 }
 
 // 10: "42 or 98 with WPLD 1; A5 or 85 with SEC 1; A5 that sends a byte to places 0 to 7"
@@ -1173,12 +1029,7 @@ fn refused_locked(s: Flat, opcode: u8, sent: &[u8]) -> bool {
     match opcode {
         0x42 | 0x98 => s.wpld,
         0x85 => s.sec,
-        0xA5 => {
-            if s.sec {
-                return true;
-            }
-            sends_to_factory(sent)
-        }
+        0xA5 => s.sec || sends_to_factory(sent),
         _ => false,
     }
 }
@@ -1192,46 +1043,46 @@ fn refused_protected(s: Flat, opcode: u8, sent: &[u8]) -> bool {
     }
 }
 
-// "If several apply to an event, the lowest is given." W-201: 13 is "tested after 7". 7, 13, 8 to 11, or 0.
-fn later_refusal(s: Flat, opcode: u8, sent: &[u8]) -> u8 {
+// "If several apply to an event, the lowest is given." W-201: 13 is "tested after 7". 7, 13, 8 to 11, or none.
+fn later_refusal(s: Flat, opcode: u8, sent: &[u8]) -> Option<Refusal> {
     if refused_quad(s, opcode) {
-        return 7;
+        return Some(Refusal::Quad);
     }
     if refused_burst(opcode, sent) {
-        return 13;
+        return Some(Refusal::Burst);
     }
     if refused_suspension(s, opcode, sent) {
-        return 8;
+        return Some(Refusal::Suspension);
     }
     if refused_wel(s, opcode) {
-        return 9;
+        return Some(Refusal::Wel);
     }
     if refused_locked(s, opcode, sent) {
-        return 10;
+        return Some(Refusal::Locked);
     }
     if refused_protected(s, opcode, sent) {
-        return 11;
+        return Some(Refusal::Protected);
     }
-    0
+    None
 }
 
-// 3 to 11, 13, or 0, for a frame that is not empty.
-fn refusal(s: Flat, sent: &[u8]) -> u8 {
+// 3 to 11, 13, or none, for a frame that is not empty.
+fn refusal_of(s: Flat, sent: &[u8]) -> Option<Refusal> {
     let opcode = byte_at(sent, 0);
     // 3: "opcode not listed, or not in this protocol"
     if !listed(opcode, s.sqi) {
-        return 3;
+        return Some(Refusal::Unlisted);
     }
     // 4: "length not as listed"
     if !length_listed(opcode, s.sqi, sent.len()) {
-        return 4;
+        return Some(Refusal::Length);
     }
     if refused_busy(s, opcode) {
-        return 5;
+        return Some(Refusal::Busy);
     }
     // 6: "99 with no enable"
     if opcode == 0x99 && !s.enable {
-        return 6;
+        return Some(Refusal::NotEnabled);
     }
     later_refusal(s, opcode, sent)
 }
@@ -1239,16 +1090,20 @@ fn refusal(s: Flat, sent: &[u8]) -> u8 {
 // ---- The three events ----
 
 // "0 means done."
-fn given(number: u8, state: Flat) -> Step {
-    Step { number, state }
+fn done(state: Flat) -> Step {
+    Step { number: 0, state }
+}
+
+fn refused(refusal: Refusal, state: Flat) -> Step {
+    Step {
+        number: refusal as u8,
+        state,
+    }
 }
 
 // 1: "record not well-formed, or a length outside "Sizes" (every event)". Whether neither is so, but for the frame's own lengths.
 fn admitted(s: Flat, array: usize, security: usize) -> bool {
-    if !memories_sized(array, security) {
-        return false;
-    }
-    well_formed(s)
+    memories_sized(array, security) && well_formed(s)
 }
 
 // The reply and the record of a frame that is done; s has its enable used up already.
@@ -1279,51 +1134,50 @@ pub fn frame(
 ) -> Step {
     // "Refusal 1 and 12 change nothing at all."
     if !frame_sized(sent.len(), reply.len(), marks.len()) {
-        return given(1, s);
+        return refused(Refusal::Malformed, s);
     }
     if !admitted(s, array.len(), security.len()) {
-        return given(1, s);
+        return refused(Refusal::Malformed, s);
     }
     // "Refusals 2 to 11 fill the reply with FF and the marks with 0; nothing else changes, except that 3 to 11 use up the
     // reset enable." W-201: 13, "leaving what 3 to 11 leave"
-    if sent.len() == 0 {
+    if sent.is_empty() {
         no_reply(reply, marks);
-        return given(2, s);
+        return refused(Refusal::Empty, s);
     }
     // "Every frame except one refused with 1 or 2 uses up the enable; 66 then grants it."
-    let used = with_enable(s, false);
-    let number = refusal(s, sent);
-    if number != 0 {
+    let used = Flat { enable: false, ..s };
+    if let Some(why) = refusal_of(s, sent) {
         no_reply(reply, marks);
-        return given(number, used);
+        return refused(why, used);
     }
     let next = carried_out(used, array, security, sent, reply, marks, x);
-    given(0, next)
+    done(next)
 }
 
 // A completion: the running internal operation ends.
 pub fn completion(s: Flat, array: &mut [u8], security: &mut [u8]) -> Step {
     if !admitted(s, array.len(), security.len()) {
-        return given(1, s);
+        return refused(Refusal::Malformed, s);
     }
     // 12: "completion with nothing running"
-    if s.run_kind == 0 {
-        return given(12, s);
+    if running_work(s).is_none() {
+        return refused(Refusal::Idle, s);
     }
     // No range has a byte 2,097,152: all of it is finished, and no m is used.
     finish_bytes(s, array, security, 2097152, 0);
     let next = completed(s);
-    given(0, next)
+    done(next)
 }
 
 // A power cut with a count k; W-205: it "carries m too".
 pub fn power_cut(s: Flat, array: &mut [u8], security: &mut [u8], k: u64, m: u8) -> Step {
     if !admitted(s, array.len(), security.len()) {
-        return given(1, s);
+        return refused(Refusal::Malformed, s);
     }
     let left = stopped(s, array, security, k, m);
     let next = powered_up(left);
-    given(0, next)
+    done(next)
 }
 
 // ---- W-203: chips sent by post ----
@@ -1344,7 +1198,7 @@ const PG_START: usize = 2070;
 const PG_BYTES: usize = 262;
 
 // What RG's body holds: "protection 6, permanent 6, flags 1, burst code 1".
-#[derive(Clone, Copy)]
+#[derive(Clone, Copy, PartialEq, Eq)]
 struct Head {
     protection: u64,
     permanent: u64,
@@ -1352,106 +1206,106 @@ struct Head {
     burst: u8,
 }
 
+#[derive(Clone, Copy, PartialEq, Eq)]
+enum Record {
+    Rg,
+    Si,
+    // how many PGs come before it
+    Pg(u16),
+}
+
+#[derive(Clone, Copy, PartialEq, Eq)]
+enum Part {
+    Mark,
+    Body,
+    Sum,
+}
+
 // What stands at a place of a file.
-#[derive(Clone, Copy)]
+#[derive(Clone, Copy, PartialEq, Eq)]
 struct Spot {
-    // the record: 0 for RG, 1 for SI, 2 for a PG
-    record: u8,
-    // for a PG: how many PGs come before it
-    page: usize,
-    // the part of the record: 0 for the mark, 1 for the body, 2 for the sum
-    part: u8,
+    record: Record,
+    part: Part,
     // the byte of that part, from 0
     index: usize,
 }
 
 // "a fixed body": how many bytes it has.
-fn body_bytes(record: u8) -> usize {
+fn body_bytes(record: Record) -> usize {
     match record {
-        0 => 14,
-        1 => 2048,
-        _ => 258,
+        Record::Rg => 14,
+        Record::Si => 2048,
+        Record::Pg(_) => 258,
     }
 }
 
 // What stands in a record after so many of its bytes: the mark, then the body, then the sum.
-fn spot_in(record: u8, page: usize, before: usize) -> Spot {
+fn spot_in(record: Record, before: usize) -> Spot {
     let body = body_bytes(record);
-    if before < 2 {
-        return Spot {
-            record,
-            page,
-            part: 0,
-            index: before,
-        };
-    }
-    let index = before - 2;
-    if index < body {
-        return Spot {
-            record,
-            page,
-            part: 1,
-            index,
-        };
-    }
+    let (part, index) = if before < 2 {
+        (Part::Mark, before)
+    } else if before - 2 < body {
+        (Part::Body, before - 2)
+    } else {
+        (Part::Sum, before - 2 - body)
+    };
     Spot {
         record,
-        page,
-        part: 2,
-        index: index - body,
+        part,
+        index,
     }
 }
 
 fn spot_at(place: usize) -> Spot {
     if place < SI_START {
-        return spot_in(0, 0, place);
+        return spot_in(Record::Rg, place);
     }
     if place < PG_START {
-        return spot_in(1, 0, place - SI_START);
+        return spot_in(Record::Si, place - SI_START);
     }
     let on = place - PG_START;
-    spot_in(2, on / PG_BYTES, on % PG_BYTES)
+    spot_in(Record::Pg((on / PG_BYTES % 8192) as u16), on % PG_BYTES)
 }
 
-fn one_of(index: usize, first: u8, second: u8) -> u8 {
-    if index == 0 { first } else { second }
+fn one_of(pair: [u8; 2], index: usize) -> u8 {
+    if index == 0 { pair[0] } else { pair[1] }
 }
 
 // "a two-byte ASCII mark": "RG", "SI", "PG".
-fn mark_byte(record: u8, index: usize) -> u8 {
-    match record {
-        0 => one_of(index, b'R', b'G'),
-        1 => one_of(index, b'S', b'I'),
-        _ => one_of(index, b'P', b'G'),
-    }
+fn mark_byte(record: Record, index: usize) -> u8 {
+    let mark = match record {
+        Record::Rg => [b'R', b'G'],
+        Record::Si => [b'S', b'I'],
+        Record::Pg(_) => [b'P', b'G'],
+    };
+    one_of(mark, index)
 }
 
 // "high byte first", of a sum and of a page number.
-fn two_bytes(value: usize, index: usize) -> u8 {
-    let high = (value / 256 % 256) as u8;
-    let low = (value % 256) as u8;
-    one_of(index, high, low)
+fn two_bytes(value: u16, index: usize) -> u8 {
+    one_of(value.to_be_bytes(), index)
 }
 
 // "a 16-bit sum of the body's bytes that wraps at 65,536": the total after a byte of a file. Each mark begins it anew.
-fn total_after(total: usize, part: u8, value: u8) -> usize {
+fn total_after(total: u16, part: Part, value: u8) -> u16 {
     match part {
-        0 => 0,
-        1 => (total % 65536 + value as usize) % 65536,
-        _ => total,
+        Part::Mark => 0,
+        Part::Body => total.wrapping_add(u16::from(value)),
+        Part::Sum => total,
     }
 }
 
 // The place in the array of a byte of a page.
-fn page_place(page: usize, index: usize) -> usize {
-    page % 8192 * 256 + index % 256
+fn page_place(page: u16, index: usize) -> usize {
+    usize::from(page) * 256 + index % 256
 }
 
 // "Flags from bit 0: SQI, WEL, IOC, WPEN, WPLD, SEC, reset enable", and W-204: "bit 7 of W-203's flags now holds" the part,
 // "1 for BA".
 fn flags_of(s: Flat) -> u8 {
-    let low = flag(s.sqi, 1) | flag(s.wel, 2) | flag(s.ioc, 4) | flag(s.wpen, 8);
-    low | flag(s.wpld, 16) | flag(s.sec, 32) | flag(s.enable, 64) | flag(s.ba, 128)
+    let low = u8::from(s.sqi) | u8::from(s.wel) << 1 | u8::from(s.ioc) << 2 | u8::from(s.wpen) << 3;
+    let high = u8::from(s.wpld) << 4 | u8::from(s.sec) << 5 | u8::from(s.enable) << 6;
+    low | high | u8::from(s.ba) << 7
 }
 
 fn head_of(s: Flat) -> Head {
@@ -1479,7 +1333,7 @@ fn head_byte(head: Head, index: usize) -> u8 {
 
 // A byte of a PG's body: "page number from 0 up, high byte first, then the page". "A file shows locked bytes": the page goes as
 // it is stored.
-fn page_byte(array: &[u8], page: usize, index: usize) -> u8 {
+fn page_byte(array: &[u8], page: u16, index: usize) -> u8 {
     if index < 2 {
         return two_bytes(page, index);
     }
@@ -1487,68 +1341,57 @@ fn page_byte(array: &[u8], page: usize, index: usize) -> u8 {
 }
 
 fn body_byte(head: Head, array: &[u8], security: &[u8], at: Spot) -> u8 {
-    let record = at.record;
-    match record {
-        0 => head_byte(head, at.index),
-        1 => byte_at(security, at.index),
-        _ => page_byte(array, at.page, at.index),
+    match at.record {
+        Record::Rg => head_byte(head, at.index),
+        Record::Si => byte_at(security, at.index),
+        Record::Pg(page) => page_byte(array, page, at.index),
     }
 }
 
 // A byte of the file; total is the sum of its body so far.
-fn file_byte(head: Head, array: &[u8], security: &[u8], at: Spot, total: usize) -> u8 {
-    let part = at.part;
-    match part {
-        0 => mark_byte(at.record, at.index),
-        1 => body_byte(head, array, security, at),
-        _ => two_bytes(total, at.index),
+fn file_byte(head: Head, array: &[u8], security: &[u8], at: Spot, total: u16) -> u8 {
+    match at.part {
+        Part::Mark => mark_byte(at.record, at.index),
+        Part::Body => body_byte(head, array, security, at),
+        Part::Sum => two_bytes(total, at.index),
     }
 }
 
 fn write_bytes(head: Head, array: &[u8], security: &[u8], file: &mut [u8]) {
     let mut total = 0;
-    let mut place = 0;
-    while place < FILE_BYTES {
+    for (place, byte) in file.iter_mut().enumerate() {
         let at = spot_at(place);
         let value = file_byte(head, array, security, at, total);
-        put(file, place, value);
+        *byte = value;
         total = total_after(total, at.part, value);
-        place += 1;
     }
 }
 
 // A byte of a body that has to be one value: that of a page number, "from 0 up".
 fn body_fits(at: Spot, value: u8) -> bool {
-    if at.record != 2 {
-        return true;
+    match at.record {
+        Record::Pg(page) if at.index < 2 => value == two_bytes(page, at.index),
+        _ => true,
     }
-    if 1 < at.index {
-        return true;
-    }
-    value == two_bytes(at.page, at.index)
 }
 
 // Not "a wrong mark, sum, page number"; total is the sum of the body so far.
-fn byte_fits(at: Spot, total: usize, value: u8) -> bool {
-    let part = at.part;
-    match part {
-        0 => value == mark_byte(at.record, at.index),
-        1 => body_fits(at, value),
-        _ => value == two_bytes(total, at.index),
+fn byte_fits(at: Spot, total: u16, value: u8) -> bool {
+    match at.part {
+        Part::Mark => value == mark_byte(at.record, at.index),
+        Part::Body => body_fits(at, value),
+        Part::Sum => value == two_bytes(total, at.index),
     }
 }
 
 fn records_fit(file: &[u8]) -> bool {
     let mut total = 0;
-    let mut place = 0;
-    while place < FILE_BYTES {
+    for (place, &value) in file.iter().enumerate() {
         let at = spot_at(place);
-        let value = byte_at(file, place);
         if !byte_fits(at, total, value) {
             return false;
         }
         total = total_after(total, at.part, value);
-        place += 1;
     }
     true
 }
@@ -1566,15 +1409,10 @@ fn head_in(file: &[u8]) -> Head {
 // "a whole idle chip": nothing runs and nothing is suspended, and so the buffer is all FF. Its IOC is the file's: reading is no
 // power-up. W-204: "so old files stay old parts"
 fn idle_chip(head: Head) -> Flat {
-    let flags = head.flags as u64;
+    let flags = u64::from(head.flags);
     Flat {
-        buffer: [255u8; 256],
         protection: head.protection,
         permanent: head.permanent,
-        run_kind: 0,
-        run_number: 0,
-        sus_kind: 0,
-        sus_number: 0,
         sqi: has_bit(flags, 0),
         wel: has_bit(flags, 1),
         ioc: has_bit(flags, 2),
@@ -1583,45 +1421,32 @@ fn idle_chip(head: Head) -> Flat {
         sec: has_bit(flags, 5),
         enable: has_bit(flags, 6),
         burst: head.burst,
-        ba: has_bit(flags, 7),
+        ..new_chip(has_bit(flags, 7))
     }
 }
 
 // Not "a wrong mark, sum, page number, code, .. or register that breaks the well-formed rules". W-204: bit 7 "now holds" the
 // part, so no flag bit is wrong.
 fn file_fits(file: &[u8]) -> bool {
-    if !records_fit(file) {
-        return false;
-    }
     // the code and the registers: all else of an idle chip is well-formed
-    well_formed(idle_chip(head_in(file)))
+    records_fit(file) && well_formed(idle_chip(head_in(file)))
 }
 
 // A byte of the file goes to the Security ID, to the array, or to neither.
 fn store_byte(at: Spot, value: u8, array: &mut [u8], security: &mut [u8]) {
-    if at.part != 1 {
+    if at.part != Part::Body {
         return;
     }
-    if at.record == 1 {
-        put(security, at.index, value);
-        return;
+    match at.record {
+        Record::Si => put(security, at.index, value),
+        Record::Pg(page) if 2 <= at.index => put(array, page_place(page, at.index - 2), value),
+        _ => {}
     }
-    if at.record == 0 {
-        return;
-    }
-    if at.index < 2 {
-        return;
-    }
-    put(array, page_place(at.page, at.index - 2), value);
 }
 
 fn store_bytes(file: &[u8], array: &mut [u8], security: &mut [u8]) {
-    let mut place = 0;
-    while place < FILE_BYTES {
-        let at = spot_at(place);
-        let value = byte_at(file, place);
-        store_byte(at, value, array, security);
-        place += 1;
+    for (place, &value) in file.iter().enumerate() {
+        store_byte(spot_at(place), value, array, security);
     }
 }
 
@@ -1630,17 +1455,14 @@ pub fn image_write(f: Flat, array: &[u8], security: &[u8], file: &mut [u8]) -> u
     // "A refusal leaves chip and buffer unchanged."
     // "1 for wrong lengths or, writing, a broken record"
     if file.len() != FILE_BYTES {
-        return 1;
+        return Refusal::Malformed as u8;
     }
     if !admitted(f, array.len(), security.len()) {
-        return 1;
+        return Refusal::Malformed as u8;
     }
     // "14 for a busy or suspended chip"
-    if f.run_kind != 0 {
-        return 14;
-    }
-    if f.sus_kind != 0 {
-        return 14;
+    if running_work(f).is_some() || suspended_work(f).is_some() {
+        return Refusal::ChipBusy as u8;
     }
     write_bytes(head_of(f), array, security, file);
     0
@@ -1650,16 +1472,16 @@ pub fn image_write(f: Flat, array: &[u8], security: &[u8], file: &mut [u8]) -> u
 pub fn image_read(f: Flat, file: &[u8], array: &mut [u8], security: &mut [u8]) -> Step {
     // "1 for wrong lengths"
     if file.len() != FILE_BYTES {
-        return given(1, f);
+        return refused(Refusal::Malformed, f);
     }
     if !memories_sized(array.len(), security.len()) {
-        return given(1, f);
+        return refused(Refusal::Malformed, f);
     }
     // 15, before the first byte is stored
     if !file_fits(file) {
-        return given(15, f);
+        return refused(Refusal::BadFile, f);
     }
     store_bytes(file, array, security);
     let next = idle_chip(head_in(file));
-    given(0, next)
+    done(next)
 }

@@ -11,19 +11,18 @@ pub mod desk;
 
 pub use desk::Store;
 
-// What a frame of the store gives back: its number, 0 for done, the chip after it, and the byte of its reply.
-#[derive(Clone, Copy)]
+// What a frame of the store that is done gives back: the chip after it, and the byte of its reply.
+#[derive(Clone, Copy, PartialEq, Eq)]
 struct Heard {
-    number: u8,
     chip: second::Flat,
     value: u8,
 }
 
-// The two bytes of a slot's mark.
-#[derive(Clone, Copy)]
-struct Mark {
-    first: u8,
-    other: u8,
+// What a refused frame gives back: its number, and the chip after it.
+#[derive(Clone, Copy, PartialEq, Eq)]
+struct Refused {
+    chip: second::Flat,
+    number: u8,
 }
 
 // ---- The slots ----
@@ -49,32 +48,10 @@ const DATA_AT: usize = 4;
 const ALLOWANCE_LIMIT: u64 = 65535;
 
 // "mark 53 54"
-fn live() -> Mark {
-    Mark {
-        first: 0x53,
-        other: 0x54,
-    }
-}
+const LIVE: [u8; 2] = [0x53, 0x54];
 
 // "clears to 00 00 the mark"
-fn cleared() -> Mark {
-    Mark { first: 0, other: 0 }
-}
-
-// The byte at a place of a slice. All uses are inside the slice; outside it the answer is 0.
-fn byte_at(from: &[u8], place: usize) -> u8 {
-    if place < from.len() {
-        return from[place];
-    }
-    0
-}
-
-// A byte stored at a place of a slice. All uses are inside the slice; outside it nothing happens.
-fn put(to: &mut [u8], place: usize, value: u8) {
-    if place < to.len() {
-        to[place] = value;
-    }
-}
+const CLEARED: [u8; 2] = [0, 0];
 
 // How many bytes of the list come before a slot. All uses are of slots below 2,048.
 fn slot_start(slot: usize) -> usize
@@ -83,83 +60,55 @@ fn slot_start(slot: usize) -> usize
     slot % SLOTS * SLOT_BYTES
 }
 
-// A byte of a slot, as the read shows it.
-fn slot_byte(shown: &[u8], slot: usize, i: usize) -> u8 {
-    byte_at(shown, slot_start(slot) + i % SLOT_BYTES)
+// The bytes of a slot, as the read shows it. All uses are of the whole list.
+fn slot_bytes(shown: &[u8], slot: usize) -> &[u8] {
+    let start = slot_start(slot);
+    shown.get(start..start + SLOT_BYTES).unwrap_or(&[])
 }
 
 // "A slot is empty if all FF"
 fn is_empty(shown: &[u8], slot: usize) -> bool {
-    let mut i = 0;
-    while i < SLOT_BYTES {
-        if slot_byte(shown, slot, i) != 255 {
-            return false;
-        }
-        i += 1;
-    }
-    true
+    slot_bytes(shown, slot).iter().all(|&byte| byte == 255)
 }
 
-// "live if its mark is 53 54". A slot that is neither is dead, and nobody asks for those.
-fn is_live(shown: &[u8], slot: usize) -> bool {
-    let bytes = live();
-    if slot_byte(shown, slot, 0) != bytes.first {
-        return false;
-    }
-    slot_byte(shown, slot, 1) == bytes.other
-}
-
-// "station number in two bytes", the high one first, as document 01 has its addresses.
-fn number_byte(station: u16, i: usize) -> u8 {
-    if i == 0 {
-        return (station / 256 % 256) as u8;
-    }
-    (station % 256) as u8
-}
-
-// A "live slot of that number".
+// A "live slot of that number": "live if its mark is 53 54", then "station number in two bytes", the high one first, as document
+// 01 has its addresses. A slot that is neither empty nor live is dead, and nobody asks for those.
 fn is_live_of(shown: &[u8], slot: usize, station: u16) -> bool {
-    if !is_live(shown, slot) {
-        return false;
-    }
-    if slot_byte(shown, slot, NUMBER_AT) != number_byte(station, 0) {
-        return false;
-    }
-    slot_byte(shown, slot, NUMBER_AT + 1) == number_byte(station, 1)
+    let bytes = slot_bytes(shown, slot);
+    bytes.starts_with(&LIVE)
+        && bytes
+            .iter()
+            .skip(NUMBER_AT)
+            .take(2)
+            .eq(&station.to_be_bytes())
 }
 
-// "the first empty slot"; 2,048 where there is none.
-fn first_empty(shown: &[u8]) -> usize {
-    let mut slot = 0;
-    while slot < SLOTS {
-        if is_empty(shown, slot) {
-            return slot;
-        }
-        slot += 1;
-    }
-    SLOTS
+// "the first empty slot"
+fn first_empty(shown: &[u8]) -> Option<usize> {
+    (0..SLOTS).find(|&slot| is_empty(shown, slot))
 }
 
-// The first "live slot of that number" from a slot on; 2,048 where there is none.
-fn live_from(shown: &[u8], station: u16, from: usize) -> usize
-    requires { from ≤ 2048 }
-    ensures { from ≤ result }
-{
-    let mut slot = from;
-    while slot < SLOTS {
-        if is_live_of(shown, slot, station) {
-            return slot;
-        }
-        slot += 1;
-    }
-    SLOTS
+// "the first live slot of that number"
+fn first_live(shown: &[u8], station: u16) -> Option<usize> {
+    (0..SLOTS).find(|&slot| is_live_of(shown, slot, station))
 }
 
 // ---- Frames ----
 
 // The store's frames carry no tear: none of them is a 99.
 fn no_tear() -> second::Extra {
-    second::Extra { k: 0, m: 0 }
+    second::Extra::default()
+}
+
+// The chip after an event that is done, or what refused it.
+fn done(step: second::Step) -> Result<second::Flat, Refused> {
+    match step.number {
+        0 => Ok(step.state),
+        number => Err(Refused {
+            chip: step.state,
+            number,
+        }),
+    }
 }
 
 // The one read of a call: 03 from 010000, as many bytes as the list has.
@@ -169,13 +118,18 @@ fn read_list(
     security: &mut [u8],
     reply: &mut [u8],
     marks: &mut [u8],
-) -> second::Step {
+) -> Result<second::Flat, Refused> {
     let sent = [0x03u8, 0x01, 0x00, 0x00];
-    second::frame(chip, array, security, &sent, reply, marks, no_tear())
+    done(second::frame(chip, array, security, &sent, reply, marks, no_tear()))
 }
 
 // Any other frame, with a reply of one byte.
-fn small_frame(chip: second::Flat, array: &mut [u8], security: &mut [u8], sent: &[u8]) -> Heard {
+fn small_frame(
+    chip: second::Flat,
+    array: &mut [u8],
+    security: &mut [u8],
+    sent: &[u8],
+) -> Result<Heard, Refused> {
     let mut reply = [0u8; 1];
     let mut marks = [0u8; 1];
     let step = second::frame(
@@ -187,12 +141,11 @@ fn small_frame(chip: second::Flat, array: &mut [u8], security: &mut [u8], sent: 
         &mut marks,
         no_tear(),
     );
-    let after = step.state;
-    Heard {
-        number: step.number,
-        chip: after,
+    let chip = done(step)?;
+    Ok(Heard {
+        chip,
         value: reply[0],
-    }
+    })
 }
 
 // The chip after "completion arrives", or as it is where it does not. An 02 that was done runs until then, so no completion
@@ -211,44 +164,50 @@ fn after_completion(
 }
 
 // One poll: 05, and "before" it the completion if it arrives.
-fn poll(chip: second::Flat, array: &mut [u8], security: &mut [u8], arrives: bool) -> Heard {
+fn poll(
+    chip: second::Flat,
+    array: &mut [u8],
+    security: &mut [u8],
+    arrives: bool,
+) -> Result<Heard, Refused> {
     let now = after_completion(chip, array, security, arrives);
-    let sent = [0x05u8];
-    small_frame(now, array, security, &sent)
+    small_frame(now, array, security, &[0x05u8])
 }
 
 // "polls status at most as many times as it was allowed". `before` is the poll before which completion arrives, the first
-// being 1. "The reported polls equal the place of the first poll that reads BUSY 0, or the allowance"; document 01: BUSY is
-// bit 0 of the status.
+// being 1; none where it never does. "The reported polls equal the place of the first poll that reads BUSY 0, or the allowance";
+// document 01: BUSY is bit 0 of the status.
 fn polled(
     chip: second::Flat,
     array: &mut [u8],
     security: &mut [u8],
     allowance: u64,
-    before: u64,
+    before: Option<u64>,
 ) -> Store
     ensures { result.polls ≤ allowance }
 {
     let mut now = chip;
-    let mut place: u64 = 0;
-    while place < allowance {
-        place += 1;
-        let heard = poll(now, array, security, place == before);
-        now = heard.chip;
-        // "If the chip refuses, the call ends with that number"
-        if heard.number != 0 {
-            return Store {
-                chip: now,
-                number: heard.number,
-                polls: allowance,
-            };
-        }
-        if heard.value % 2 == 0 {
-            return Store {
-                chip: now,
-                number: 0,
-                polls: place,
-            };
+    for place in 0..allowance {
+        let poll_number = place + 1;
+        match poll(now, array, security, before == Some(poll_number)) {
+            // "If the chip refuses, the call ends with that number"
+            Err(refused) => {
+                return Store {
+                    chip: refused.chip,
+                    number: refused.number,
+                    polls: allowance,
+                };
+            }
+            Ok(heard) => {
+                now = heard.chip;
+                if heard.value % 2 == 0 {
+                    return Store {
+                        chip: now,
+                        number: 0,
+                        polls: poll_number,
+                    };
+                }
+            }
         }
     }
     // "18 polls used up"
@@ -260,6 +219,8 @@ fn polled(
 }
 
 // ---- Writes ----
+
+// A write gives back the desk's record itself, number and all: a Result over it would say a second time whether the number is 0.
 
 // A call, or a write, that ends with a number before its first poll.
 fn ended(chip: second::Flat, number: u8) -> Store
@@ -279,16 +240,14 @@ fn program(
     security: &mut [u8],
     sent: &[u8],
     allowance: u64,
-    before: u64,
+    before: Option<u64>,
 ) -> Store
     ensures { result.polls ≤ allowance }
 {
-    let programmed = small_frame(chip, array, security, sent);
-    let running = programmed.chip;
-    if programmed.number != 0 {
-        return ended(running, programmed.number);
+    match small_frame(chip, array, security, sent) {
+        Ok(running) => polled(running.chip, array, security, allowance, before),
+        Err(refused) => ended(refused.chip, refused.number),
     }
-    polled(running, array, security, allowance, before)
 }
 
 // One write: 06, then the 02 that is passed, then the polls. "only a done answer goes on to the next frame"
@@ -298,62 +257,44 @@ fn write(
     security: &mut [u8],
     sent: &[u8],
     allowance: u64,
-    before: u64,
+    before: Option<u64>,
 ) -> Store
     ensures { result.polls ≤ allowance }
 {
-    let enable = [0x06u8];
-    let enabled = small_frame(chip, array, security, &enable);
-    let ready = enabled.chip;
-    if enabled.number != 0 {
-        return ended(ready, enabled.number);
+    match small_frame(chip, array, security, &[0x06u8]) {
+        Ok(ready) => program(ready.chip, array, security, sent, allowance, before),
+        Err(refused) => ended(refused.chip, refused.number),
     }
-    program(ready, array, security, sent, allowance, before)
 }
 
-// An address byte of a place of the array; document 01: "Address bytes are highest first".
-fn address_byte(place: usize, i: usize) -> u8 {
-    match i {
-        0 => (place / 65536 % 256) as u8,
-        1 => (place / 256 % 256) as u8,
-        _ => (place % 256) as u8,
-    }
+// How an 02 begins that writes to a slot, from one of its bytes on; document 01: "Address bytes are highest first".
+fn program_head(slot: usize, at: usize) -> [u8; 4] {
+    let place = LIST_START + slot_start(slot) + at % SLOT_BYTES;
+    let [_, high, middle, low] = (place as u32).to_be_bytes();
+    [0x02, high, middle, low]
 }
 
 // "writes number and data into the first empty slot": the 02 that does it. The data are 28 bytes.
 fn number_and_data(slot: usize, station: u16, data: &[u8]) -> [u8; 34] {
-    let place = LIST_START + slot_start(slot) + NUMBER_AT;
+    let head = program_head(slot, NUMBER_AT);
+    let number = station.to_be_bytes();
     let mut sent = [0u8; 34];
-    sent[0] = 0x02;
-    sent[1] = address_byte(place, 0);
-    sent[2] = address_byte(place, 1);
-    sent[3] = address_byte(place, 2);
-    sent[4] = number_byte(station, 0);
-    sent[5] = number_byte(station, 1);
-    let mut i = 0;
-    while i < DATA_BYTES {
-        sent[6 + i] = byte_at(data, i);
-        i += 1;
+    for (to, from) in sent.iter_mut().zip(head.iter().chain(&number).chain(data)) {
+        *to = *from;
     }
     sent
 }
 
 // The 02 that writes the two bytes of a slot's mark.
-fn mark_frame(slot: usize, bytes: Mark) -> [u8; 6] {
-    let place = LIST_START + slot_start(slot);
-    let high = address_byte(place, 0);
-    let middle = address_byte(place, 1);
-    let low = address_byte(place, 2);
-    [0x02, high, middle, low, bytes.first, bytes.other]
+fn mark_frame(slot: usize, mark: [u8; 2]) -> [u8; 6] {
+    let [program, high, middle, low] = program_head(slot, 0);
+    [program, high, middle, low, mark[0], mark[1]]
 }
 
 // "a lent list says, for each write in turn, before which poll completion arrives (0 or no entry: never)". The first write
 // has turn 0; no poll has place 0.
-fn completes_before(list: &[u64], turn: usize) -> u64 {
-    if turn < list.len() {
-        return list[turn];
-    }
-    0
+fn completes_before(list: &[u64], turn: usize) -> Option<u64> {
+    list.get(turn).copied()
 }
 
 // A write of a slot's mark. `call` is what the writes before it came to. The reported polls are "added over the writes".
@@ -362,18 +303,20 @@ fn write_mark(
     array: &mut [u8],
     security: &mut [u8],
     slot: usize,
-    bytes: Mark,
+    mark: [u8; 2],
     allowance: u64,
-    before: u64,
+    before: Option<u64>,
 ) -> Store
     requires { (allowance ≤ 65535) × (call.polls ≤ 1000000000) }
     ensures { result.polls ≤ call.polls + 65535 }
 {
     let chip = call.chip;
-    let sent = mark_frame(slot, bytes);
-    let mut now = write(chip, array, security, &sent, allowance, before);
-    now.polls = call.polls + now.polls;
-    now
+    let sent = mark_frame(slot, mark);
+    let now = write(chip, array, security, &sent, allowance, before);
+    Store {
+        polls: call.polls + now.polls,
+        ..now
+    }
 }
 
 // "then clears to 00 00 the mark of each other live slot of that number, lowest first". `call` is what the two writes before came
@@ -392,22 +335,22 @@ fn clear_others(
 {
     let mut now = call;
     let mut turn: usize = 2;
-    let mut slot = live_from(shown, station, 0);
-    while slot < SLOTS {
-        now = write_mark(
-            now,
-            array,
-            security,
-            slot,
-            cleared(),
-            allowance,
-            completes_before(list, turn),
-        );
-        if now.number != 0 {
-            return now;
+    for slot in 0..SLOTS {
+        if is_live_of(shown, slot, station) {
+            now = write_mark(
+                now,
+                array,
+                security,
+                slot,
+                CLEARED,
+                allowance,
+                completes_before(list, turn),
+            );
+            if now.number != 0 {
+                return now;
+            }
+            turn += 1;
         }
-        turn += 1;
-        slot = live_from(shown, station, slot + 1);
     }
     now
 }
@@ -430,7 +373,7 @@ fn mark_and_clear(
         array,
         security,
         slot,
-        live(),
+        LIVE,
         allowance,
         completes_before(list, 1),
     );
@@ -476,22 +419,14 @@ fn store_in(
 
 // "data or a lookup buffer not of 28 bytes, gets 1", and so do buffers of the read that are not of the list's length.
 fn lengths_fit(reply: usize, marks: usize, data: usize) -> bool {
-    if reply != LIST_BYTES {
-        return false;
-    }
-    if marks != LIST_BYTES {
-        return false;
-    }
-    data == DATA_BYTES
+    reply == LIST_BYTES && marks == LIST_BYTES && data == DATA_BYTES
 }
 
 // "gives the data" of a slot.
 fn give_data(shown: &[u8], slot: usize, buffer: &mut [u8]) {
-    let mut i = 0;
-    while i < DATA_BYTES {
-        let value = slot_byte(shown, slot, DATA_AT + i);
-        put(buffer, i, value);
-        i += 1;
+    let data = slot_bytes(shown, slot).iter().skip(DATA_AT);
+    for (to, from) in buffer.iter_mut().zip(data) {
+        *to = *from;
     }
 }
 
@@ -511,17 +446,14 @@ pub fn lookup(
     if !lengths_fit(reply.len(), marks.len(), buffer.len()) {
         return ended(chip, 1);
     }
-    let read = read_list(chip, array, security, reply, marks);
-    let after = read.state;
-    // "If the chip refuses, the call ends with that number"
-    if read.number != 0 {
-        return ended(after, read.number);
-    }
-    // "the first live slot of that number"
-    let slot = live_from(reply, station, 0);
-    if slot == SLOTS {
+    let after = match read_list(chip, array, security, reply, marks) {
+        Ok(after) => after,
+        // "If the chip refuses, the call ends with that number"
+        Err(refused) => return ended(refused.chip, refused.number),
+    };
+    let Some(slot) = first_live(reply, station) else {
         return ended(after, 17);
-    }
+    };
     give_data(reply, slot, buffer);
     ended(after, 0)
 }
@@ -539,10 +471,9 @@ fn store_shown(
 ) -> Store
     requires { allowance ≤ 65535 }
 {
-    let slot = first_empty(shown);
-    if slot == SLOTS {
+    let Some(slot) = first_empty(shown) else {
         return ended(chip, 16);
-    }
+    };
     store_in(
         chip, array, security, shown, slot, station, data, allowance, list,
     )
@@ -562,15 +493,13 @@ fn read_and_store(
 ) -> Store
     requires { allowance ≤ 65535 }
 {
-    let read = read_list(chip, array, security, reply, marks);
-    let after = read.state;
-    // "If the chip refuses, the call ends with that number"
-    if read.number != 0 {
-        return ended(after, read.number);
+    match read_list(chip, array, security, reply, marks) {
+        Ok(after) => store_shown(
+            after, array, security, reply, station, data, allowance, list,
+        ),
+        // "If the chip refuses, the call ends with that number"
+        Err(refused) => ended(refused.chip, refused.number),
     }
-    store_shown(
-        after, array, security, reply, station, data, allowance, list,
-    )
 }
 
 // "Storing writes number and data into the first empty slot, then its mark in a second write, then clears" the others.
