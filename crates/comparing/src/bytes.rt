@@ -1,8 +1,8 @@
-// Bytes of slices.
+// Parts of slices.
 ghost use Rattle.std.specs.Prelude.{◌≡◌, ◌≤◌, length, take};
 
 // The part of n that lies in the slice.
-pub fn within(n: usize, s: &[u8]) -> usize
+pub fn within<T>(n: usize, s: &[T]) -> usize
     ensures within { result ≤ length s.now }
     ensures front { result ≡ length (take result s.now) }
 {

@@ -3,6 +3,7 @@
 #![tactic(auto)]
 
 pub mod bytes;
+pub mod comparisons;
 pub mod mapping;
 
 use bytes::{front, front_mut, same_front};
@@ -118,7 +119,7 @@ pub enum Plant {
 }
 
 impl Plant {
-    // The one that is planted after it.
+    // The one that is planted after it. Listed by hand: no derive gives an enum's variants.
     pub fn next(self) -> Option<Plant> {
         match self {
             Plant::Number => Some(Plant::Record),

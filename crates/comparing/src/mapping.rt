@@ -30,31 +30,7 @@ pub fn flat_of(c: Chip) -> Flat {
     }
 }
 
-fn same_works(a: Flat, b: Flat) -> bool {
-    (a.run_kind == b.run_kind)
-        & (a.run_number == b.run_number)
-        & (a.sus_kind == b.sus_kind)
-        & (a.sus_number == b.sus_number)
-}
-
-fn same_flags(a: Flat, b: Flat) -> bool {
-    (a.sqi == b.sqi)
-        & (a.wel == b.wel)
-        & (a.ioc == b.ioc)
-        & (a.wpen == b.wpen)
-        & (a.wpld == b.wpld)
-        & (a.sec == b.sec)
-        & (a.enable == b.enable)
-        & (a.ba == b.ba)
-}
-
 // The two records are the same.
 pub fn same_records(c: Chip, f: Flat) -> bool {
-    let d = flat_of(c);
-    (d.buffer == f.buffer)
-        & (d.protection == f.protection)
-        & (d.permanent == f.permanent)
-        & (d.burst == f.burst)
-        & same_works(d, f)
-        & same_flags(d, f)
+    flat_of(c) == f
 }

@@ -16,3 +16,8 @@ pub fn bump(counts: &mut [u64], i: usize) {
         *n = n.wrapping_add(1);
     }
 }
+
+// How many of them came up.
+pub fn kinds(counts: &[u64]) -> usize {
+    counts.iter().filter(|n| **n != 0).count()
+}

@@ -71,7 +71,7 @@ impl Index {
         for p in self.places.iter_mut().skip(n).take(often) {
             *p = place;
         }
-        let of_letter = &mut self.letters[letter as usize];
+        let of_letter = &mut self.letters[usize::from(letter)];
         if of_letter.count == 0 {
             of_letter.first = n;
         }
@@ -80,7 +80,7 @@ impl Index {
 
     // Where the k-th form of a letter stands.
     fn place(&self, letter: u8, k: u64) -> usize {
-        let i = self.letters[letter as usize].first.wrapping_add(k as usize);
+        let i = self.letters[usize::from(letter)].first.wrapping_add(k as usize);
         self.places.get(i).copied().unwrap_or(0)
     }
 }
@@ -131,7 +131,7 @@ impl Forms {
         let mut before = 0;
         for (i, letter) in text.iter().enumerate() {
             if before == b'\n' && *letter > 64 {
-                let often = (at(text, i.wrapping_add(1)) % 16) as usize;
+                let often = usize::from(at(text, i.wrapping_add(1)) % 16);
                 self.index.enter(n, *letter, often, i.wrapping_add(3));
                 n = n.wrapping_add(often);
             }
@@ -141,12 +141,12 @@ impl Forms {
 
     // How often forms of a letter are drawn in all.
     pub fn total(&self, letter: u8) -> u64 {
-        self.index.letters[letter as usize].count
+        self.index.letters[usize::from(letter)].count
     }
 
     // Where a form of a letter stands, drawn.
     fn drawn(&self, letter: u8, seed: u64) -> usize {
-        let k = draw(seed, letter as u64, self.total(letter));
+        let k = draw(seed, u64::from(letter), self.total(letter));
         self.index.place(letter, k)
     }
 

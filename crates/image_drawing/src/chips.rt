@@ -77,36 +77,24 @@ pub fn with_registers(protection: u64, permanent: u64) -> Chip {
 
 // ---- chips at work
 
-#[derive(Clone, Copy)]
-enum Kind {
-    Nothing,
-    EraseSector,
-    EraseBlock,
-    EraseArray,
-    ProgramPage,
-    ProgramSecurity,
-    LockSecurity,
-    WriteConfiguration,
-    AddPermanent,
-}
-
-const RUNNING: [Kind; 9] = [
-    Kind::Nothing,
-    Kind::EraseSector,
-    Kind::EraseBlock,
-    Kind::EraseArray,
-    Kind::ProgramPage,
-    Kind::ProgramSecurity,
-    Kind::LockSecurity,
-    Kind::WriteConfiguration,
-    Kind::AddPermanent,
+// Work of each kind, whose numbers count for nothing; listed by hand: no derive gives an enum's variants.
+const RUNNING: [Work; 9] = [
+    Work::Nothing,
+    Work::EraseSector(0),
+    Work::EraseBlock(0),
+    Work::EraseArray,
+    Work::ProgramPage(0),
+    Work::ProgramSecurity(0),
+    Work::LockSecurity,
+    Work::WriteConfiguration(false, false),
+    Work::AddPermanent(0),
 ];
 
-const SUSPENDED: [Kind; 4] = [
-    Kind::Nothing,
-    Kind::EraseSector,
-    Kind::EraseBlock,
-    Kind::ProgramPage,
+const SUSPENDED: [Work; 4] = [
+    Work::Nothing,
+    Work::EraseSector(0),
+    Work::EraseBlock(0),
+    Work::ProgramPage(0),
 ];
 
 // The numbers that work is drawn with: how many, from the first block and page on, and the bits that are added.
@@ -143,28 +131,27 @@ const BEYOND: Reach = Reach {
     bits: u64::MAX,
 };
 
-fn drawn_work(kind: Kind, seed: u64, reach: Reach) -> Work {
+// Work of the same kind, with drawn numbers.
+fn drawn_work(kind: Work, seed: u64, reach: Reach) -> Work {
     match kind {
-        Kind::Nothing => Work::Nothing,
-        Kind::EraseSector => Work::EraseSector(draw(seed, 6, reach.sectors) as usize),
-        Kind::EraseBlock => {
+        Work::EraseSector(_) => Work::EraseSector(draw(seed, 6, reach.sectors) as usize),
+        Work::EraseBlock(_) => {
             Work::EraseBlock(reach.block.wrapping_add(draw(seed, 7, reach.blocks)) as usize)
         }
-        Kind::EraseArray => Work::EraseArray,
-        Kind::ProgramPage => {
+        Work::ProgramPage(_) => {
             Work::ProgramPage(reach.page.wrapping_add(draw(seed, 8, reach.pages)) as usize)
         }
-        Kind::ProgramSecurity => Work::ProgramSecurity(draw(seed, 9, reach.security) as usize),
-        Kind::LockSecurity => Work::LockSecurity,
-        Kind::WriteConfiguration => {
+        Work::ProgramSecurity(_) => Work::ProgramSecurity(draw(seed, 9, reach.security) as usize),
+        Work::WriteConfiguration(..) => {
             let n = draw(seed, 10, 4);
             Work::WriteConfiguration(n % 2 == 1, n / 2 == 1)
         }
-        Kind::AddPermanent => Work::AddPermanent(seed_of(seed, 11) & reach.bits),
+        Work::AddPermanent(_) => Work::AddPermanent(seed_of(seed, 11) & reach.bits),
+        Work::Nothing | Work::EraseArray | Work::LockSecurity => kind,
     }
 }
 
-fn is_page_program(w: Work) -> bool {
+pub fn is_page_program(w: Work) -> bool {
     matches!(w, Work::ProgramPage(_))
 }
 
@@ -252,9 +239,9 @@ pub fn broken(k: u64, seed: u64) -> Chip {
 
 // ---- any record
 
-fn any_kind(seed: u64, question: u64) -> Kind {
+fn any_kind(seed: u64, question: u64) -> Work {
     if once_in(seed, question, 2) {
-        return Kind::Nothing;
+        return Work::Nothing;
     }
     RUNNING[(seed_of(seed, question) / 2 % 9) as usize]
 }

@@ -30,7 +30,7 @@ pub enum Way {
     Nothing,
 }
 
-// In the order in which they are tried.
+// In the order in which they are tried; listed by hand: no derive gives an enum's variants.
 pub const WAYS: [Way; 18] = [
     Way::Byte,
     Way::Mark,
@@ -106,7 +106,7 @@ impl Record {
 }
 
 fn total(s: &[u8]) -> u16 {
-    s.iter().fold(0, |total, b| total.wrapping_add(*b as u16))
+    s.iter().fold(0, |total, b| total.wrapping_add(u16::from(*b)))
 }
 
 // A byte becomes another one.

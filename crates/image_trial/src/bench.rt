@@ -1,7 +1,8 @@
 // The memories and files of both models, written and read by both, and in what the two differ: a bit for each comparison, which also a difference can be planted for.
-use crate::comparisons::{Comparison, bit};
+use crate::comparisons::Comparison;
 use crate::report::Counts;
 use comparing::bytes::{front, front_mut, same_front};
+use comparing::comparisons::{bit, planted_number, planted_record};
 use comparing::mapping::{flat_of, same_records};
 use drawing::bump;
 use drawing::dice::seed_of;
@@ -10,7 +11,7 @@ use image_drawing::places::{BEFORE, File, Identity, Memory, all_are, turn};
 use rules::Chip;
 use second::Flat;
 
-// As much of each as is lent.
+// As much of each as is lent. Not one struct with station_drawing's lengths, of which only two are the same: each `..RIGHT` would then be two.
 #[derive(Clone, Copy)]
 pub struct Lengths {
     pub array: usize,
@@ -28,25 +29,13 @@ pub const RIGHT: Lengths = Lengths {
 
 // The comparison of a number with the one that is due, where one is.
 fn odd_due(number: u8, due: Option<u8>, plant: Option<Comparison>) -> u64 {
-    let planted = u8::from(plant == Some(Comparison::DueNumber));
     let right = match due {
-        Some(due) => number == due ^ planted,
+        Some(due) => {
+            u64::from(number) == planted_number(u64::from(due), plant, Comparison::DueNumber)
+        }
         None => true,
     };
     bit(right, Comparison::DueNumber)
-}
-
-// The second model's number, another one where this difference is planted.
-fn planted_number(n: u8, plant: Option<Comparison>, c: Comparison) -> u8 {
-    n ^ u8::from(plant == Some(c))
-}
-
-// Its record, with another WEL.
-fn planted_record(f: Flat, plant: Option<Comparison>, c: Comparison) -> Flat {
-    Flat {
-        wel: f.wel ^ (plant == Some(c)),
-        ..f
-    }
 }
 
 fn odd_record(first: Chip, second: Flat, plant: Option<Comparison>, c: Comparison) -> u64 {
@@ -64,13 +53,13 @@ pub struct Got {
 
 // That the record was left is asked of a refusal.
 fn odd_records(before: Chip, g: Got, due: Option<u8>, plant: Option<Comparison>) -> u64 {
-    let second = planted_number(g.second, plant, Comparison::ReadingNumber);
+    let second = planted_number(u64::from(g.second), plant, Comparison::ReadingNumber);
     let left = if g.number == 0 {
         0
     } else {
         odd_record(before, g.state, plant, Comparison::RecordLeft)
     };
-    bit(g.number == second, Comparison::ReadingNumber)
+    bit(u64::from(g.number) == second, Comparison::ReadingNumber)
         | odd_record(g.chip, g.state, plant, Comparison::Record)
         | left
         | odd_due(g.number, due, plant)
@@ -84,12 +73,12 @@ fn odd_part(g: Got, plant: Option<Comparison>, file: &File) -> u64 {
 
 // ---- memories
 
-fn fill_array(seed: u64, array: &mut [u8]) {
-    chips::fill(front_mut(RIGHT.array, array), seed_of(seed, 50));
-}
-
-fn fill_security(seed: u64, security: &mut [u8]) {
-    chips::fill(front_mut(RIGHT.security, security), seed_of(seed, 51));
+fn fill(array_seed: u64, security_seed: u64, array: &mut [u8], security: &mut [u8]) {
+    chips::fill(front_mut(RIGHT.array, array), seed_of(array_seed, 50));
+    chips::fill(
+        front_mut(RIGHT.security, security),
+        seed_of(security_seed, 51),
+    );
 }
 
 // The two models have neither a type nor a function in common, so each writes by its own.
@@ -124,8 +113,9 @@ pub struct Bench<'a> {
 
 impl Bench<'_> {
     pub fn fill(&mut self, array_seed: u64, security_seed: u64) {
-        fill_array(array_seed, &mut *self.array);
-        fill_security(security_seed, &mut *self.security);
+        let array = &mut *self.array;
+        let security = &mut *self.security;
+        fill(array_seed, security_seed, array, security);
     }
 
     // ---- writing
@@ -148,8 +138,8 @@ impl Bench<'_> {
         let first = first_writes(c, l, array, security, file);
         let second = second_writes(flat_of(c), l, array, security, other);
         counts.writes = counts.writes.wrapping_add(1);
-        bump(&mut counts.write_numbers, first as usize);
-        let second = planted_number(second, plant, Comparison::WritingNumber);
+        bump(&mut counts.write_numbers, usize::from(first));
+        let second = planted_number(u64::from(second), plant, Comparison::WritingNumber);
         if plant == Some(Comparison::File) && first == 0 {
             turn(other);
         }
@@ -158,7 +148,7 @@ impl Bench<'_> {
             turn(other);
         }
         let left = first == 0 || all_are(file, BEFORE) && all_are(other, BEFORE);
-        bit(first == second, Comparison::WritingNumber)
+        bit(u64::from(first) == second, Comparison::WritingNumber)
             | bit(*file == *other, Comparison::File)
             | bit(left, Comparison::BufferLeft)
             | odd_due(first, due, plant)
@@ -191,7 +181,7 @@ impl Bench<'_> {
         );
         let number = image::number(r.answer);
         counts.reads = counts.reads.wrapping_add(1);
-        bump(&mut counts.read_numbers, number as usize);
+        bump(&mut counts.read_numbers, usize::from(number));
         Got {
             number,
             chip: r.chip,
@@ -248,8 +238,7 @@ impl Bench<'_> {
     pub fn odd_back(&mut self, c: Chip, g: Got, seed: u64, plant: Option<Comparison>) -> u64 {
         let other = &mut *self.other;
         let security2 = &mut *self.security2;
-        fill_array(seed, other);
-        fill_security(seed, security2);
+        fill(seed, seed, other, security2);
         match plant {
             Some(Comparison::ArrayBack) => turn(other),
             Some(Comparison::SecurityIdBack) => turn(security2),

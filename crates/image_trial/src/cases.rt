@@ -70,9 +70,9 @@ fn count_chip(counts: &mut Counts, sort: Sort, c: Chip) {
     bump(&mut counts.sorts, sort as usize * 2 + usize::from(f.ba));
     let flags = numbering::flags_number(c.rest.flags) as usize;
     bump(&mut counts.flags, flags);
-    bump(&mut counts.bursts, f.burst as usize);
-    bump(&mut counts.running, f.run_kind as usize);
-    bump(&mut counts.suspended, f.sus_kind as usize);
+    bump(&mut counts.bursts, usize::from(f.burst));
+    bump(&mut counts.running, usize::from(f.run_kind));
+    bump(&mut counts.suspended, usize::from(f.sus_kind));
 }
 
 // Every second value of the flags: each pair of them comes up in all four ways.

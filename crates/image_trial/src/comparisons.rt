@@ -1,4 +1,5 @@
-// What is compared of the two models; a set of comparisons is a number with a bit for each.
+// What is compared of the two models.
+use comparing::comparisons::Compared;
 use std::fmt;
 
 #[derive(Clone, Copy, PartialEq, Eq)]
@@ -24,6 +25,7 @@ pub enum Comparison {
     Part,
 }
 
+// Listed by hand: no derive gives an enum's variants.
 pub const COMPARISONS: [Comparison; 17] = [
     Comparison::WritingNumber,
     Comparison::File,
@@ -68,11 +70,8 @@ impl fmt::Display for Comparison {
     }
 }
 
-// The bit of a comparison that does not hold.
-pub fn bit(holds: bool, c: Comparison) -> u64 {
-    if holds { 0 } else { 1 << (c as u64) }
-}
-
-pub fn is_odd(odd: u64, c: Comparison) -> bool {
-    odd >> (c as u64) & 1 != 0
+impl Compared for Comparison {
+    fn mask(self) -> u64 {
+        1 << (self as u64)
+    }
 }

@@ -9,6 +9,7 @@ mod report;
 mod worked;
 
 use bench::Bench;
+use comparing::comparisons::say_planted;
 use comparisons::{COMPARISONS, Comparison};
 use report::{Counts, Report};
 
@@ -66,6 +67,6 @@ fn main(rt: HostRuntime) {
     // What is counted counts for nothing here.
     for plant in COMPARISONS {
         let odd = planted_case(plant, &mut report.counts, &mut bench);
-        report.tell_planted(plant, odd);
+        say_planted(&rt, &COMPARISONS, plant, odd);
     }
 }

@@ -1,5 +1,7 @@
 // What is counted, and what is written.
-use crate::comparisons::{COMPARISONS, Comparison, is_odd};
+use crate::comparisons::COMPARISONS;
+use comparing::comparisons::{say_numbers, say_odd};
+use drawing::kinds;
 
 // Writings, readings, cases with a difference, the paper's values; numbers of writing and of reading; the sorts of chips, each of both parts; bursts, running and
 // suspended work, flags of the chips.
@@ -34,12 +36,7 @@ pub fn no_counts() -> Counts {
     }
 }
 
-// How many kinds came up.
-fn came_up(kinds: &[u64]) -> usize {
-    kinds.iter().filter(|n| **n != 0).count()
-}
-
-// What cannot be written is lost.
+// What cannot be written is lost. Not one struct with station_trial's: the counts are other ones, and a library's struct takes no methods here.
 #[derive(Drop)]
 pub struct Report<'a, P: Print> {
     pub rt: &'a P,
@@ -47,54 +44,30 @@ pub struct Report<'a, P: Print> {
 }
 
 impl<P: Print> Report<'_, P> {
-    fn say_odd(&self, odd: u64) {
-        for c in COMPARISONS {
-            if is_odd(odd, c) {
-                let _ = print!(self.rt; " {c}");
-            }
-        }
-        let _ = println!(self.rt);
-    }
-
-    // A case with a difference is told, and counted.
+    // A case with a difference is told, and counted. Its name is a word and a number; station_trial's has two numbers.
     pub fn tell(&mut self, name: &str, k: u64, odd: u64) {
         if odd != 0 {
             self.counts.differences = self.counts.differences.wrapping_add(1);
             let _ = print!(self.rt; "{name} {k}, not the same:");
-            self.say_odd(odd);
+            say_odd(self.rt, &COMPARISONS, odd);
         }
-    }
-
-    // With a planted difference.
-    pub fn tell_planted(&self, plant: Comparison, odd: u64) {
-        let _ = print!(self.rt; "planted, {plant}: not the same:");
-        self.say_odd(odd);
-    }
-
-    fn say_numbers(&self, numbers: &[u64]) {
-        for (number, n) in numbers.iter().enumerate() {
-            if *n != 0 {
-                let _ = print!(self.rt; ", {n} times {number}");
-            }
-        }
-        let _ = println!(self.rt);
     }
 
     pub fn say_counts(&self) {
         let counts = &self.counts;
         let _ = println!(self.rt; "the paper's values: {}", counts.worked);
         let _ = print!(self.rt; "written by both: {}", counts.writes);
-        self.say_numbers(&counts.write_numbers);
+        say_numbers(self.rt, &counts.write_numbers);
         let _ = print!(self.rt; "read by both: {}", counts.reads);
-        self.say_numbers(&counts.read_numbers);
+        say_numbers(self.rt, &counts.read_numbers);
         let _ = print!(self.rt;
             "of the chips written: sorts by part {} kinds",
-            came_up(&counts.sorts)
+            kinds(&counts.sorts)
         );
-        let _ = print!(self.rt; ", flags {} kinds", came_up(&counts.flags));
-        let _ = print!(self.rt; ", bursts {} kinds", came_up(&counts.bursts));
-        let _ = print!(self.rt; ", running work {} kinds", came_up(&counts.running));
-        let _ = println!(self.rt; ", suspended work {} kinds", came_up(&counts.suspended));
+        let _ = print!(self.rt; ", flags {} kinds", kinds(&counts.flags));
+        let _ = print!(self.rt; ", bursts {} kinds", kinds(&counts.bursts));
+        let _ = print!(self.rt; ", running work {} kinds", kinds(&counts.running));
+        let _ = println!(self.rt; ", suspended work {} kinds", kinds(&counts.suspended));
         let _ = println!(self.rt; "{} differences", counts.differences);
     }
 
