@@ -1,29 +1,20 @@
 // Both models' calls and events side by side, and in what the two differ.
-use crate::comparisons::{Comparison, bit};
+use crate::comparisons::Comparison;
 use crate::lists::data_of;
 use crate::showing;
+use comparing::Side;
+use comparing::comparisons::{bit, planted_number, planted_record};
 use comparing::mapping::{flat_of, same_records};
-use image_drawing::places::{BEFORE, Identity, Memory, all_are, turn};
+use image_drawing::places::{BEFORE, all_are, turn};
 use rules::{Chip, Circumstances, Tear};
 use second::{Extra, Flat};
 use second_stations::Store;
 use stations::StoreRecord;
 
-// Reply or marks, with a byte more than the list has.
-pub type Reply = [u8; 65537];
-
 // A lookup's buffer, with a byte more than the data have.
 type Buffer = [u8; 29];
 
-// The memories and buffers of a model.
-#[derive(Drop)]
-pub struct Side<'a> {
-    pub array: &'a mut Memory,
-    pub security: &'a mut Identity,
-    pub reply: &'a mut Reply,
-    pub marks: &'a mut Reply,
-}
-
+// The memories and buffers of the two models, reply and marks with a byte more than the list has.
 #[derive(Drop)]
 pub struct Sides<'a> {
     pub first: Side<'a>,
@@ -37,7 +28,8 @@ pub struct Pair {
     pub second: Store,
 }
 
-// As much of each memory and buffer as is lent; `bytes` is of the data or of a lookup's buffer.
+// As much of each memory and buffer as is lent; `bytes` is of the data or of a lookup's buffer. Not one struct with image_trial's, of which only two are the
+// same: each `..RIGHT` would then be two.
 #[derive(Clone, Copy)]
 pub struct Lengths {
     pub array: usize,
@@ -110,44 +102,28 @@ fn on_parts<R, F: FnOnce(&mut [u8], &mut [u8], &mut [u8], &mut [u8]) -> R>(
     )
 }
 
-impl Side<'_> {
-    // What a model does on as much of each memory and buffer as is lent.
-    fn lent<R, F: FnOnce(&mut [u8], &mut [u8], &mut [u8], &mut [u8]) -> R>(
-        &mut self,
-        l: Lengths,
-        f: F,
-    ) -> R
-        requires { F.IsAlwaysCallable f }
-    {
-        let array = &mut *self.array;
-        let security = &mut *self.security;
-        let reply = &mut *self.reply;
-        let marks = &mut *self.marks;
-        on_parts(l, array, security, reply, marks, f)
-    }
+// What a model does on as much of each memory and buffer as is lent.
+fn on_lent<R, F: FnOnce(&mut [u8], &mut [u8], &mut [u8], &mut [u8]) -> R>(
+    side: &mut Side,
+    l: Lengths,
+    f: F,
+) -> R
+    requires { F.IsAlwaysCallable f }
+{
+    let array = &mut *side.array;
+    let security = &mut *side.security;
+    let reply = &mut *side.reply;
+    let marks = &mut *side.marks;
+    on_parts(l, array, security, reply, marks, f)
+}
 
-    // Before a call.
-    fn cleared(&mut self) {
-        self.reply.fill(BEFORE);
-        self.marks.fill(BEFORE);
-    }
+// Before a call.
+fn clear(side: &mut Side) {
+    side.reply.fill(BEFORE);
+    side.marks.fill(BEFORE);
 }
 
 // ---- comparisons: each has a difference that is planted for it
-
-// Another WEL, where the planted difference is this one.
-fn planted_record(f: Flat, plant: Option<Comparison>, c: Comparison) -> Flat {
-    if plant == Some(c) {
-        Flat { wel: !f.wel, ..f }
-    } else {
-        f
-    }
-}
-
-// The last bit is another one, where the planted difference is this one.
-fn planted_number(x: u64, plant: Option<Comparison>, c: Comparison) -> u64 {
-    x ^ u64::from(plant == Some(c))
-}
 
 // Number, polls and record; and that 1 leaves the record as it was.
 fn odd_records(before: Pair, after: Pair, plant: Option<Comparison>) -> u64 {
@@ -285,18 +261,18 @@ pub fn looked_up(
 ) -> Went {
     let first = &mut sides.first;
     let second = &mut sides.second;
-    first.cleared();
-    second.cleared();
+    clear(first);
+    clear(second);
     let mut buffer = [BEFORE; 29];
     let mut buffer2 = [BEFORE; 29];
     let n = l.bytes.min(29);
     let lent = &mut buffer[..n];
     let lent2 = &mut buffer2[..n];
     let pair = Pair {
-        first: first.lent(l, |a, i, r, m| {
+        first: on_lent(first, l, |a, i, r, m| {
             store::lookup(p.first, a, i, r, m, station, lent)
         }),
-        second: second.lent(l, |a, i, r, m| {
+        second: on_lent(second, l, |a, i, r, m| {
             second_stations::lookup(p.second, a, i, r, m, station, lent2)
         }),
     };
@@ -356,15 +332,15 @@ pub fn stored(
 ) -> Went {
     let first = &mut sides.first;
     let second = &mut sides.second;
-    first.cleared();
-    second.cleared();
+    clear(first);
+    clear(second);
     let data = data_of(c.from);
     let lent = &data[..l.bytes.min(29)];
     let pair = Pair {
-        first: first.lent(l, |a, i, r, m| {
+        first: on_lent(first, l, |a, i, r, m| {
             store::store(p.first, a, i, r, m, c.station, lent, c.allowance, list)
         }),
-        second: second.lent(l, |a, i, r, m| {
+        second: on_lent(second, l, |a, i, r, m| {
             second_stations::store(p.second, a, i, r, m, c.station, lent, c.allowance, list)
         }),
     };
@@ -418,10 +394,10 @@ pub fn happened(
 ) -> Went {
     let first = &mut sides.first;
     let second = &mut sides.second;
-    let a = first.lent(l, |array, security, _, _| {
+    let a = on_lent(first, l, |array, security, _, _| {
         first_happens(p.first.chip, e, array, security)
     });
-    let b = second.lent(l, |array, security, _, _| {
+    let b = on_lent(second, l, |array, security, _, _| {
         second_happens(p.second.chip, e, array, security)
     });
     let answer = a.answer;

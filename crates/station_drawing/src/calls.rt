@@ -1,22 +1,13 @@
 // Calls and events that are drawn.
-ghost use Rattle.std.specs.Prelude.{◌≡◌, ◌≤◌, length, take};
-
 use crate::both::{Call, Event, Lengths, RIGHT};
 use crate::chips::Sort;
 use crate::lists::station_of;
+use comparing::bytes::within;
 use drawing::dice::{draw, once_in, seed_of};
 use rules::Tear;
 
 // More entries than a call has writes.
 pub type Entries = [u64; 2304];
-
-// The part of n that lies in the list. Its own name and clauses stay beside comparing's `within`, which is of bytes: docs/PORT.md has them.
-pub fn entries_within(n: usize, s: &[u64]) -> usize
-    ensures within { result ≤ length s.now }
-    ensures front { result ≡ length (take result s.now) }
-{
-    n.min(s.len())
-}
 
 // ---- storing calls
 
@@ -94,7 +85,7 @@ fn some_entry(seed: u64, allowance: u64) -> u64 {
 // The entries of a call, in a lent list: one style for all of them.
 pub fn entries(list: &mut Entries, seed: u64, allowance: u64) -> &[u64] {
     let style = draw(seed, 12, 5);
-    let n = entries_within(entry_count(seed), list);
+    let n = within(entry_count(seed), &list[..]);
     for (i, entry) in list[..n].iter_mut().enumerate() {
         let s = seed_of(seed, i as u64);
         *entry = match style {

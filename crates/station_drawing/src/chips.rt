@@ -1,5 +1,6 @@
 // Chips that a run of calls starts with.
 use drawing::dice::{draw, once_in, seed_of};
+use image_drawing::chips::is_page_program;
 use rules::{Chip, Flags, Locks, Rest, Work, Works};
 
 #[derive(Clone, Copy)]
@@ -39,6 +40,7 @@ pub enum Sort {
     Drawn,
 }
 
+// Listed by hand: no derive gives an enum's variants.
 pub const SORTS: [Sort; 23] = [
     Sort::Idle,
     Sort::Locked,
@@ -126,26 +128,56 @@ fn drawn(seed: u64) -> Chip {
 
 // ---- something runs or is suspended
 
-// Sectors 16 to 31 and pages 256 to 511 are the list's.
-fn list_sector(seed: u64) -> Work {
-    Work::EraseSector((16 + draw(seed, 6, 16) % 16) as usize)
+// Numbers that work is drawn with: by which question, from the first one on, and how many.
+#[derive(Clone, Copy)]
+struct Reach {
+    question: u64,
+    first: u64,
+    count: u64,
 }
 
-fn list_page(seed: u64) -> Work {
-    Work::ProgramPage((256 + draw(seed, 7, 256) % 256) as usize)
-}
+// Sectors 16 to 31 and pages 256 to 511 are the list's.
+const LIST_SECTORS: Reach = Reach {
+    question: 6,
+    first: 16,
+    count: 16,
+};
+
+const LIST_PAGES: Reach = Reach {
+    question: 7,
+    first: 256,
+    count: 256,
+};
 
 // Above the list.
-fn far_sector(seed: u64) -> Work {
-    Work::EraseSector((32 + draw(seed, 8, 200) % 200) as usize)
+const FAR_SECTORS: Reach = Reach {
+    question: 8,
+    first: 32,
+    count: 200,
+};
+
+const FAR_PAGES: Reach = Reach {
+    question: 9,
+    first: 4096,
+    count: 4096,
+};
+
+const FAR_BLOCKS: Reach = Reach {
+    question: 20,
+    first: 10,
+    count: 29,
+};
+
+fn drawn_number(r: Reach, seed: u64) -> usize {
+    r.first.wrapping_add(draw(seed, r.question, r.count)) as usize
 }
 
-fn far_page(seed: u64) -> Work {
-    Work::ProgramPage((4096 + draw(seed, 9, 4096) % 4096) as usize)
+fn sector(r: Reach, seed: u64) -> Work {
+    Work::EraseSector(drawn_number(r, seed))
 }
 
-fn far_block(seed: u64) -> Work {
-    Work::EraseBlock((10 + draw(seed, 20, 29) % 29) as usize)
+fn page(r: Reach, seed: u64) -> Work {
+    Work::ProgramPage(drawn_number(r, seed))
 }
 
 // All FF but for the mark of a slot and one byte.
@@ -159,13 +191,9 @@ fn touched_buffer(seed: u64) -> [u8; 256] {
     buffer
 }
 
-fn programs(w: Work) -> bool {
-    matches!(w, Work::ProgramPage(_))
-}
-
 // A page program has bytes in its buffer; an erase has none.
 fn at_work(running: Work, suspended: Work, seed: u64) -> Chip {
-    let buffer = if programs(running) || programs(suspended) {
+    let buffer = if is_page_program(running) || is_page_program(suspended) {
         touched_buffer(seed)
     } else {
         [255; 256]
@@ -201,7 +229,7 @@ fn any_work(seed: u64) -> Work {
     } else if once_in(seed, 18, 3) {
         Work::EraseBlock(LIST_BLOCK)
     } else {
-        list_sector(seed)
+        sector(LIST_SECTORS, seed)
     }
 }
 
@@ -224,16 +252,28 @@ pub fn start(sort: Sort, seed: u64) -> Chip {
         ),
         Sort::Sqi => idle(NO_LOCKS, Flags { sqi: true, ..calm }, seed),
         Sort::Permanent => with_locks(LIST_LOCK, LIST_LOCK, seed),
-        Sort::PageRuns => at_work(list_page(seed), Work::Nothing, seed),
+        Sort::PageRuns => at_work(page(LIST_PAGES, seed), Work::Nothing, seed),
         Sort::Busy => at_work(any_work(seed), Work::Nothing, seed),
-        Sort::PageAside => at_work(Work::Nothing, list_page(seed), seed),
-        Sort::FarPageAside => at_work(Work::Nothing, far_page(seed), seed),
-        Sort::SectorAside => at_work(Work::Nothing, list_sector(seed), seed),
-        Sort::FarSectorAside => at_work(Work::Nothing, far_sector(seed), seed),
+        Sort::PageAside => at_work(Work::Nothing, page(LIST_PAGES, seed), seed),
+        Sort::FarPageAside => at_work(Work::Nothing, page(FAR_PAGES, seed), seed),
+        Sort::SectorAside => at_work(Work::Nothing, sector(LIST_SECTORS, seed), seed),
+        Sort::FarSectorAside => at_work(Work::Nothing, sector(FAR_SECTORS, seed), seed),
         Sort::BlockAside => at_work(Work::Nothing, Work::EraseBlock(LIST_BLOCK), seed),
-        Sort::FarBlockAside => at_work(Work::Nothing, far_block(seed), seed),
-        Sort::FarPageRunsSectorAside => at_work(far_page(seed), list_sector(seed), seed),
-        Sort::SectorRunsFarPageAside => at_work(list_sector(seed), far_page(seed), seed),
+        Sort::FarBlockAside => at_work(
+            Work::Nothing,
+            Work::EraseBlock(drawn_number(FAR_BLOCKS, seed)),
+            seed,
+        ),
+        Sort::FarPageRunsSectorAside => at_work(
+            page(FAR_PAGES, seed),
+            sector(LIST_SECTORS, seed),
+            seed,
+        ),
+        Sort::SectorRunsFarPageAside => at_work(
+            sector(LIST_SECTORS, seed),
+            page(FAR_PAGES, seed),
+            seed,
+        ),
         Sort::Broken => image_drawing::chips::broken(seed_of(seed, 21), seed),
         Sort::Any => image_drawing::chips::any(seed),
         Sort::Drawn => drawn(seed),

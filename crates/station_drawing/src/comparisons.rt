@@ -1,4 +1,5 @@
-// What is compared of the two models; a set of comparisons is a number with a bit for each.
+// What is compared of the two models.
+use comparing::comparisons::Compared;
 use std::fmt;
 
 #[derive(Clone, Copy, PartialEq, Eq)]
@@ -23,6 +24,7 @@ pub enum Comparison {
     EventRecord,
 }
 
+// Listed by hand: no derive gives an enum's variants.
 pub const COMPARISONS: [Comparison; 16] = [
     Comparison::Number,
     Comparison::Polls,
@@ -65,7 +67,8 @@ impl fmt::Display for Comparison {
     }
 }
 
-// The bit of a comparison that does not hold.
-pub fn bit(holds: bool, c: Comparison) -> u64 {
-    if holds { 0 } else { 1 << (c as u64) }
+impl Compared for Comparison {
+    fn mask(self) -> u64 {
+        1 << (self as u64)
+    }
 }

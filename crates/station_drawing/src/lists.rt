@@ -93,6 +93,7 @@ enum Kind {
     Noise,
 }
 
+// Listed by hand: no derive gives an enum's variants.
 const KINDS: [Kind; 9] = [
     Kind::Empty,
     Kind::Live,
@@ -192,6 +193,7 @@ pub enum Sort {
     FirstEight,
 }
 
+// Listed by hand, as KINDS.
 pub const SORTS: [Sort; 10] = [
     Sort::Empty,
     Sort::Filled,

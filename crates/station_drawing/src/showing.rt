@@ -1,5 +1,5 @@
 // What a call has to come to by what its read showed (document 02, W-206).
-use crate::both::Side;
+use comparing::Side;
 
 // "live if its mark is 53 54", and of that number, high byte first.
 pub fn live_slots(side: &Side, station: u16) -> usize {

@@ -9,8 +9,9 @@ mod report;
 mod runs;
 mod worked;
 
+use comparing::Side;
 use report::{Counts, Report};
-use station_drawing::both::{Side, Sides};
+use station_drawing::both::Sides;
 
 const RUNS: u64 = 1600;
 
@@ -45,5 +46,5 @@ fn main(rt: HostRuntime) {
     worked::paper_shown(&mut report, &mut sides);
     runs::runs_tried(RUNS, &mut report, &mut sides);
     report.counts_said();
-    planted::planted_tried(&report, &mut sides);
+    planted::planted_tried(&rt, &mut sides);
 }

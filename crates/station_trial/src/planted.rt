@@ -1,5 +1,5 @@
 // A short run with a difference planted on one side, or on both where a comparison is with what was before: each comparison is made in it.
-use crate::report::Report;
+use comparing::comparisons::say_planted;
 use station_drawing::both::{Call, Event, Lengths, RIGHT, Sides};
 use station_drawing::comparisons::{COMPARISONS, Comparison};
 use station_drawing::{both, lists};
@@ -23,9 +23,9 @@ fn tried(plant: Comparison, sides: &mut Sides) -> u64 {
     a.odd | b.odd | c.odd | d.odd | e.odd
 }
 
-pub fn planted_tried(report: &Report<impl Print>, sides: &mut Sides) {
+pub fn planted_tried(rt: &impl Print, sides: &mut Sides) {
     for plant in COMPARISONS {
         let odd = tried(plant, sides);
-        report.planted_said(plant, odd);
+        say_planted(rt, &COMPARISONS, plant, odd);
     }
 }

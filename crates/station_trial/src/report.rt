@@ -1,6 +1,7 @@
 // What is counted, and what is written.
-use drawing::bump;
-use station_drawing::comparisons::{COMPARISONS, Comparison, bit};
+use comparing::comparisons::{say_numbers, say_odd};
+use drawing::{bump, kinds};
+use station_drawing::comparisons::COMPARISONS;
 
 #[derive(Clone, Copy, Default)]
 pub struct Counts {
@@ -20,12 +21,7 @@ pub struct Counts {
     pub cleared: [u64; 4],
 }
 
-// How many came up.
-fn kinds(counts: &[u64]) -> usize {
-    counts.iter().filter(|n| **n != 0).count()
-}
-
-// What cannot be written is lost.
+// What cannot be written is lost. Not one struct with image_trial's: the counts are other ones, and a library's struct takes no methods here.
 #[derive(Drop)]
 pub struct Report<'a, P> {
     pub rt: &'a P,
@@ -63,28 +59,13 @@ impl<P: Print> Report<'_, P> {
 
     // ---- comparisons
 
-    fn odd_said(&self, odd: u64) {
-        for c in COMPARISONS {
-            if odd & bit(false, c) != 0 {
-                let _ = print!(self.rt; " {c}");
-            }
-        }
-        let _ = print!(self.rt; "\n");
-    }
-
-    // A case with a difference is told, and counted.
+    // A case with a difference is told, and counted. Its name is a word and two numbers; image_trial's has one number.
     pub fn told(&mut self, name: &str, k: u64, n: u64, odd: u64) {
         if odd != 0 {
             self.counts.differences = self.counts.differences.wrapping_add(1);
             let _ = print!(self.rt; "{name} {k} {n}, not the same:");
-            self.odd_said(odd);
+            say_odd(self.rt, &COMPARISONS, odd);
         }
-    }
-
-    // With a planted difference.
-    pub fn planted_said(&self, plant: Comparison, odd: u64) {
-        let _ = print!(self.rt; "planted, {plant}: not the same:");
-        self.odd_said(odd);
     }
 
     // A value of the paper: of which sentence, and which of its steps.
@@ -97,15 +78,6 @@ impl<P: Print> Report<'_, P> {
     }
 
     // ---- rows
-
-    fn numbers_said(&self, counts: &[u64]) {
-        for (number, n) in counts.iter().enumerate() {
-            if *n != 0 {
-                let _ = print!(self.rt; ", {n} times {number}");
-            }
-        }
-        let _ = print!(self.rt; "\n");
-    }
 
     // What did not come up is told, and counts as a difference.
     fn came_up(&mut self, name: &str, i: usize, n: u64) {
@@ -142,10 +114,10 @@ impl<P: Print> Report<'_, P> {
         let values = c.values;
         let stores = c.stores;
         let _ = print!(self.rt; "the paper's values: {values}\nstored by both: {stores}");
-        self.numbers_said(&c.store_numbers);
+        say_numbers(self.rt, &c.store_numbers);
         let lookups = c.lookups;
         let _ = print!(self.rt; "looked up by both: {lookups}");
-        self.numbers_said(&c.lookup_numbers);
+        say_numbers(self.rt, &c.lookup_numbers);
         let cuts = c.cuts;
         let chips = kinds(&c.chips);
         let lists = kinds(&c.lists);

@@ -2,11 +2,12 @@
 use crate::deeds::Deed;
 use crate::paper::SENTENCES;
 use crate::report::Report;
+use comparing::Side;
 use comparing::mapping::flat_of;
 use drawing::at;
 use image_drawing::places::Memory;
 use rules::Tear;
-use station_drawing::both::{Call, Event, Lengths, Pair, RIGHT, Side, Sides, Went};
+use station_drawing::both::{Call, Event, Lengths, Pair, RIGHT, Sides, Went};
 use station_drawing::lists::{EMPTY, Slot};
 use station_drawing::{both, lists};
 

@@ -52,10 +52,10 @@ impl Tally {
     // An event of a random run, with the record before it.
     pub fn count_event(&mut self, before: Flat, l: Line, frame: &[u8], number: u8) {
         let part = usize::from(before.ba);
-        let run_kind = before.run_kind as usize;
-        bump(&mut self.numbers[part], number as usize);
+        let run_kind = usize::from(before.run_kind);
+        bump(&mut self.numbers[part], usize::from(number));
         bump(&mut self.running, run_kind);
-        bump(&mut self.suspended, before.sus_kind as usize);
+        bump(&mut self.suspended, usize::from(before.sus_kind));
         if before.sus_kind != 0 {
             bump(&mut self.beside, run_kind);
         }
@@ -64,12 +64,12 @@ impl Tally {
         }
         if l.sent != 0 {
             let opcode = at(frame, 0);
-            bump(&mut self.sent, opcode as usize);
+            bump(&mut self.sent, usize::from(opcode));
             if number == 0 {
-                bump(&mut self.done[part], opcode as usize);
+                bump(&mut self.done[part], usize::from(opcode));
                 match opcode {
                     0x99 => bump(&mut self.resets, run_kind),
-                    0x0c | 0xec => bump(&mut self.bursts, before.burst as usize),
+                    0x0c | 0xec => bump(&mut self.bursts, usize::from(before.burst)),
                     _ => {}
                 }
             }
@@ -84,7 +84,7 @@ impl Tally {
                 bump(&mut self.lines, number);
                 return;
             }
-            number = number % 1000 * 10 + (*b % 16) as usize;
+            number = number % 1000 * 10 + usize::from(*b % 16);
         }
     }
 }
@@ -100,7 +100,7 @@ pub fn say(rt: &impl Print, text: &[u8]) {
 fn say_kinds(rt: &impl Print, tally: &[u64], kinds: &[u8], name: &str) {
     let mut seldom: u64 = 0;
     for kind in kinds {
-        let n = tally.get(*kind as usize).copied().unwrap_or(0);
+        let n = tally.get(usize::from(*kind)).copied().unwrap_or(0);
         if n < 100 {
             let _ = println!(rt; "{name}, too seldom: {kind} came {n} times");
             seldom = seldom.wrapping_add(1);
