@@ -4,10 +4,27 @@
 
 ghost use Rattle.std.specs.Prelude.{◌≡◌, ◌≤◌, length, take, IfOk};
 
+use std::env::{Env, FillError};
 use std::fs::{OpenFile, OpenOptions};
 use std::io::{ErrorKind, Read, Write};
 use std::rt::Files;
 use std::{fs, io};
+
+// What cannot be written is lost.
+pub fn say<P: Print>(to: &P, text: &[u8]) {
+    let _ = to.write_all(text);
+}
+
+// How many words the command line has, the program's own name among them.
+pub fn argument_count<E: Env>(env: &E) -> usize {
+    for i in 0..usize::MAX {
+        let mut none = [0u8; 1];
+        if let Err(FillError::NotPresent) = env.arg(i, &mut none) {
+            return i;
+        }
+    }
+    usize::MAX
+}
 
 // The name as a path, which is text: one that is no UTF-8 is refused, as std refuses it.
 fn path_of(name: &[u8]) -> io::Result<&str> {

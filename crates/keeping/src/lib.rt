@@ -13,7 +13,7 @@ use std::fs::File;
 use std::io;
 use std::io::ErrorKind;
 use telling::{broken, refused};
-pub use telling::{part_told, told};
+pub use telling::{part_told, say, told};
 
 // A file that cannot be read, is refused or could not be saved. Why was told.
 #[derive(Clone, Copy)]

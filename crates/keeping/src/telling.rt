@@ -6,7 +6,7 @@ use std::io;
 use std::io::Write;
 use writing::Row;
 
-fn say(rt: &HostRuntime, text: &[u8]) {
+pub fn say(rt: &HostRuntime, text: &[u8]) {
     let _ = rt.stderr().write_all(text);
 }
 

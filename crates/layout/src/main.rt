@@ -5,6 +5,7 @@
 mod numbers;
 mod texts;
 
+use filing::say;
 use std::fs;
 use writing::Row;
 
@@ -37,10 +38,6 @@ fn line(i: usize, language: Language) -> Row {
         Language::C => r.pad(1).size(numbers::number(i)).pad(1),
         Language::Rust => numbers::typed(r, i).size(numbers::number(i)).text(b";"),
     }
-}
-
-fn say<P: Print>(to: &P, text: &[u8]) {
-    let _ = to.write_all(text);
 }
 
 fn told<P: Print>(to: &P, r: Row) {

@@ -3,9 +3,11 @@ ghost use Rattle.std.specs.Prelude.{◌≤◌, length};
 
 use crate::posts::{EACCES, ENOENT, carried};
 use calling::Account;
+use filing::say;
+use ordering::Place;
 use posting::Report;
 use standing::Playing;
-use std::env::{Env, FillError};
+use std::env::Env;
 use std::io;
 use std::io::Read;
 use std::rt::Files;
@@ -20,11 +22,6 @@ pub struct Session {
     pub prompt: bool,
     pub scripts: u64,
     pub tally: Tally,
-}
-
-// What cannot be written is lost.
-fn say(rt: &impl Print, text: &[u8]) {
-    let _ = rt.write_all(text);
 }
 
 fn say_row(rt: &impl Print, r: Row) {
@@ -56,119 +53,114 @@ fn refilled(rt: &impl Print, source: &mut impl Read, prompt: bool, input: &mut [
     }
 }
 
-// A script half played: what came of it, of a file and of a call.
-#[derive(Clone, Copy)]
-struct Desk {
+type Bytes = [u8; 65537];
+
+// A script half played: what came of it, of a file and of a call; the memories, what its lines are read into, and the reply.
+#[derive(Drop)]
+struct Script<'a> {
     now: Playing,
     report: Report,
     account: Account,
+    array: &'a mut [u8; 2097153],
+    security: &'a mut [u8; 2049],
+    frame: &'a mut Bytes,
+    expected: &'a mut Bytes,
+    known: &'a mut Bytes,
+    remark: &'a mut Bytes,
+    reply: &'a mut Bytes,
+    marks: &'a mut Bytes,
 }
 
-// The rows of a line that ended, one after the other: a proved loop has to end, so it counts them, up to a number that no line reaches.
-fn line_told(
-    rt: &impl Print,
-    d: Desk,
-    array: &[u8; 2097153],
-    security: &[u8; 2049],
-    frame: &[u8; 65537],
-    expected: &[u8; 65537],
-    known: &[u8; 65537],
-    remark: &[u8; 65537],
-    reply: &[u8; 65537],
-    marks: &[u8; 65537],
-) {
-    let mut at = ordering::begun(d.now);
-    for _ in 0..u64::MAX {
-        if ordering::is_over(at) {
-            return;
-        }
-        let r = telling::row(
-            d.now, at, frame, expected, known, remark, reply, marks, array, security,
-        );
-        told(rt, r);
-        told(rt, post_rows::row(d.now, d.report, at, frame));
+impl Script<'_> {
+    // The rows of a part of the line that ended.
+    fn tell(&self, rt: &impl Print, at: Place) {
+        let now = self.now;
         told(
             rt,
-            station_rows::row(d.now, d.account, at, expected, known, reply, marks),
+            telling::row(
+                now,
+                at,
+                &*self.frame,
+                &*self.expected,
+                &*self.known,
+                &*self.remark,
+                &*self.reply,
+                &*self.marks,
+                &*self.array,
+                &*self.security,
+            ),
         );
-        at = ordering::next(d.now, at);
+        told(rt, post_rows::row(now, self.report, at, &*self.frame));
+        told(
+            rt,
+            station_rows::row(
+                now,
+                self.account,
+                at,
+                &*self.expected,
+                &*self.known,
+                &*self.reply,
+                &*self.marks,
+            ),
+        );
     }
-}
 
-// Each byte that came is taken; what it ends is told before the next one.
-fn taken(
-    rt: &(impl Files + Print),
-    start: Desk,
-    came: &[u8],
-    array: &mut [u8; 2097153],
-    security: &mut [u8; 2049],
-    frame: &mut [u8; 65537],
-    expected: &mut [u8; 65537],
-    known: &mut [u8; 65537],
-    remark: &mut [u8; 65537],
-    reply: &mut [u8; 65537],
-    marks: &mut [u8; 65537],
-) -> Desk {
-    let mut d = start;
-    for b in came {
+    // All of them, one after the other: a proved loop has to end, so it counts them, up to a number that no line reaches.
+    fn tell_line(&self, rt: &impl Print) {
+        let mut at = ordering::begun(self.now);
+        for _ in 0..u64::MAX {
+            if ordering::is_over(at) {
+                return;
+            }
+            self.tell(rt, at);
+            at = ordering::next(self.now, at);
+        }
+    }
+
+    // A byte is taken; what it ends is told.
+    fn take(&mut self, rt: &(impl Files + Print), b: u8) {
+        let now = self.now;
+        let array = &mut *self.array;
+        let security = &mut *self.security;
+        let frame = &mut *self.frame;
+        let expected = &mut *self.expected;
+        let known = &mut *self.known;
+        let remark = &mut *self.remark;
+        let reply = &mut *self.reply;
+        let marks = &mut *self.marks;
         let now = playing::take(
-            d.now, *b, array, security, frame, expected, known, remark, reply, marks,
+            now, b, array, security, frame, expected, known, remark, reply, marks,
         );
         let c = carried(rt, now, array, security, frame);
         let called = calling::carry(
             c.playing, array, security, frame, expected, known, reply, marks,
         );
-        d = Desk {
-            now: called.playing,
-            report: c.report,
-            account: called.account,
-        };
-        line_told(
-            rt, d, array, security, frame, expected, known, remark, reply, marks,
-        );
+        self.now = called.playing;
+        self.report = c.report;
+        self.account = called.account;
+        self.tell_line(rt);
     }
-    d
-}
 
-fn begun(strict: bool) -> Desk {
-    let c = posting::nothing(standing::start(strict));
-    let called = calling::nothing(c.playing);
-    Desk {
-        now: called.playing,
-        report: c.report,
-        account: called.account,
-    }
-}
-
-// A proved loop has to end, and nothing says that an input does: so it counts its turns, up to a number that no run reaches. Where nothing comes any more,
-// the line's end that the last line may lack is taken last.
-fn turned(
-    rt: &(impl Files + Print),
-    source: &mut impl Read,
-    prompt: bool,
-    start: Desk,
-    input: &mut [u8; 65536],
-    array: &mut [u8; 2097153],
-    security: &mut [u8; 2049],
-    frame: &mut [u8; 65537],
-    expected: &mut [u8; 65537],
-    known: &mut [u8; 65537],
-    remark: &mut [u8; 65537],
-    reply: &mut [u8; 65537],
-    marks: &mut [u8; 65537],
-) -> Desk {
-    let mut d = start;
-    for _ in 0..u64::MAX {
-        let n = refilled(rt, source, prompt, input);
-        let came = if n == 0 { b"\n" } else { &input[..n] };
-        d = taken(
-            rt, d, came, array, security, frame, expected, known, remark, reply, marks,
-        );
-        if n == 0 {
-            break;
+    // A proved loop has to end, and nothing says that an input does: so it counts its turns, up to a number that no run reaches. Where nothing comes any
+    // more, the line's end that the last line may lack is taken last.
+    fn play(
+        &mut self,
+        rt: &(impl Files + Print),
+        source: &mut impl Read,
+        prompt: bool,
+        input: &mut [u8; 65536],
+    ) {
+        for _ in 0..u64::MAX {
+            let n = refilled(rt, source, prompt, input);
+            let came = if n == 0 { b"\n" } else { &input[..n] };
+            for b in came {
+                self.take(rt, *b);
+            }
+            if n == 0 {
+                break;
+            }
         }
     }
-    d
 }
 
 // The memories belong to a function without a loop: a loop's proof carries each of them.
@@ -187,23 +179,23 @@ fn script_played(
     let mut remark = [0u8; 65537];
     let mut reply = [0u8; 65537];
     let mut marks = [0u8; 65537];
-    let start = begun(strict);
-    let d = turned(
-        rt,
-        source,
-        prompt,
-        start,
-        &mut input,
-        &mut array,
-        &mut security,
-        &mut frame,
-        &mut expected,
-        &mut known,
-        &mut remark,
-        &mut reply,
-        &mut marks,
-    );
-    d.now.bench.tally
+    let c = posting::nothing(standing::start(strict));
+    let called = calling::nothing(c.playing);
+    let mut script = Script {
+        now: called.playing,
+        report: c.report,
+        account: called.account,
+        array: &mut array,
+        security: &mut security,
+        frame: &mut frame,
+        expected: &mut expected,
+        known: &mut known,
+        remark: &mut remark,
+        reply: &mut reply,
+        marks: &mut marks,
+    };
+    script.play(rt, source, prompt, &mut input);
+    script.now.bench.tally
 }
 
 // ---- the scripts
@@ -291,17 +283,6 @@ fn arguments_played(rt: &HostRuntime, s: Session, n: usize) -> Session {
     now
 }
 
-// How many arguments there are, the program's own name among them.
-fn argument_count(rt: &impl Env) -> usize {
-    for i in 0..usize::MAX {
-        let mut none = [0u8; 1];
-        if let Err(FillError::NotPresent) = rt.arg(i, &mut none) {
-            return i;
-        }
-    }
-    usize::MAX
-}
-
 // Several scripts have a row for all of them.
 fn all_told(rt: &impl Print, s: Session) {
     if s.scripts < 2 {
@@ -318,7 +299,7 @@ pub fn all_played(rt: &HostRuntime) {
         scripts: 0,
         tally: tallies::no_events(),
     };
-    let n = argument_count(rt);
+    let n = filing::argument_count(rt);
     if n < 2 {
         input_played(rt, s, &mut rt.stdin());
         return;

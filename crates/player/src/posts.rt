@@ -62,6 +62,8 @@ fn read_into(rt: &impl Files, name: &[u8], file: &mut [u8; 2148375]) -> Result<u
 
 // ---- the lines
 
+// The buffers of the next two, and of `came_used`, come by reference: taken as slices where they are made, their length is counted out, and the check
+// gives up.
 fn image_of(p: Playing, array: &[u8], security: &[u8], file: &mut [u8; 2148374]) -> u8 {
     image_posts::save(p, array, security, file)
 }

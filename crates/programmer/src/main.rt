@@ -4,9 +4,9 @@
 
 ghost use Rattle.std.specs.Prelude.{◌≤◌, length};
 
-use keeping::told;
-use std::env::{Env, FillError};
-use std::io::{Read, Write};
+use keeping::{Failure, say, told};
+use std::env::Env;
+use std::io::Read;
 
 // What the words so far ask for: the part that a new chip is, where the name of the chip's file stands among them, and whether the next word is that name.
 #[derive(Clone, Copy)]
@@ -17,7 +17,6 @@ struct Session {
     file: Option<usize>,
     naming: bool,
     served: bool,
-    wrong: bool,
 }
 
 fn is_option(word: &[u8]) -> bool {
@@ -26,10 +25,6 @@ fn is_option(word: &[u8]) -> bool {
 
 fn is_name(word: &[u8]) -> bool {
     !word.is_empty() & !word.starts_with(b"-")
-}
-
-fn say(rt: &HostRuntime, text: &[u8]) {
-    let _ = rt.stderr().write_all(text);
 }
 
 fn usage_told(rt: &HostRuntime) {
@@ -56,37 +51,22 @@ fn usage_told(rt: &HostRuntime) {
     );
 }
 
-fn wrong_told(rt: &HostRuntime, s: Session, word: &[u8], text: &[u8]) -> Session {
-    let mut next = s;
-    next.wrong = true;
+fn wrong_told(rt: &HostRuntime, word: &[u8], text: &[u8]) -> Failure {
     told(rt, word, text);
     usage_told(rt);
-    next
+    Failure
 }
 
-// On the chip of a file, or on a new one, all FF, where the file has no name; false where it cannot be read or saved.
-fn served<R: Read>(rt: &HostRuntime, s: Session, from: &mut R, name: &[u8]) -> bool {
+// On the chip of a file, or on a new one, all FF, where the file has no name.
+fn served<R: Read>(rt: &HostRuntime, s: Session, from: &mut R, name: &[u8]) -> Result<(), Failure> {
     let mut array = [255u8; 2097152];
     let mut security = [255u8; 2048];
-    let Ok(kept) = keeping::load(rt, s.raw, name, &mut array, &mut security) else {
-        return false;
-    };
+    let kept = keeping::load(rt, s.raw, name, &mut array, &mut security)?;
     let before = keeping::chip_of(kept, s.ba);
     keeping::part_told(rt, before, kept.is_some(), name);
     let mut to = rt.stdout();
     let c = sessions::serve(from, &mut to, before, s.disguise, &mut array, &mut security);
-    keeping::save(rt, s.raw, name, c, &array, &security).is_ok()
-}
-
-// How many words the command line has, the program's own name among them.
-fn word_count(rt: &HostRuntime) -> usize {
-    for i in 0..usize::MAX {
-        let mut none = [0u8; 1];
-        if let Err(FillError::NotPresent) = rt.arg(i, &mut none) {
-            return i;
-        }
-    }
-    usize::MAX
+    keeping::save(rt, s.raw, name, c, &array, &security)
 }
 
 // Word i of the command line, in front of the buffer; nothing where it is too long for a name.
@@ -96,7 +76,7 @@ fn word_of(rt: &HostRuntime, i: usize, word: &mut [u8]) -> usize
     rt.arg(i, word).unwrap_or(0)
 }
 
-fn source_served<R: Read>(rt: &HostRuntime, s: Session, from: &mut R) -> bool {
+fn source_served<R: Read>(rt: &HostRuntime, s: Session, from: &mut R) -> Result<(), Failure> {
     let Some(i) = s.file else {
         return served(rt, s, from, b"");
     };
@@ -106,69 +86,66 @@ fn source_served<R: Read>(rt: &HostRuntime, s: Session, from: &mut R) -> bool {
 }
 
 // `-` is standard input.
-fn session_served(rt: &HostRuntime, s: Session, word: &[u8]) -> Session {
-    let mut next = s;
-    next.served = true;
+fn session_served(rt: &HostRuntime, s: Session, word: &[u8]) -> Result<Session, Failure> {
     if let b"-" = word {
-        let mut from = rt.stdin();
-        next.wrong = !source_served(rt, s, &mut from);
-        return next;
-    }
-    match filing::opened(rt, word) {
-        Ok(file) => {
-            let mut from = file;
-            next.wrong = !source_served(rt, s, &mut from);
-        }
-        Err(_) => {
+        source_served(rt, s, &mut rt.stdin())?;
+    } else {
+        let mut file = filing::opened(rt, word).map_err(|_| {
             told(rt, word, b" cannot be opened");
-            next.wrong = true;
-        }
+            Failure
+        })?;
+        source_served(rt, s, &mut file)?;
     }
-    next
+    Ok(Session { served: true, ..s })
 }
 
 // The name of the chip's file.
-fn file_named(rt: &HostRuntime, s: Session, i: usize, word: &[u8]) -> Session {
+fn file_named(rt: &HostRuntime, s: Session, i: usize, word: &[u8]) -> Result<Session, Failure> {
     if !is_name(word) {
-        return wrong_told(rt, s, word, b" is no name of a chip's file");
+        return Err(wrong_told(rt, word, b" is no name of a chip's file"));
     }
-    let mut next = s;
-    next.file = Some(i);
-    next.naming = false;
-    next
+    Ok(Session {
+        file: Some(i),
+        naming: false,
+        ..s
+    })
+}
+
+// A word that asks for the chip in a file: its name is the next one.
+fn naming(s: Session, raw: bool) -> Session {
+    Session {
+        raw,
+        naming: true,
+        ..s
+    }
 }
 
 // An option, or a session.
-fn word_taken(rt: &HostRuntime, s: Session, i: usize, word: &[u8]) -> Session {
-    let mut next = s;
+fn word_taken(rt: &HostRuntime, s: Session, i: usize, word: &[u8]) -> Result<Session, Failure> {
     if s.naming {
         return file_named(rt, s, i, word);
     }
     match word {
-        b"--identity-of-sst26vf016b" => next.disguise = true,
-        b"--old" => next.ba = false,
-        b"--chip" => {
-            next.raw = false;
-            next.naming = true;
-        }
-        b"--raw" => {
-            next.raw = true;
-            next.naming = true;
-        }
-        _ if is_option(word) => return wrong_told(rt, s, word, b" is no option"),
-        _ => return session_served(rt, s, word),
+        b"--identity-of-sst26vf016b" => Ok(Session {
+            disguise: true,
+            ..s
+        }),
+        b"--old" => Ok(Session { ba: false, ..s }),
+        b"--chip" => Ok(naming(s, false)),
+        b"--raw" => Ok(naming(s, true)),
+        _ if is_option(word) => Err(wrong_told(rt, word, b" is no option")),
+        _ => session_served(rt, s, word),
     }
-    next
 }
 
-fn argument_taken(rt: &HostRuntime, s: Session, i: usize) -> Session {
+fn argument_taken(rt: &HostRuntime, s: Session, i: usize) -> Result<Session, Failure> {
     let mut word = [0u8; 4096];
     let n = word_of(rt, i, &mut word);
     word_taken(rt, s, i, &word[..n])
 }
 
 // Up to the first word that is wrong.
-fn arguments_taken(rt: &HostRuntime, n: usize) -> Session {
+fn arguments_taken(rt: &HostRuntime, n: usize) -> Result<Session, Failure> {
     let mut s = Session {
         ba: true,
         disguise: false,
@@ -176,26 +153,25 @@ fn arguments_taken(rt: &HostRuntime, n: usize) -> Session {
         file: None,
         naming: false,
         served: false,
-        wrong: false,
     };
     for i in 1..n {
-        if !s.wrong {
-            s = argument_taken(rt, s, i);
-        }
+        s = argument_taken(rt, s, i)?;
     }
-    s
+    Ok(s)
+}
+
+// What is wrong was told where it failed.
+fn all_served(rt: &HostRuntime) -> Result<(), Failure> {
+    let s = arguments_taken(rt, filing::argument_count(rt))?;
+    if s.naming {
+        return Err(wrong_told(rt, b"--chip or --raw", b" lacks the name of a file"));
+    }
+    if !s.served {
+        session_served(rt, s, b"-")?;
+    }
+    Ok(())
 }
 
 fn main(rt: HostRuntime) {
-    let s = arguments_taken(&rt, word_count(&rt));
-    if s.wrong {
-        return;
-    }
-    if s.naming {
-        wrong_told(&rt, s, b"--chip or --raw", b" lacks the name of a file");
-        return;
-    }
-    if !s.served {
-        session_served(&rt, s, b"-");
-    }
+    let _ = all_served(&rt);
 }

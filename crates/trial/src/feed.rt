@@ -1,11 +1,12 @@
 // Where the lines come from: the scripts that the arguments name, one after the other, then random lines. A script is read in parts; a
 // random line is made when the one before it has been played, since what comes up goes by the chip's state.
-use crate::report::{self, Tally, say, say_word};
+use crate::report::{self, Tally, say_word};
 use comparing::bytes::front;
 use comparing::{Odd, Plant};
 use drawing::at;
 use drawing::dice::{once_in, seed_of};
 use drawing::source::Forms;
+use filing::say;
 use standing::Playing;
 use std::env::{Env, FillError};
 use std::fs::File;

@@ -2,6 +2,7 @@
 use comparing::Odd;
 use comparing::bytes::front;
 use drawing::{at, bump};
+use filing::say;
 use grammar::Verb;
 use script::Line;
 use second::Flat;
@@ -90,11 +91,6 @@ impl Tally {
 }
 
 // ---- what is said
-
-// What cannot be written is lost.
-pub fn say(rt: &impl Print, text: &[u8]) {
-    let _ = rt.write_all(text);
-}
 
 // How many of the kinds came up too seldom; these are named.
 fn say_kinds(rt: &impl Print, tally: &[u64], kinds: &[u8], name: &str) {
