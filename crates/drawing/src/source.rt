@@ -80,7 +80,9 @@ impl Index {
 
     // Where the k-th form of a letter stands.
     fn place(&self, letter: u8, k: u64) -> usize {
-        let i = self.letters[usize::from(letter)].first.wrapping_add(k as usize);
+        let i = self.letters[usize::from(letter)]
+            .first
+            .wrapping_add(k as usize);
         self.places.get(i).copied().unwrap_or(0)
     }
 }

@@ -106,7 +106,8 @@ impl Record {
 }
 
 fn total(s: &[u8]) -> u16 {
-    s.iter().fold(0, |total, b| total.wrapping_add(u16::from(*b)))
+    s.iter()
+        .fold(0, |total, b| total.wrapping_add(u16::from(*b)))
 }
 
 // A byte becomes another one.
