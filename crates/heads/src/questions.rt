@@ -24,10 +24,10 @@ pub fn row(line: u64, q: Question, slots: [u64; 24], number: u8, rest: Rest) -> 
     let works = rest.works;
     let run = works.running;
     match q {
-        Question::Status => rows::numbered(line, 140, registers::status_of(rest) as u64, 0, 0),
+        Question::Status => rows::numbered(line, 140, u64::from(registers::status_of(rest)), 0, 0),
         Question::Work => rows::work_places(rows::numbered(line, 156, 0, 0, 0), run),
         Question::Locks => rows::numbered(line, 158, locks.protection, locks.permanent, 0),
         Question::Dump => dump(line, slots),
-        Question::Is => rows::numbered(line, 217 + (number as usize).min(1), 0, 0, 0),
+        Question::Is => rows::numbered(line, 217 + usize::from(number).min(1), 0, 0, 0),
     }
 }

@@ -41,9 +41,9 @@ fn allowed_row(place: u8) -> Row
 {
     let r = rows::below(177, 0, 0, 0);
     let n = match place {
-        0..54 => 222 + place as usize,
-        54..58 => 257 + place as usize,
-        _ => 264 + (place as usize).min(73),
+        0..54 => 222 + usize::from(place),
+        54..58 => 257 + usize::from(place),
+        _ => 264 + usize::from(place).min(73),
     };
     rows::form(r, n, 0, 0, 0)
 }

@@ -13,7 +13,7 @@ pub fn status_bit(rest: Rest, i: usize) -> Row
     ensures { result ≡ status_bit rest i }
 {
     let k = i.min(5);
-    if blocks::bit_at(registers::status_of(rest) as u64, k as u32) {
+    if blocks::bit_at(u64::from(registers::status_of(rest)), k as u32) {
         return rows::below(141 + k, 0, 0, 0);
     }
     rows::empty()
@@ -24,7 +24,7 @@ pub fn configuration(verb: Verb, rest: Rest) -> Row
     ensures { result ≡ configuration_row (verbs.number verb) rest }
 {
     if verb == Verb::Status {
-        return rows::below(147, registers::configuration_of(rest) as u64, 0, 0);
+        return rows::below(147, u64::from(registers::configuration_of(rest)), 0, 0);
     }
     rows::empty()
 }
@@ -47,7 +47,7 @@ fn bit_of(i: usize) -> u32
 pub fn bit(verb: Verb, rest: Rest, i: usize) -> Row
     ensures { result ≡ bit_row (verbs.number verb) rest i }
 {
-    let set = blocks::bit_at(registers::configuration_of(rest) as u64, bit_of(i));
+    let set = blocks::bit_at(u64::from(registers::configuration_of(rest)), bit_of(i));
     if verb == Verb::Status && set {
         return rows::below(148 + i.min(2), 0, 0, 0);
     }

@@ -85,7 +85,7 @@ fn answer_on(r: Row, f: Post, ba: bool, number: u8, report: Report) -> Row
     if number == 0 {
         return done_on(r, f, ba, report.length, report.difference);
     }
-    rows::form(r, 21, number as u64, 0, 0)
+    rows::form(r, 21, u64::from(number), 0, 0)
 }
 
 // The line, and beside it, where there is room, the answer.

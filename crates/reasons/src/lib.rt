@@ -24,7 +24,7 @@ pub fn number(verb: Verb, number: u8) -> Row
     ensures { result ≡ number_row (verbs.number verb) number }
 {
     if is_refused(verb, number) {
-        return rows::below(24 + (number as usize).min(13), 0, 0, 0);
+        return rows::below(24 + usize::from(number).min(13), 0, 0, 0);
     }
     rows::empty()
 }
@@ -103,7 +103,7 @@ fn came_at(place: usize, came: u8, mark: u8, byte: u8, kind: u8) -> Row
     let r = rows::below(183, place as u64, 0, 0);
     let r = rows::known_byte(r, came, mark);
     let r = rows::form(r, 184, 0, 0, 0);
-    rows::form(r, 199 + (kind as usize).min(2), byte as u64, 0, 0)
+    rows::form(r, 199 + usize::from(kind).min(2), u64::from(byte), 0, 0)
 }
 
 // And the byte that came there.
