@@ -7,7 +7,7 @@ ghost use Rattle.stations.specs.Calls.{list_size};
 ghost use Rattle.slots.specs.Reads.{shown_of};
 ghost use Rattle.census.specs.Census.{cut_after};
 ghost use Rattle.calling.specs.Lines.{errand_of, no_counts, no_account, number_of, ended, answered, called_of, account_of, account_shown, StoreJudged, FindJudged, StorePlayed, FindPlayed, StationsPlayed, PlayedCall, CallPlayed};
-ghost use Rattle.standing.specs.Benches.{front};
+ghost use Rattle.standing.specs.Benches.{front, unjudged};
 
 use census::Counts;
 use expecting::{Expectation, Expected, Marked, Verdict};
@@ -56,6 +56,19 @@ pub fn asked(p: Playing) -> Option<Call>
 
 // ---- what it comes to
 
+fn no_verdict() -> Verdict
+    ensures { result ≡ unjudged }
+{
+    Verdict {
+        number: false,
+        strict: false,
+        length: false,
+        kept: false,
+        place: 0,
+        compared: 0,
+    }
+}
+
 fn account_of(polls: u64, writes: usize, bytes: [u8; 28], v: Verdict) -> Account
     ensures { result ≡ account_of polls writes bytes v no_counts 0 }
 {
@@ -76,7 +89,10 @@ fn number_of(v: Verdict) -> Verdict
     Verdict {
         number: v.number,
         strict: v.strict,
-        ..Verdict::default()
+        length: false,
+        kept: false,
+        place: 0,
+        compared: 0,
     }
 }
 
@@ -240,11 +256,12 @@ fn account_shown(full: bool, read: &ListRead) -> Account
 {
     let counts = census::counted(read);
     let cut = cut_of(full, read);
+    let verdict = no_verdict();
     Account {
         polls: 0,
         writes: 0,
         bytes: [0u8; 28],
-        verdict: Verdict::default(),
+        verdict,
         counts,
         cut,
     }
@@ -277,7 +294,8 @@ fn stations(
         let account = list_shown(b.full, reply, marks);
         return Called { playing, account };
     }
-    let account = account_of(0, 0, [0u8; 28], Verdict::default());
+    let v = no_verdict();
+    let account = account_of(0, 0, [0u8; 28], v);
     Called { playing, account }
 }
 
@@ -287,7 +305,8 @@ fn stations(
 pub fn nothing(p: Playing) -> Called
     ensures { result ≡ called_of p no_account }
 {
-    let account = account_of(0, 0, [0u8; 28], Verdict::default());
+    let v = no_verdict();
+    let account = account_of(0, 0, [0u8; 28], v);
     Called {
         playing: p,
         account,
