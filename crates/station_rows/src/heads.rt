@@ -13,7 +13,7 @@ use standing::Call;
 fn refused(r: Row, number: u8, polls: u64) -> Row
     ensures { result ≡ refused_on number polls r }
 {
-    let r = rows::form(r, 21, u64::from(number), 0, 0);
+    let r = rows::form(r, 21, number as u64, 0, 0);
     if number == 18 {
         return rows::form(r, 352, polls, 0, 0);
     }
@@ -24,7 +24,7 @@ fn refused(r: Row, number: u8, polls: u64) -> Row
 fn store(line: u64, n: u16, number: u8, polls: u64, read: &ListRead) -> Row
     ensures { result ≡ store_head line n number polls (shown_of read.now) }
 {
-    let r = rows::headed(line, 338, u64::from(n));
+    let r = rows::headed(line, 338, n as u64);
     if number == 0 {
         let i = read.first_empty().unwrap_or(2048);
         return rows::form(r, 341, i as u64, polls, 0);
@@ -36,14 +36,14 @@ fn store(line: u64, n: u16, number: u8, polls: u64, read: &ListRead) -> Row
 fn find(line: u64, n: u16, number: u8, bytes: &[u8], read: &ListRead) -> Row
     ensures { result ≡ find_head line n number bytes.now (shown_of read.now) }
 {
-    let r = rows::headed(line, 339, u64::from(n));
+    let r = rows::headed(line, 339, n as u64);
     if number == 0 {
         let i = read.live_from(n, 0).unwrap_or(2048);
         let r = rows::form(r, 342, i as u64, 0, 0);
         let r = byte_text::printed_bytes(r, bytes, 0, 28);
         return rows::form(r, 199, 0, 0, 0);
     }
-    rows::form(r, 21, u64::from(number), 0, 0)
+    rows::form(r, 21, number as u64, 0, 0)
 }
 
 // How many stations lookup finds.
@@ -61,7 +61,7 @@ fn stations(line: u64, number: u8, c: Counts) -> Row
         let n = station_count(c);
         return rows::form(r, 353, n, 0, 0);
     }
-    rows::form(r, 21, u64::from(number), 0, 0)
+    rows::form(r, 21, number as u64, 0, 0)
 }
 
 pub fn row(k: Call, line: u64, n: u16, number: u8, a: Account, read: &ListRead) -> Row

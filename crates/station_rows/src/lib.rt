@@ -44,9 +44,14 @@ fn part_row(
     let slots = l.slots;
     let n = calls::station_of(slots);
     match part {
+        Part::Remark => rows::empty(),
         Part::Head => heads::row(k, bench.line, n, p.number, a, read),
+        Part::Second => rows::empty(),
         Part::Bytes => listings::bytes(k, p.number, a, i, read),
         Part::More => listings::more(k, p.number, a),
+        Part::Configuration => rows::empty(),
+        Part::Bits => rows::empty(),
+        Part::Protocol => rows::empty(),
         Part::Number => whys::number(p.number),
         Part::Why => whys::why(
             k,
@@ -60,10 +65,12 @@ fn part_row(
             before,
             read,
         ),
+        Part::Torn => rows::empty(),
         Part::Unmet => whys::length_unmet(i, v, l.expected, p.number),
         Part::Expected => reasons::expected(v.place, v.compared, expected, known),
         Part::Came => came(v.place, v.compared, &bytes, expected, known),
-        _ => rows::empty(),
+        Part::Memory => rows::empty(),
+        Part::Over => rows::empty(),
     }
 }
 

@@ -108,7 +108,8 @@ pub fn more(k: Call, number: u8, a: Account) -> Row
 {
     let counts = a.counts;
     match k {
-        Call::Store | Call::Find => rows::empty(),
+        Call::Store => rows::empty(),
+        Call::Find => rows::empty(),
         Call::Stations => counts_told(number, counts),
     }
 }

@@ -17,12 +17,12 @@ fn number_form(number: u8) -> usize
     ensures { result ≡ number_form number }
 {
     if number < 15 {
-        return 24 + usize::from(number);
+        return 24 + number as usize;
     }
     if number == 15 {
         return 276;
     }
-    303 + usize::from(number).min(18)
+    303 + (number as usize).min(18)
 }
 
 // The number's words.
@@ -68,7 +68,8 @@ fn wrong_length(
 {
     match k {
         Call::Store => store_length(size, allowance, array, security, before),
-        Call::Find | Call::Stations => malformed(array, security, before),
+        Call::Find => malformed(array, security, before),
+        Call::Stations => malformed(array, security, before),
     }
 }
 
