@@ -35,7 +35,8 @@ fn put_page(bytes: &mut [u8], page: &[u8; 256])
     ensures bytes_after { bytes.new ≡ page.now ++ drop 256 bytes.old }
     ensures whole { length page.now ≡ 256 }
 {
-    bytes[..256].copy_from_slice(page);
+    let (front, _) = bytes.split_at_mut(256);
+    front.copy_from_slice(page);
 }
 
 // The bytes of a chip's record. The reserved ones are 0 already.

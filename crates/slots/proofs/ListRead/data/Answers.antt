@@ -11,5 +11,5 @@ use Rattle.slots.proofs.ListRead.data.Goals as goal
 pub returns : goal.returns
 returns c =
     let s = c.slot.result.now in
-    rw (take_all (length s - 4) (drop 4 s) (omega (arith, length-drop 4 s)))
-    (data_from (shown_of c.args.self.now) c.args.i 4 28 (drop 4 s) (omega (arith, length-drop 4 s, c.slot.ensures.size)) (λ k h. get_or-drop 4 s k 0 ∙ c.slot.ensures.bytes (4 + k) (omega arith)))
+    take_all (length s - 4) (drop 4 s) (omega (arith, length-drop 4 s))
+    ∙ (data_from (shown_of c.args.self.now) c.args.i 4 28 (drop 4 s) (omega (arith, length-drop 4 s, c.slot.ensures.size)) (λ k h. get_or-drop 4 s k 0 ∙ c.slot.ensures.bytes (4 + k) (omega arith)))
