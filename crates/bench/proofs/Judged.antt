@@ -17,6 +17,7 @@ use Rattle.rules.specs.Promises.{zeroed, carried_of, frame_of}
 use Rattle.rules.specs.Demands.{frame_call}
 use Rattle.rules.proofs.Promises.{lent_one}
 use Rattle.rules.proofs.Tears.{frames_leave}
+use Rattle.memory.specs.Patched.{Patched}
 use Rattle.record_code.specs.Layout.{is_code, decode}
 use Rattle.bench.specs.Boundary.{LentBench, Came, Seen, lent_bench_of, came_of, state_in, CallPromise}
 use Rattle.bench.proofs.Outcomes.{of_code, of_no_code}
@@ -60,6 +61,11 @@ judged b g a i p = go (is_code b.bytes) refl
         (ap (λ (t : Came). eqb t.number 2) s ∙ ap (λ x. x && well_formed (decode b.bytes).chip) (sym k), ap (λ (t : Came). t.array) s)
 
 -- ---- the copy that is judged
+
+pub copied : (l l₀ src : List ℕ) (n : ℕ) → length l₀ ≡ n → length src ≡ n → Patched l l₀ 0 n (λ i. get_or src (0 + i) 0) → l ≡ src
+copied l l₀ src n e d p =
+    ext_get_or 0 l src (p.size ∙ e ∙ sym d)
+    (λ i h. let k : i < n = (let s = p.size in omega arith) in rw zero-add at (p.inside i k))
 
 pub of_other_size : (l : List ℕ) → (length l ≡ 320 → ⊥) → false ≡ ((decode l).known && well_formed (decode l).chip)
 unfolding is_code

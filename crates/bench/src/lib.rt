@@ -219,7 +219,7 @@ fn is_record_by(bytes: &[u8], coded: &mut [u8; 320], id: &mut [u8; 2048], file: 
     if bytes.len() != 320 {
         return false;
     }
-    coded.copy_from_slice(bytes);
+    memory::copy(coded, 0, 320, bytes, 0);
     empty_frame(coded, file, id) == 2
 }
 

@@ -9,7 +9,10 @@ pub fn put_text(lent: &mut [u8], text: &[u8]) -> usize
     ensures { (result ≡ length text.now) × (lent.new ≡ over text.now lent.old) }
 {
     let n = text.len().min(lent.len());
-    lent[..n].copy_from_slice(&text[..n]);
+    let part = &mut lent[..n];
+    for (i, b) in part.iter_mut().enumerate() {
+        *b = text[i];
+    }
     text.len()
 }
 

@@ -45,14 +45,19 @@ ff_all b small (suc n) h =
 -- ---- the page buffer
 
 -- one byte more is in the buffer
-pub fill_next : (b sent : List ℕ) (at i : ℕ) → i < length sent
-    → fill b (at + i) (drop i sent) ≡ fill (set b ((at + i) % 256) (get_or sent i 0)) (at + (i + 1)) (drop (i + 1) sent)
+pub fill_next : (b sent : List ℕ) (p i : ℕ) → i < length sent
+    → fill b p (drop i sent) ≡ fill (set b (p % 256) (get_or sent i 0)) (p + 1) (drop (i + 1) sent)
 unfolding fill
-fill_next b sent at i h =
+fill_next b sent p i h =
+    ap (fill b p) (drop-cons sent i 0 h)
+    ∙ ap (λ (k : ℕ). fill (set b (p % 256) (get_or sent i 0)) (p + 1) (drop k sent)) (sym (add-one i))
+
+-- the same, where the place of byte i is at + i
+pub fill_on : (b sent : List ℕ) (at i : ℕ) → i < length sent
+    → fill b (at + i) (drop i sent) ≡ fill (set b ((at + i) % 256) (get_or sent i 0)) (at + (i + 1)) (drop (i + 1) sent)
+fill_on b sent at i h =
     let e : at + i + 1 ≡ at + (i + 1) = omega arith in
-    ap (fill b (at + i)) (drop-cons sent i 0 h)
-    ∙ ap (λ (k : ℕ). fill (set b ((at + i) % 256) (get_or sent i 0)) (at + i + 1) (drop k sent)) (sym (add-one i))
-    ∙ ap (λ (q : ℕ). fill (set b ((at + i) % 256) (get_or sent i 0)) q (drop (i + 1) sent)) e
+    fill_next b sent (at + i) i h ∙ ap (λ (q : ℕ). fill (set b ((at + i) % 256) (get_or sent i 0)) q (drop (i + 1) sent)) e
 
 pub fill_end : (b sent : List ℕ) (p i : ℕ) → length sent ≤ i → fill b p (drop i sent) ≡ b
 unfolding fill

@@ -39,11 +39,15 @@ turns_more n d z m e h f = go (dec_lt d (z - d))
     go (no q) = inl (omega arith)
 
 -- the list cut at d, with the first m bytes of the front put at the start of the rest
-pub turn_added : (s t r x : List ℕ) (d m : ℕ) → t ≡ take d s → r ≡ drop d s → x ≡ take m t → m ≤ d → d + m ≤ length s
-    → Patched (t ++ (x ++ drop m r)) s d m (λ i. get_or s i 0)
-turn_added s t r x d m et er ex h fits = rw (ex, et, er) record {
-  size = grind (arith, common_steps);
-  inside = λ i below. grind (arith, common_steps);
-  before = λ a below. grind (arith, common_steps);
-  after = λ a above. grind (arith, common_steps);
-}
+pub turn_added : (s t r x : List ℕ) (d m : ℕ) → t ≡ take d s → r ≡ drop d s → Patched x r 0 m (λ i. get_or t (0 + i) 0) → m ≤ d → d + m ≤ length s
+    → Patched (t ++ x) s d m (λ i. get_or s i 0)
+turn_added s t r x d m et er p h fits =
+    let size = p.size in
+    let inside = p.inside in
+    let after = p.after in
+    record {
+      size = grind (arith, common_steps);
+      inside = λ i below. let e = inside i below in grind (arith, common_steps);
+      before = λ a below. grind (arith, common_steps);
+      after = λ a above. let e = after (a - d) (omega arith) in grind (arith, common_steps);
+    }

@@ -26,7 +26,10 @@ pub fn copy(s: &mut [u8], from: usize, n: usize, src: &[u8], at: usize)
     requires { (from + n ≤ length s.old) × (at + n ≤ length src.now) }
     ensures { Patched s.new s.old from n (λ i. get_or src.now (at + i) 0) }
 {
-    s[from..from + n].copy_from_slice(&src[at..at + n]);
+    let part = &mut s[from..from + n];
+    for (i, b) in part.iter_mut().enumerate() {
+        *b = src[at + i];
+    }
 }
 
 // The first n bytes again and again, to the end. Each round copies all that is there, so that a few rounds of wide copies do; the steps double, so no range has them.
@@ -38,7 +41,7 @@ pub fn repeat(s: &mut [u8], n: usize)
     while done < s.len() {
         let (there, rest) = s.split_at_mut(done);
         let m = done.min(rest.len());
-        rest[..m].copy_from_slice(&there[..m]);
+        copy(rest, 0, m, there, 0);
         done += m;
     }
 }

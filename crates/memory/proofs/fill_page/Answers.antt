@@ -2,7 +2,7 @@ use Prim.Native.Nat.{◌+◌}
 use mathlib.Core.Path.{sym, ap, ◌∙◌}
 use lib.ListN.{length-set}
 use Rattle.rules.specs.Programs.{blank, fill}
-use Rattle.memory.proofs.Buffers.{fill_next, fill_end, data_from}
+use Rattle.memory.proofs.Buffers.{fill_on, fill_end, data_from}
 use Rattle.memory.proofs.fill_page.Goals as goal
 
 pub loop-i-preserved : goal.loop-i-preserved
@@ -10,7 +10,7 @@ loop-i-preserved c =
     let l = c.loop-i in
     record {
       size = length-set l.page _ _ ∙ l.invariant.size;
-      is = sym (fill_next l.page _ c.args.at l.i c.loop-i-test.true) ∙ l.invariant.is;
+      is = sym (fill_on l.page _ c.args.at l.i c.loop-i-test.true) ∙ l.invariant.is;
     }
 
 pub returns : goal.returns

@@ -18,7 +18,7 @@ loop-done-preserved c =
     let a = c.args in
     let e : l.done % a.n ≡ 0 = ⊎_elim (λ q. absurd (omega arith)) (λ q. q) l.invariant.whole in
     let cut = c.split_at_mut-there.ensures in
-    let p = turn_added l.s _ _ _ l.done c.min-m.result cut.front cut.back c.copy_from_slice.ensures.after (omega arith) (omega arith) in
+    let p = turn_added l.s _ _ _ l.done c.min-m.result cut.front cut.back c.copy.ensures (omega arith) (omega arith) in
     record {
       some = l.invariant.some;
       least = omega arith;
