@@ -1,7 +1,10 @@
 -- Laws of first places. Assumes nothing.
 use Prim.Native.Nat.{ℕ, ◌≤◌, ◌<◌}
 use mathlib.Core.Path.{◌≡◌, sym, ◌∙◌}
-use mathlib.Core.Bool.{Bool, true, false, true≢false, ◌&&◌}
+use mathlib.Core.Bool.{Bool, true, false, true≢false, not, ◌&&◌}
+use lib.Dec.{eqb}
+use lib.ListN.{get_or, drop}
+use lib.Seq.{get_or-drop}
 use native.Mathlib.Omega.{arith}
 use native.Mathlib.Decide.{dec_lt}
 use mathlib.Core.List.{List, [], ◌∷◌}
@@ -32,11 +35,18 @@ pub first_found : (test : ℕ → Bool) (n : ℕ) (r : Option ℕ)
 first_found test n None h = record { within = omega arith; before = λ i l. h i (omega arith) l; there = λ l. absurd (omega arith) }
 first_found test n (Some i) h = record { within = omega arith; before = λ k l. h.3 k (omega arith) l; there = λ l. h.2 }
 
--- where bytes are expected, the one at i is compared
+-- where bytes are expected, the one at i is compared: of a memory, or of what it holds from a place on
 pub compared_at : (memory : List ℕ) (from : ℕ) (expected known : List ℕ) (count i : ℕ) → (count ≡ 0 → ⊥)
     → unheld memory from expected known count i ≡ unheld_at memory (from + i) expected known (i % count)
 unfolding unheld
 compared_at memory from expected known count i some = rw (ne_eqb _ _ some)
+
+pub compared_from : (memory : List ℕ) (from : ℕ) (expected known : List ℕ) (count i : ℕ) → (count ≡ 0 → ⊥)
+    → unheld memory from expected known count i ≡ unheld_at (drop from memory) i expected known (i % count)
+unfolding unheld_at
+compared_from memory from expected known count i some =
+    compared_at memory from expected known count i some
+    ∙ ap (λ (b : ℕ). not (eqb (get_or known (i % count) 0) 0) && not (eqb b (get_or expected (i % count) 0))) (sym (get_or-drop from memory i 0))
 
 -- the test holds at each entry: as the library says it
 pub every_is : (t : ℕ → Bool) (xs : List ℕ) → list_all t xs ≡ every t xs

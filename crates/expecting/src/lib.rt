@@ -1,7 +1,7 @@
 // What a script expects of a line, compared with what came. specs/Expectations.antt.
 #![tactic(auto)]
 
-ghost use Rattle.std.specs.Prelude.{◌≡◌, not, ◌&&◌, ◌+◌, eqb, length, get_or};
+ghost use Rattle.std.specs.Prelude.{◌≡◌, not, ◌&&◌, eqb, length, get_or, drop};
 ghost use Rattle.rules.specs.Words.{every};
 ghost use Rattle.expecting.specs.Expectations.{First, Judged};
 
@@ -131,20 +131,18 @@ pub fn judge(e: Expectation, strict: bool, given: u8, reply: &Marked, expected: 
 
 // ---- a memory
 
-// The byte i places behind `from`, 0 past the end.
-fn behind(memory: &[u8], from: usize, i: usize) -> u8
-    ensures { result ≡ get_or memory.now (from + i) 0 }
+// The bytes from a place on, none past the end.
+fn behind(memory: &[u8], from: usize) -> &[u8]
+    ensures { result.now ≡ drop from memory.now }
 {
-    from.checked_add(i)
-        .and_then(|place| memory.get(place).copied())
-        .unwrap_or(0)
+    memory.get(from..).unwrap_or(&[])
 }
 
 #[tactic(auto, unfolding(crate::specs::Expectations::unheld_at))]
-fn unheld(memory: &[u8], from: usize, expected: &[u8], known: &[u8], j: usize, i: usize) -> bool
-    ensures { result ≡ Rattle.expecting.specs.Expectations.unheld_at memory.now (from + j) expected.now known.now i }
+fn unheld(rest: &[u8], expected: &[u8], known: &[u8], j: usize, i: usize) -> bool
+    ensures { result ≡ Rattle.expecting.specs.Expectations.unheld_at rest.now j expected.now known.now i }
 {
-    at(known, i) != 0 && behind(memory, from, j) != at(expected, i)
+    at(known, i) != 0 && at(rest, j) != at(expected, i)
 }
 
 // The first of n places from `from` on at which the memory is not as `count` expected bytes, over and over, say; n where there is
@@ -163,8 +161,9 @@ pub fn first_unheld(
     if count == 0 {
         return n;
     }
+    let rest = behind(memory, from);
     (0..n)
-        .find(|&i| unheld(memory, from, expected, known, i, i % count))
+        .find(|&i| unheld(rest, expected, known, i, i % count))
         .unwrap_or(n)
 }
 

@@ -108,54 +108,42 @@ impl Filling {
         }
     }
 
-    fn opened(self) -> Filling
-        ensures { result ≡ opened self }
-    {
-        Filling {
-            percent: true,
-            ..self
-        }
-    }
-
     #[tactic(auto, unfolding(crate::specs::Forms::ended))]
-    fn ended(self) -> Filling
-        ensures { result ≡ ended self }
+    fn ended(&mut self)
+        ensures { self.new ≡ ended self.old }
     {
         if self.skip == 0 {
-            Filling { over: true, ..self }
+            self.over = true;
         } else {
-            Filling {
-                skip: self.skip - 1,
-                ..self
-            }
+            self.skip -= 1;
         }
     }
 
     #[tactic(auto, unfolding(crate::specs::Forms::formed))]
-    fn formed(self, x: u8) -> Filling
-        ensures { result ≡ formed self x }
+    fn formed(&mut self, x: u8)
+        ensures { self.new ≡ formed self.old x }
     {
         if self.percent {
-            self.piece(x)
+            *self = self.piece(x);
         } else if x == b'%' {
-            self.opened()
+            self.percent = true;
         } else {
-            self.with_row(self.row.add(x))
+            *self = self.with_row(self.row.add(x));
         }
     }
 
+    // In place: a page has some thousand bytes before the form, and a copy of the whole for each of them took most of a row's time.
     #[tactic(auto, unfolding(crate::specs::Forms::taken))]
-    fn taken(self, x: u8) -> Filling
-        ensures { result ≡ taken self x }
+    fn taken(&mut self, x: u8)
+        ensures { self.new ≡ taken self.old x }
     {
         if self.over {
-            self
-        } else if x == b'\n' {
-            self.ended()
+            return;
+        }
+        if x == b'\n' {
+            self.ended();
         } else if self.skip == 0 {
-            self.formed(x)
-        } else {
-            self
+            self.formed(x);
         }
     }
 }
@@ -178,7 +166,7 @@ pub fn fill(page: &[u8], r: Row, n: usize, a: u64, b: u64, c: u64) -> Row
         if f.over {
             break;
         }
-        f = f.taken(*x);
+        f.taken(*x);
     }
     f.row
 }
