@@ -2,7 +2,7 @@
 ghost use Rattle.std.specs.Prelude.{◌≡◌, ◌+◌, ◌^◌, ◌≤◌, ◌<◌, ◌==◌, length, is_none};
 ghost use Rattle.image.specs.declared.What.{What};
 ghost use Rattle.image.specs.Form.{number, file_size_lem};
-ghost use Rattle.image.specs.Files.{part, locks_in, number_in, right};
+ghost use Rattle.image.specs.Files.{part, locks_in, burst_byte_in, number_in, right};
 ghost use Rattle.image.specs.Faults.{fault_of, unless, record_fault, registers_fault, page_fault, first_from, first_fault};
 
 use image::{Fault, What};
@@ -95,6 +95,14 @@ fn registers_fault(burst: u8, l: Locks) -> Option<Fault>
     None
 }
 
+// The burst code and the registers that the file says.
+fn registers_fault_in(l: &[u8]) -> Option<Fault>
+    requires { length l.now ≡ file_size_lem }
+    ensures { result ≡ registers_fault (burst_byte_in l.now) (locks_in l.now) }
+{
+    registers_fault(l[15], locks_in(l))
+}
+
 // That it says n.
 fn number_fault(l: &[u8], n: usize) -> Option<Fault>
     requires { (n < 8192) × (length l.now ≡ file_size_lem) }
@@ -148,9 +156,8 @@ pub fn fault(l: &[u8]) -> Option<Fault>
             due: 2148374,
         });
     }
-    let locks = locks_in(l);
     record_fault(l, 0, 0, 14, 0x5247)
-        .or_else(|| registers_fault(l[15], locks))
+        .or_else(|| registers_fault_in(l))
         .or_else(|| record_fault(l, 1, 18, 2048, 0x5349))
         .or_else(|| pages_fault(l))
 }
