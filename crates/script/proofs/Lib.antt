@@ -2,4 +2,5 @@
 pub mod Filled
 pub mod Steps
 pub mod Unique
+pub mod Verbs
 pub mod Listing
