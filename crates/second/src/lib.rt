@@ -6,7 +6,7 @@
 // Every function is proved to be safe and to end, and says nothing more than that.
 #![tactic(auto)]
 
-ghost use Rattle.std.specs.Prelude.{◌≤◌, ◌<◌};
+ghost use Rattle.std.specs.Prelude.{◌≤◌, ◌<◌, ◌≡◌, ◌+◌, length};
 
 use std::ops::Range;
 
@@ -135,9 +135,9 @@ fn byte_at(from: &[u8], place: usize) -> u8 {
     from.get(place).copied().unwrap_or(0)
 }
 
-// A byte stored at a place of a slice. All uses are inside the slice; outside it nothing happens.
-fn put(to: &mut [u8], place: usize, value: u8) {
-    if let Some(byte) = to.get_mut(place) {
+// As many bytes as both have, stored from the first place on.
+fn store(to: &mut [u8], from: &[u8]) {
+    for (byte, &value) in to.iter_mut().zip(from) {
         *byte = value;
     }
 }
@@ -432,22 +432,7 @@ fn protection_byte(protection: u64, i: usize) -> u8 {
 }
 
 // "The identity bytes are BF, 26 and the device byte printed in 002; they repeat": the sheet's table 5-4 has 51.
-fn identity_byte(i: usize) -> u8 {
-    match i % 3 {
-        0 => 0xBF,
-        1 => 0x26,
-        _ => 0x51,
-    }
-}
-
-fn register_byte(opcode: u8, s: Flat, i: usize) -> u8 {
-    match opcode {
-        0x05 => status(s),
-        0x35 => configuration(s),
-        0x72 => protection_byte(s.protection, i),
-        _ => identity_byte(i),
-    }
-}
+const IDENTITY: [u8; 3] = [0xBF, 0x26, 0x51];
 
 // The reply and its marks, byte by byte: `out` says what is known at each place of the reply, "mark 1"; what is not "reads 00,
 // mark 0".
@@ -461,14 +446,24 @@ fn answer_each<F: Fn(usize) -> Option<u8>>(reply: &mut [u8], marks: &mut [u8], o
     }
 }
 
-// What a place of the array shows; `aside` is the suspended work.
-fn array_out(protection: u64, aside: Option<Work>, array: &[u8], place: usize) -> Option<u8> {
+// The same where all of it is known.
+fn answer_known<F: Fn(usize) -> u8>(reply: &mut [u8], marks: &mut [u8], out: F)
+    requires { F.IsAlwaysCallable out }
+{
+    for (i, byte) in reply.iter_mut().enumerate() {
+        *byte = out(i);
+    }
+    marks.fill(1);
+}
+
+// What a place of the array shows; `aside` is the suspended range, empty where nothing is suspended.
+fn array_out(protection: u64, aside: &Range<usize>, array: &[u8], place: usize) -> Option<u8> {
     // "A byte in a read-locked block reads 00, mark 1."
     if read_locked(protection, place) {
         return Some(0);
     }
     // "Otherwise a byte in the suspended range reads 00, mark 0"
-    if aside.is_some_and(|work| range_holds(work, place)) {
+    if aside.contains(&place) {
         return None;
     }
     // "All others: the stored byte, mark 1."
@@ -501,7 +496,7 @@ fn read_place(start: usize, size: usize, i: usize) -> usize
     requires size_bound { size ≤ 2097152 }
 {
     let within = start % size;
-    start - within + (within + i % size) % size
+    start - within + within.wrapping_add(i) % size
 }
 
 // "A frame without a reply fills the reply with FF and the marks with 0."
@@ -512,14 +507,14 @@ fn no_reply(reply: &mut [u8], marks: &mut [u8]) {
 
 fn answer(s: Flat, array: &[u8], security: &[u8], sent: &[u8], reply: &mut [u8], marks: &mut [u8]) {
     let opcode = byte_at(sent, 0);
-    let aside = suspended_work(s);
+    let aside = suspended_work(s).and_then(array_range).unwrap_or(0..0);
     match opcode {
         0x03 | 0x0B | 0x6B => {
             let start = array_address(sent);
             answer_each(reply, marks, |i| {
                 array_out(
                     s.protection,
-                    aside,
+                    &aside,
                     array,
                     read_place(start, ARRAY_BYTES, i),
                 )
@@ -530,21 +525,33 @@ fn answer(s: Flat, array: &[u8], security: &[u8], sent: &[u8], reply: &mut [u8],
             let start = array_address(sent);
             let size = burst_size(s.burst);
             answer_each(reply, marks, |i| {
-                array_out(s.protection, aside, array, read_place(start, size, i))
+                array_out(s.protection, &aside, array, read_place(start, size, i))
             });
         }
         // No lock and no suspended range touches the Security ID.
         0x88 => {
             let start = security_address(sent);
-            answer_each(
+            answer_known(
                 reply,
                 marks,
-                |i| Some(byte_at(security, read_place(start, SECURITY_BYTES, i))),
+                |i| byte_at(security, read_place(start, SECURITY_BYTES, i)),
             );
         }
         // "Register and identity bytes, and the 00 after 72's six, have mark 1."
-        0x05 | 0x35 | 0x72 | 0x9F | 0xAF => {
-            answer_each(reply, marks, |i| Some(register_byte(opcode, s, i)));
+        0x05 => {
+            let shown = status(s);
+            answer_known(reply, marks, |_| shown);
+        }
+        0x35 => {
+            let shown = configuration(s);
+            answer_known(reply, marks, |_| shown);
+        }
+        0x72 => answer_known(reply, marks, |i| protection_byte(s.protection, i)),
+        0x9F | 0xAF => {
+            for group in reply.chunks_mut(IDENTITY.len()) {
+                store(group, &IDENTITY);
+            }
+            marks.fill(1);
         }
         _ => no_reply(reply, marks),
     }
@@ -714,14 +721,13 @@ fn finish_to<F: Fn(usize, u8) -> u8, T: Fn(u8, u8) -> u8>(
     requires finishes { F.IsAlwaysCallable finished }
     requires tears { T.IsAlwaysCallable torn }
 {
-    for (i, byte) in range.iter_mut().enumerate() {
-        let place = i as u64;
-        let whole = finished(i, *byte);
-        if place < k {
-            *byte = whole;
-        } else if place == k {
-            *byte = torn(*byte, whole);
-        }
+    let count = range.len().min(k as usize);
+    for (i, byte) in range[..count].iter_mut().enumerate() {
+        *byte = finished(i, *byte);
+    }
+    if let Some(byte) = range.get_mut(count) {
+        let old = *byte;
+        *byte = torn(old, finished(count, old));
     }
 }
 
@@ -1189,13 +1195,14 @@ pub fn power_cut(s: Flat, array: &mut [u8], security: &mut [u8], k: u64, m: u8) 
 const FILE_BYTES: usize = 2148374;
 
 // "Each record has a two-byte ASCII mark, a fixed body and a 16-bit sum". "In order: RG, 14 bytes", so 18 with mark and sum;
-// "SI, 2,048 bytes", so 2,052; "then 8,192 times PG, 258 bytes", so 262 each. Where SI and the first PG start, and how
-// many bytes a PG has.
-const SI_START: usize = 18;
+// "SI, 2,048 bytes", so 2,052; "then 8,192 times PG, 258 bytes", so 262 each.
+const RG_BYTES: usize = 18;
 
-const PG_START: usize = 2070;
+const SI_BYTES: usize = 2052;
 
 const PG_BYTES: usize = 262;
+
+const PAGES: u16 = 8192;
 
 // What RG's body holds: "protection 6, permanent 6, flags 1, burst code 1".
 #[derive(Clone, Copy, PartialEq, Eq)]
@@ -1210,94 +1217,31 @@ struct Head {
 enum Record {
     Rg,
     Si,
-    // how many PGs come before it
-    Pg(u16),
-}
-
-#[derive(Clone, Copy, PartialEq, Eq)]
-enum Part {
-    Mark,
-    Body,
-    Sum,
-}
-
-// What stands at a place of a file.
-#[derive(Clone, Copy, PartialEq, Eq)]
-struct Spot {
-    record: Record,
-    part: Part,
-    // the byte of that part, from 0
-    index: usize,
-}
-
-// "a fixed body": how many bytes it has.
-fn body_bytes(record: Record) -> usize {
-    match record {
-        Record::Rg => 14,
-        Record::Si => 2048,
-        Record::Pg(_) => 258,
-    }
-}
-
-// What stands in a record after so many of its bytes: the mark, then the body, then the sum.
-fn spot_in(record: Record, before: usize) -> Spot {
-    let body = body_bytes(record);
-    let (part, index) = if before < 2 {
-        (Part::Mark, before)
-    } else if before - 2 < body {
-        (Part::Body, before - 2)
-    } else {
-        (Part::Sum, before - 2 - body)
-    };
-    Spot {
-        record,
-        part,
-        index,
-    }
-}
-
-fn spot_at(place: usize) -> Spot {
-    if place < SI_START {
-        return spot_in(Record::Rg, place);
-    }
-    if place < PG_START {
-        return spot_in(Record::Si, place - SI_START);
-    }
-    let on = place - PG_START;
-    spot_in(Record::Pg((on / PG_BYTES % 8192) as u16), on % PG_BYTES)
-}
-
-fn one_of(pair: [u8; 2], index: usize) -> u8 {
-    if index == 0 { pair[0] } else { pair[1] }
+    Pg,
 }
 
 // "a two-byte ASCII mark": "RG", "SI", "PG".
-fn mark_byte(record: Record, index: usize) -> u8 {
-    let mark = match record {
+fn mark_of(record: Record) -> [u8; 2] {
+    match record {
         Record::Rg => [b'R', b'G'],
         Record::Si => [b'S', b'I'],
-        Record::Pg(_) => [b'P', b'G'],
-    };
-    one_of(mark, index)
-}
-
-// "high byte first", of a sum and of a page number.
-fn two_bytes(value: u16, index: usize) -> u8 {
-    one_of(value.to_be_bytes(), index)
-}
-
-// "a 16-bit sum of the body's bytes that wraps at 65,536": the total after a byte of a file. Each mark begins it anew.
-fn total_after(total: u16, part: Part, value: u8) -> u16 {
-    match part {
-        Part::Mark => 0,
-        Part::Body => total.wrapping_add(u16::from(value)),
-        Part::Sum => total,
+        Record::Pg => [b'P', b'G'],
     }
 }
 
-// The place in the array of a byte of a page.
-fn page_place(page: u16, index: usize) -> usize {
-    usize::from(page) * 256 + index % 256
+// "a 16-bit sum of the body's bytes that wraps at 65,536": as it travels, "high byte first".
+fn sum_of(body: &[u8]) -> [u8; 2] {
+    body.iter()
+        .fold(0u16, |total, &value| total.wrapping_add(u16::from(value)))
+        .to_be_bytes()
+}
+
+// What stands between a record's mark and its sum.
+fn body_of(bytes: &[u8]) -> &[u8]
+    requires { 4 ≤ length bytes.now }
+    ensures { length result.now + 4 ≡ length bytes.now }
+{
+    &bytes[2..bytes.len() - 2]
 }
 
 // "Flags from bit 0: SQI, WEL, IOC, WPEN, WPLD, SEC, reset enable", and W-204: "bit 7 of W-203's flags now holds" the part,
@@ -1334,66 +1278,58 @@ fn head_byte(head: Head, index: usize) -> u8 {
 // A byte of a PG's body: "page number from 0 up, high byte first, then the page". "A file shows locked bytes": the page goes as
 // it is stored.
 fn page_byte(array: &[u8], page: u16, index: usize) -> u8 {
-    if index < 2 {
-        return two_bytes(page, index);
-    }
-    byte_at(array, page_place(page, index - 2))
-}
-
-fn body_byte(head: Head, array: &[u8], security: &[u8], at: Spot) -> u8 {
-    match at.record {
-        Record::Rg => head_byte(head, at.index),
-        Record::Si => byte_at(security, at.index),
-        Record::Pg(page) => page_byte(array, page, at.index),
+    match index {
+        0 | 1 => page.to_be_bytes()[index],
+        _ => byte_at(array, usize::from(page) * 256 + (index - 2) % 256),
     }
 }
 
-// A byte of the file; total is the sum of its body so far.
-fn file_byte(head: Head, array: &[u8], security: &[u8], at: Spot, total: u16) -> u8 {
-    match at.part {
-        Part::Mark => mark_byte(at.record, at.index),
-        Part::Body => body_byte(head, array, security, at),
-        Part::Sum => two_bytes(total, at.index),
+// A record: its mark, its body byte by byte, and its sum.
+fn write_record<F: Fn(usize) -> u8>(bytes: &mut [u8], record: Record, body_byte: F)
+    requires record_sized { 4 ≤ length bytes.old }
+    requires callable { F.IsAlwaysCallable body_byte }
+{
+    let (mark, rest) = bytes.split_at_mut(2);
+    let body_bytes = rest.len() - 2;
+    let (body, sum) = rest.split_at_mut(body_bytes);
+    mark.copy_from_slice(&mark_of(record));
+    for (index, byte) in body.iter_mut().enumerate() {
+        *byte = body_byte(index);
+    }
+    sum.copy_from_slice(&sum_of(body));
+}
+
+fn write_records(head: Head, array: &[u8], security: &[u8], file: &mut [u8])
+    requires { length file.old ≡ 2148374 }
+{
+    let (rg, rest) = file.split_at_mut(RG_BYTES);
+    let (si, rest) = rest.split_at_mut(SI_BYTES);
+    let (pgs, _) = rest.as_chunks_mut::<PG_BYTES>();
+    write_record(rg, Record::Rg, |index| head_byte(head, index));
+    write_record(si, Record::Si, |index| byte_at(security, index));
+    for (page, pg) in (0..PAGES).zip(pgs) {
+        write_record(pg, Record::Pg, |index| page_byte(array, page, index));
     }
 }
 
-fn write_bytes(head: Head, array: &[u8], security: &[u8], file: &mut [u8]) {
-    let mut total = 0;
-    for (place, byte) in file.iter_mut().enumerate() {
-        let at = spot_at(place);
-        let value = file_byte(head, array, security, at, total);
-        *byte = value;
-        total = total_after(total, at.part, value);
-    }
+// Not "a wrong mark, sum".
+fn record_fits(bytes: &[u8], record: Record) -> bool
+    requires { 4 ≤ length bytes.now }
+{
+    bytes.starts_with(&mark_of(record)) && bytes.ends_with(&sum_of(body_of(bytes)))
 }
 
-// A byte of a body that has to be one value: that of a page number, "from 0 up".
-fn body_fits(at: Spot, value: u8) -> bool {
-    match at.record {
-        Record::Pg(page) if at.index < 2 => value == two_bytes(page, at.index),
-        _ => true,
-    }
-}
-
-// Not "a wrong mark, sum, page number"; total is the sum of the body so far.
-fn byte_fits(at: Spot, total: u16, value: u8) -> bool {
-    match at.part {
-        Part::Mark => value == mark_byte(at.record, at.index),
-        Part::Body => body_fits(at, value),
-        Part::Sum => value == two_bytes(total, at.index),
-    }
-}
-
-fn records_fit(file: &[u8]) -> bool {
-    let mut total = 0;
-    for (place, &value) in file.iter().enumerate() {
-        let at = spot_at(place);
-        if !byte_fits(at, total, value) {
-            return false;
-        }
-        total = total_after(total, at.part, value);
-    }
-    true
+// Not "a wrong mark, sum, page number".
+fn records_fit(file: &[u8]) -> bool
+    requires { length file.now ≡ 2148374 }
+{
+    let (rg, rest) = file.split_at(RG_BYTES);
+    let (si, rest) = rest.split_at(SI_BYTES);
+    let (pgs, _) = rest.as_chunks::<PG_BYTES>();
+    record_fits(rg, Record::Rg)
+        && record_fits(si, Record::Si)
+        && (0..PAGES).zip(pgs).all(|(page, pg)| record_fits(pg, Record::Pg)
+            && body_of(pg).starts_with(&page.to_be_bytes()))
 }
 
 // RG's body stands at places 2 to 15.
@@ -1427,26 +1363,23 @@ fn idle_chip(head: Head) -> Flat {
 
 // Not "a wrong mark, sum, page number, code, .. or register that breaks the well-formed rules". W-204: bit 7 "now holds" the
 // part, so no flag bit is wrong.
-fn file_fits(file: &[u8]) -> bool {
+fn file_fits(file: &[u8]) -> bool
+    requires { length file.now ≡ 2148374 }
+{
     // the code and the registers: all else of an idle chip is well-formed
     records_fit(file) && well_formed(idle_chip(head_in(file)))
 }
 
-// A byte of the file goes to the Security ID, to the array, or to neither.
-fn store_byte(at: Spot, value: u8, array: &mut [u8], security: &mut [u8]) {
-    if at.part != Part::Body {
-        return;
-    }
-    match at.record {
-        Record::Si => put(security, at.index, value),
-        Record::Pg(page) if 2 <= at.index => put(array, page_place(page, at.index - 2), value),
-        _ => {}
-    }
-}
-
-fn store_bytes(file: &[u8], array: &mut [u8], security: &mut [u8]) {
-    for (place, &value) in file.iter().enumerate() {
-        store_byte(spot_at(place), value, array, security);
+// SI's body goes to the Security ID, and a PG's after its number to its page of the array.
+fn store_records(file: &[u8], array: &mut [u8], security: &mut [u8])
+    requires { length file.now ≡ 2148374 }
+{
+    let (_, rest) = file.split_at(RG_BYTES);
+    let (si, rest) = rest.split_at(SI_BYTES);
+    let (pgs, _) = rest.as_chunks::<PG_BYTES>();
+    store(security, body_of(si));
+    for (page, pg) in array.chunks_mut(256).zip(pgs) {
+        store(page, &body_of(pg)[2..]);
     }
 }
 
@@ -1464,7 +1397,7 @@ pub fn image_write(f: Flat, array: &[u8], security: &[u8], file: &mut [u8]) -> u
     if running_work(f).is_some() || suspended_work(f).is_some() {
         return Refusal::ChipBusy as u8;
     }
-    write_bytes(head_of(f), array, security, file);
+    write_records(head_of(f), array, security, file);
     0
 }
 
@@ -1481,7 +1414,7 @@ pub fn image_read(f: Flat, file: &[u8], array: &mut [u8], security: &mut [u8]) -
     if !file_fits(file) {
         return refused(Refusal::BadFile, f);
     }
-    store_bytes(file, array, security);
+    store_records(file, array, security);
     let next = idle_chip(head_in(file));
     done(next)
 }
