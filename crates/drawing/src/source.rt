@@ -68,8 +68,10 @@ struct Index {
 impl Index {
     // A form that is drawn so often, behind the n that are there.
     fn enter(&mut self, n: usize, letter: u8, often: usize, place: usize) {
-        for p in self.places.iter_mut().skip(n).take(often) {
-            *p = place;
+        if let Some(free) = self.places.get_mut(n..) {
+            for p in free.iter_mut().take(often) {
+                *p = place;
+            }
         }
         let of_letter = &mut self.letters[usize::from(letter)];
         if of_letter.count == 0 {

@@ -77,12 +77,21 @@ impl Tally {
         }
     }
 
+    // The places behind the checklist's lines: from 90 on resets, from 100 on power cuts, by what they stop.
+    fn count_numbered(&mut self, number: usize) {
+        match number {
+            90..=98 => bump(&mut self.resets, number - 90),
+            100..=108 => bump(&mut self.cuts, number - 100),
+            _ => bump(&mut self.lines, number),
+        }
+    }
+
     // The checklist's line that a case names, in front of its remark.
     pub fn count_case(&mut self, l: Line, remark: &[u8]) {
         let mut number: usize = 0;
         for b in front(l.remark, remark).iter().skip(1) {
             if !b.is_ascii_digit() {
-                bump(&mut self.lines, number);
+                self.count_numbered(number);
                 return;
             }
             number = number % 1000 * 10 + usize::from(*b % 16);
