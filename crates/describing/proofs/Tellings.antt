@@ -9,6 +9,17 @@ use Rattle.rules.specs.declared.Work.{Work}
 use Rattle.rules.specs.declared.Work.TheVariants.{Nothing, EraseSector, EraseBlock, EraseArray, ProgramPage, ProgramSecurity, LockSecurity, WriteConfiguration, AddPermanent}
 use Rattle.describing.specs.Works.{told}
 
+pub told_kind : (w : Work) → (told w).kind ≤ 8
+told_kind Nothing = omega arith
+told_kind (EraseSector n) = omega arith
+told_kind (EraseBlock n) = omega arith
+told_kind EraseArray = omega arith
+told_kind (ProgramPage n) = omega arith
+told_kind (ProgramSecurity n) = omega arith
+told_kind LockSecurity = omega arith
+told_kind (WriteConfiguration ioc wpen) = omega arith
+told_kind (AddPermanent bits) = omega arith
+
 -- a flag that is told as a number
 pub told_security : (w : Work) → num (eqb (told w).security 1) ≡ (told w).security
 told_security Nothing = refl

@@ -19,13 +19,13 @@ one_step s p q h t =
     let e : 256 - h ≡ suc (256 - (h + 1)) = omega arith in
     ap (λ (k : ℕ). run_end k s p q h) e
 
-run_on : (s p q h : ℕ) → h < 256 → eqb (lock_state h p q) s ≡ true → run_end (256 - h) s p q h ≡ run_end (256 - (h + 1)) s p q (h + 1)
+pub run_on : (s p q h : ℕ) → h < 256 → eqb (lock_state h p q) s ≡ true → run_end (256 - h) s p q h ≡ run_end (256 - (h + 1)) s p q (h + 1)
 run_on s p q h t e = one_step s p q h t ∙ sym (yes _ _ e refl)
 
-run_over : (s p q h : ℕ) → h < 256 → eqb (lock_state h p q) s ≡ false → run_end (256 - h) s p q h ≡ h
+pub run_over : (s p q h : ℕ) → h < 256 → eqb (lock_state h p q) s ≡ false → run_end (256 - h) s p q h ≡ h
 run_over s p q h t e = one_step s p q h t ∙ sym (no _ _ e refl)
 
-run_whole : (s p q h : ℕ) → 256 ≤ h → run_end (256 - h) s p q h ≡ h
+pub run_whole : (s p q h : ℕ) → 256 ≤ h → run_end (256 - h) s p q h ≡ h
 unfolding run_end
 run_whole s p q h t = let e : 256 - h ≡ 0 = omega arith in ap (λ (k : ℕ). run_end k s p q h) e
 
